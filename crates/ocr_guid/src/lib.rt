@@ -1,0 +1,80 @@
+//! The names, kinds and codes of objects.
+#![tactic(auto)]
+
+ghost use Rattle.std.specs.Prelude.{◌≡◌};
+ghost use Rattle.ocr_guid.specs.Code.{number_of};
+
+pub mod target;
+
+use std::marker::Model;
+
+/// The name of an object: a number from 1, in the order in which the names were drawn.
+/// 0 names nothing, and 2^64 - 1 is no object yet.
+#[derive(Clone, Copy, PartialEq, Eq, PartialOrd, Ord, Debug)]
+pub struct Guid(pub u64);
+
+// Contracts see a name as its number.
+impl Model for Guid {
+    ghost use Rattle.std.specs.Prelude.{ℕ};
+
+    ghost Value = { ℕ };
+
+    ghost view = { λ g. g.0 };
+
+    ghost inverse = { λ n. record { 0 = n } };
+}
+
+impl Guid {
+    /// NULL_GUID.
+    pub const NULL: Guid = Guid(0);
+
+    /// UNINITIALIZED_GUID.
+    pub const UNINIT: Guid = Guid(u64::MAX);
+}
+
+/// What an object is.
+#[derive(Clone, Copy, PartialEq, Eq, Debug)]
+pub enum Kind {
+    Edt,
+    Event,
+    Block,
+    Template,
+    Scope,
+}
+
+/// What a call answers.
+#[derive(Clone, Copy, PartialEq, Eq, Debug)]
+pub enum Code {
+    /// The call was done.
+    Done,
+    /// The call is not permitted in the object's state.
+    Eperm,
+    /// An argument names no made object of the kind that is wanted.
+    Enoent,
+    /// A channel is full.
+    Ebusy,
+    /// A number, kind, flag or payload is not allowed here.
+    Einval,
+    /// An object was destroyed.
+    Stale,
+}
+
+impl Code {
+    /// The number that a body sees: 0, 1, 2, 16, 22 or 200.
+    pub fn number(self) -> u64
+        ensures { result ≡ number_of self }
+    {
+        match self {
+            Code::Done => 0,
+            Code::Eperm => 1,
+            Code::Enoent => 2,
+            Code::Ebusy => 16,
+            Code::Einval => 22,
+            Code::Stale => 200,
+        }
+    }
+}
+
+/// Memory was refused.
+#[derive(Clone, Copy, PartialEq, Eq, Debug)]
+pub struct NoMemory;
