@@ -1,0 +1,4 @@
+pub mod Counts
+pub mod Source
+pub mod MemorySource
+pub mod MemorySink

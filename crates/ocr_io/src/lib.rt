@@ -1,0 +1,18 @@
+//! Where bytes come from and where they go, each with a count of its faults.
+#![tactic(auto)]
+
+mod adapters;
+mod memory_sink;
+mod memory_source;
+mod sink;
+mod source;
+
+pub use adapters::{StderrSink, StdinSource, StdoutSink};
+pub use memory_sink::MemorySink;
+pub use memory_source::MemorySource;
+pub use sink::{Sink, WriteStop, write_all};
+pub use source::{ReadStop, Source, read_all};
+
+/// A read or a write failed.
+#[derive(Clone, Copy, PartialEq, Eq, Debug)]
+pub struct Failed;
