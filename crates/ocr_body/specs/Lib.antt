@@ -1,3 +1,9 @@
+pub mod Behaviour
+pub mod Checked
 pub mod Constant
+pub mod FirstForm
+pub mod Local
+pub mod Meaning
+pub mod Serving
 pub mod Tree
 pub mod View

@@ -1,10 +1,18 @@
 //! Task programs: their trees, their calls, and the walker that runs a body.
 #![tactic(auto)]
 
+mod api;
 mod call;
+mod checked;
+mod first_form;
 mod tree;
+mod walker;
 
+pub use api::Api;
 pub use call::{Answer, BodyStop, Call};
+pub use checked::Checked;
+pub use first_form::first_form_laws;
 pub use tree::{
     BinaryOp, CallName, Constant, Expr, Function, Invoke, Name, Program, Stmt, UnaryOp,
 };
+pub use walker::walk;

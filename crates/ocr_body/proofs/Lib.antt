@@ -1,0 +1,4 @@
+pub mod Functions
+pub mod Plain
+pub mod Stopped
+pub mod Steps
