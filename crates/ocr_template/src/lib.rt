@@ -1,0 +1,89 @@
+//! Templates of EDTs, and the counts that a creation gets from one.
+#![tactic(auto)]
+
+ghost use Rattle.std.specs.Prelude.{◌≡◌, ◌⊎◌, ◌↔◌, SomeIff, false};
+ghost use Rattle.ocr_template.specs.Template.{meant, IsRefused, is_refused, counts_of};
+
+use ocr_guid::Code;
+
+/// The count that a template leaves open.
+pub const EDT_PARAM_UNK: u64 = 4_294_967_295;
+
+/// The count by which a creation asks for the template's own.
+pub const EDT_PARAM_DEF: u64 = 4_294_967_294;
+
+/// How many parameters an EDT has at most.
+pub const MOST_PARAMETERS: u32 = 16;
+
+/// How many dependences an EDT has at most.
+pub const MOST_DEPENDENCES: u32 = 32;
+
+/// What the EDTs that are made from it have in common: their function, and their counts of parameters and
+/// dependences, each open where it is `EDT_PARAM_UNK`. A template is destroyed where an accepted destruction names it.
+#[derive(Clone, Copy, PartialEq, Eq, Debug)]
+pub struct Template {
+    pub function: u32,
+    pub paramc: u64,
+    pub depc: u64,
+    pub destroyed: bool,
+}
+
+/// How many parameters and dependences an EDT gets that is made from the template with these counts: each count is
+/// the template's where `EDT_PARAM_DEF` is given, else the given one. EINVAL exactly where the default is asked for a
+/// count that the template leaves open, a count is given that differs from the template's, or one is above its limit.
+pub fn counts(template: &Template, paramc: u64, depc: u64) -> Result<(u32, u32), Code>
+    ensures answer { result ≡ counts_of template.now paramc depc }
+    ensures refused { (result ≡ Err Code.Einval)
+        ↔ (IsRefused template.now.paramc paramc MOST_PARAMETERS ⊎ IsRefused template.now.depc depc MOST_DEPENDENCES) }
+{
+    match (
+        count(template.paramc, paramc, MOST_PARAMETERS),
+        count(template.depc, depc, MOST_DEPENDENCES),
+    ) {
+        (Some(paramc), Some(depc)) => Ok((paramc, depc)),
+        _ => Err(Code::Einval),
+    }
+}
+
+// One of the two counts, where it is not refused.
+fn count(own: u64, given: u64, most: u32) -> Option<u32>
+    ensures { SomeIff result (is_refused own given most ≡ false) (meant own given) }
+{
+    let is_default = given == EDT_PARAM_DEF;
+    let is_open = own == EDT_PARAM_UNK;
+    if is_default && is_open {
+        return None;
+    }
+    if !is_default && !is_open && given != own {
+        return None;
+    }
+    let meant = if is_default { own } else { given };
+    if meant > u64::from(most) {
+        return None;
+    }
+    Some(meant as u32)
+}
+
+#[cfg(test)]
+mod tests {
+    use super::*;
+    use ocr_guid::Code;
+    use std::test::Fail;
+
+    #[test]
+    fn counts_of_a_template(rt: HostRuntime) -> Result<(), Fail> {
+        let template = Template {
+            function: 3,
+            paramc: 1,
+            depc: EDT_PARAM_UNK,
+            destroyed: false,
+        };
+        assert_eq!(rt; counts(&template, EDT_PARAM_DEF, 3), Ok((1, 3)));
+        assert_eq!(rt;
+            counts(&template, EDT_PARAM_DEF, EDT_PARAM_DEF),
+            Err(Code::Einval)
+        );
+        assert_eq!(rt; counts(&template, 2, 3), Err(Code::Einval));
+        Ok(())
+    }
+}
