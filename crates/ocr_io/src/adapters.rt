@@ -16,7 +16,12 @@ pub struct StdinSource<R: Read> {
 }
 
 impl<R: Read> StdinSource<R> {
-    pub fn new(reader: R) -> Self {
+    /// A source over a reader, with its counts at 0.
+    pub fn new(reader: R) -> Self
+        ensures left { ⟦<StdinSource<R> as Source>⟧.left result ≡ R.remaining reader }
+        ensures given { ⟦<StdinSource<R> as Source>⟧.given result ≡ 0 }
+        ensures failures { ⟦<StdinSource<R> as Source>⟧.failures result ≡ 0 }
+    {
         StdinSource {
             reader,
             given: 0,
@@ -58,7 +63,11 @@ pub struct StdoutSink<W: Write> {
 }
 
 impl<W: Write> StdoutSink<W> {
-    pub fn new(writer: W) -> Self {
+    /// A sink over a writer, with its count at 0.
+    pub fn new(writer: W) -> Self
+        ensures taken { ⟦<StdoutSink<W> as Sink>⟧.taken result ≡ W.contents writer }
+        ensures failures { ⟦<StdoutSink<W> as Sink>⟧.failures result ≡ 0 }
+    {
         StdoutSink { writer, faults: 0 }
     }
 }
@@ -91,7 +100,11 @@ pub struct StderrSink<W: Write> {
 }
 
 impl<W: Write> StderrSink<W> {
-    pub fn new(writer: W) -> Self {
+    /// A sink over a writer, with its count at 0.
+    pub fn new(writer: W) -> Self
+        ensures taken { ⟦<StderrSink<W> as Sink>⟧.taken result ≡ W.contents writer }
+        ensures failures { ⟦<StderrSink<W> as Sink>⟧.failures result ≡ 0 }
+    {
         StderrSink { writer, faults: 0 }
     }
 }

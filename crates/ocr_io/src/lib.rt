@@ -16,3 +16,6 @@ pub use source::{ReadStop, Source, read_all};
 /// A read or a write failed.
 #[derive(Clone, Copy, PartialEq, Eq, Debug)]
 pub struct Failed;
+
+#[cfg(test)]
+mod tests;

@@ -60,6 +60,8 @@ pub fn read_all<S: Source>(alloc: Global, source: &mut S, most: usize) -> Result
         → Took (S.left source.old) (S.left source.new) (S.given source.old) (S.given source.new) (most + 1) }
     ensures stopped { IfErr result (λ stop. (stop ≡ ReadStop.TooBig → ⊥) → (n : ℕ) × (n ≤ most)
         × Took (S.left source.old) (S.left source.new) (S.given source.old) (S.given source.new) n) }
+    ensures exactly { S.given source.old + (most + 1) < 2 ^ 64
+        → ((result ≡ Err ReadStop.TooBig) ↔ (S.given source.new ≡ S.given source.old + (most + 1))) }
     ensures failed { IsErrOf result ReadStop.Failed → Rose (S.failures source.old) (S.failures source.new) }
     ensures later { S.failures source.old ≤ S.failures source.new }
 {
