@@ -1,1 +1,7 @@
 pub mod Sharing
+pub mod Members
+pub mod Rising
+pub mod Ranks
+pub mod Laws
+pub mod Sorting
+pub mod Order

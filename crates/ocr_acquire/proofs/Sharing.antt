@@ -1,5 +1,5 @@
 -- What the test over all holders tells.
-use Rattle.std.proofs.Common.{◌≡◌, ℕ, List, Bool, true, refl, IsTrue}
+use Rattle.std.proofs.Common.{ℕ, List, refl, IsTrue}
 use Rattle.std.specs.Bool.{Decides}
 use Rattle.std.specs.List.{All}
 use Rattle.std.proofs.lemmas.Bool.Decides.{Decides-by_and}

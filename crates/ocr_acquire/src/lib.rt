@@ -1,11 +1,15 @@
 //! The modes in which data blocks are held, and what an EDT acquires before it starts.
 #![tactic(auto)]
 
-ghost use Rattle.std.specs.Prelude.{◌≡◌, ◌≤◌, ◌↔◌, IsTrue, IsSome, IfSome};
-ghost use Rattle.std.specs.List.{All};
+ghost use Rattle.std.specs.Prelude.{◌≡◌, ◌≤◌, ◌↔◌, ◌∷◌, ◌++◌, IsTrue, IsSome, IfSome, IfOk};
+ghost use Rattle.std.specs.List.{All, filter};
+ghost use Rattle.ocr_acquire.specs.Plan.{plan_of, IsPlan, asks, last_of_each, PlanLaw, OnlyPlanLaw, GivenLaw, LengthLaw};
 ghost use Rattle.ocr_acquire.specs.Mode.{rank_of, mode_of, together, fits_all, NumberLaw, OrderLaw, SharingLaw, AloneLaw};
 
-use ocr_guid::Guid;
+use ocr_guid::{Guid, NoMemory};
+use smallvec::SmallVec;
+use std::alloc::Global;
+use std::marker::Model;
 
 /// How an EDT uses a data block: from the weakest mode to the strongest.
 #[derive(Clone, Copy, PartialEq, Eq, PartialOrd, Ord, Debug)]
@@ -66,6 +70,85 @@ pub fn fits(mode: Mode, holders: &[(Guid, Mode)]) -> bool
     true
 }
 
+/// A block, and the mode in which an EDT acquires it.
+#[derive(Clone, Copy, PartialEq, Eq, PartialOrd, Ord, Debug)]
+pub struct Want {
+    pub block: Guid,
+    pub mode: Mode,
+}
+
+// Contracts see the pair.
+impl Model for Want {
+    ghost use Rattle.std.specs.Prelude.{ℕ};
+    ghost use Rattle.ocr_acquire.specs.declared.Mode.{Mode};
+
+    ghost Value = { ℕ × Mode };
+
+    ghost view = { λ w. (w.block, w.mode) };
+
+    ghost inverse = { λ pair. record { block = pair.0; mode = pair.1 } };
+}
+
+impl Default for Want {
+    fn default() -> Want {
+        Want {
+            block: Guid::NULL,
+            mode: Mode::Null,
+        }
+    }
+}
+
+/// What an EDT acquires for the payloads and modes of its slots: the distinct blocks other than
+/// NULL_GUID whose strongest mode is not `Null`, rising, each in its strongest mode.
+pub fn plan(alloc: Global, slots: &[(Guid, Mode)]) -> Result<SmallVec<Want, 8>, NoMemory>
+    ensures value { IfOk result (λ plan. plan.items ≡ plan_of slots.now) }
+    ensures wanted { IfOk result (λ plan. IsPlan slots.now plan.items) }
+{
+    let mut entries = asked(alloc, slots)?;
+    entries.sort_unstable();
+    strongest(alloc, entries.as_slice())
+}
+
+/// The slots that ask for a block.
+fn asked(alloc: Global, slots: &[(Guid, Mode)]) -> Result<SmallVec<Want, 8>, NoMemory>
+    ensures { IfOk result (λ entries. entries.items ≡ filter asks slots.now) }
+{
+    let mut entries = SmallVec::new(alloc);
+    for (block, mode) in slots {
+        if *block == Guid::NULL || *mode == Mode::Null {
+            continue;
+        }
+        let want = Want {
+            block: *block,
+            mode: *mode,
+        };
+        if entries.push(want).is_err() {
+            return Err(NoMemory);
+        }
+    }
+    Ok(entries)
+}
+
+/// Of sorted entries the last of each block, which has its strongest mode.
+fn strongest(alloc: Global, entries: &[Want]) -> Result<SmallVec<Want, 8>, NoMemory>
+    ensures { IfOk result (λ plan. plan.items ≡ last_of_each entries.now) }
+{
+    let mut plan = SmallVec::new(alloc);
+    for i in 0..entries.len() {
+        let entry = entries[i];
+        if i + 1 < entries.len() {
+            let next = entries[i + 1];
+            if next.block == entry.block {
+                continue;
+            }
+        }
+        if plan.push(entry).is_err() {
+            return Err(NoMemory);
+        }
+    }
+    Ok(plan)
+}
+
 /// What is told of the modes: their numbers, their order, and who may share a block.
 pub fn mode_laws()
     ensures number { NumberLaw }
@@ -73,3 +156,41 @@ pub fn mode_laws()
     ensures sharing { SharingLaw }
     ensures alone { AloneLaw }
 {}
+
+/// Slots have one plan, which is a function of them.
+pub fn plan_laws()
+    ensures plan { PlanLaw }
+    ensures only { OnlyPlanLaw }
+    ensures given { GivenLaw }
+    ensures length { LengthLaw }
+{}
+
+#[cfg(test)]
+mod tests {
+    use super::*;
+    use std::test::Fail;
+
+    #[test]
+    fn the_strongest_mode_of_each_block_is_planned(rt: HostRuntime) -> Result<(), Fail> {
+        let slots = [
+            (Guid(7), Mode::Rw),
+            (Guid(3), Mode::Const),
+            (Guid(7), Mode::Ew),
+            (Guid(0), Mode::Rw),
+            (Guid(9), Mode::Null),
+        ];
+        let plan = plan(rt.alloc(), &slots)?;
+        let wanted = [
+            Want {
+                block: Guid(3),
+                mode: Mode::Const,
+            },
+            Want {
+                block: Guid(7),
+                mode: Mode::Ew,
+            },
+        ];
+        assert_eq!(rt; plan.as_slice(), wanted.as_slice());
+        Ok(())
+    }
+}
