@@ -1,0 +1,38 @@
+use Rattle.std.proofs.Common.{inl, inr, refl, subst}
+use Rattle.ocr_body.specs.Checked.{checked_tree}
+use Rattle.ocr_body.specs.declared.checked.Checked.{Checked}
+use Rattle.ocr_machine.specs.History.{history_of}
+use Rattle.ocr_machine.specs.Edts.{says_next}
+use Rattle.ocr_run.specs.UnderWay.{setting_of, IsUnderWay}
+use Rattle.ocr_run.proofs.Steps.{next_plain, plain_stop, plain_shutdown, ending_open, open_of}
+use Rattle.ocr_run.proofs.worker.run.Goals as goal
+
+pub returns-in-Err-clause-run : goal.returns-in-Err-clause-run
+returns-in-Err-clause-run c =
+    let s = setting_of (checked_tree c.args.program.now) in c.stopped.ensures.memory s refl (c.in-Err.ensures.err s)
+
+pub walk-ending-requires-clause-ready : goal.walk-ending-requires-clause-ready
+walk-ending-requires-clause-ready c = (c.requires, c.in_default.ensures.ok (setting_of (checked_tree c.args.program.now)))
+
+pub returns-in-Err-end-clause-run : goal.returns-in-Err-end-clause-run
+returns-in-Err-end-clause-run c =
+    let s = setting_of (checked_tree c.args.program.now) in
+    let under_way : IsUnderWay s (history_of c.walk-ending.new.api.log.entries.items) =
+    subst (λ (p : Checked). IsUnderWay (setting_of (checked_tree p)) (history_of c.walk-ending.new.api.log.entries.items)) c.in-Ok.ensures.kept c.in-Ok.ensures.ready.1 in
+    c.stopped-in-Err-end.ensures.memory s refl (ending_open s (history_of c.walk-ending.new.api.log.entries.items) _ c.in-Ok.returned under_way c.in-Ok.ensures.ok c.in-Err-end.ensures.err)
+
+pub stopped-requires-in-Err-ending : goal.stopped-requires-in-Err-ending
+stopped-requires-in-Err-ending c =
+    plain_stop _ c.in-Err-ending.stop (next_plain (checked_tree c.args.program.now) (history_of c.walk-ending.new.api.log.entries.items) c.requires) c.in-Err-ending.ensures.err
+
+pub returns-in-Err-ending-clause-run : goal.returns-in-Err-ending-clause-run
+returns-in-Err-ending-clause-run c =
+    let s = setting_of (checked_tree c.args.program.now) in
+    let past = history_of c.walk-ending.new.api.log.entries.items in
+    let under_way : IsUnderWay s past =
+    subst (λ (p : Checked). IsUnderWay (setting_of (checked_tree p)) past) c.in-Err-ending.ensures.kept c.in-Err-ending.ensures.ready.1 in
+    let plain = next_plain (checked_tree c.args.program.now) past c.requires in
+    elim (plain_stop (says_next s past 2) c.in-Err-ending.stop plain c.in-Err-ending.ensures.err) [
+      | inl memory ↦ c.stopped-in-Err-ending.ensures.memory s memory (open_of s past under_way)
+      | inr shut ↦ c.stopped-in-Err-ending.ensures.shutdown s shut under_way (plain_shutdown (says_next s past 2) c.in-Err-ending.stop plain c.in-Err-ending.ensures.err shut)
+    ]
