@@ -1,0 +1,277 @@
+-- Who holds a block and who waits for it, from call to call.
+use Rattle.std.proofs.Common.{◌≡◌, ◌≢◌, ℕ, List, [], ◌∷◌, ◌++◌, Bool, true, false, ◌&&◌, not, ◌==◌, if◌then◌else◌, Some, None, is_some, arith, refl, rules, sym, ◌∙◌, ap, subst, append_assoc}
+use Rattle.std.proofs.lemmas.Grind.{common_steps}
+use Rattle.std.proofs.lemmas.Bool.{and_parts, and_from, cond_both}
+use Rattle.std.proofs.lemmas.Bool.Decides.{nat_tests}
+use Rattle.std.proofs.lemmas.List.{append-nil}
+use Rattle.ocr_acquire.specs.declared.Mode.{Mode}
+use Rattle.ocr_acquire.specs.declared.Mode.TheVariants as mode
+use Rattle.ocr_acquire.specs.Mode.{together, fits_all}
+use Rattle.ocr_datablock.specs.Block.{Line, is_empty, names, mode_in, without, front_that_fits, rest_that_waits, gone, can_grant, joined, left_by, leavers, passed_on, GoTogether, StandOnce}
+
+-- THE ORDER OF THE QUEUE.
+pub queue_splits : (holders queue : List (ℕ × Mode)) → queue ≡ front_that_fits holders queue ++ rest_that_waits holders queue
+queue_splits holders [] = refl
+queue_splits holders (one ∷ rest) = elim (fits_all one.1 holders) as (λ b. one ∷ rest ≡ (if b then one ∷ front_that_fits (holders ++ one ∷ []) rest else []) ++ (if b then rest_that_waits (holders ++ one ∷ []) rest else one ∷ rest)) [
+  | true ↦ ap (λ (tail : List (ℕ × Mode)). one ∷ tail) (queue_splits (holders ++ one ∷ []) rest)
+  | false ↦ refl
+]
+
+pub line_splits : (destroyed : Bool) (line : Line) → line.queue ≡ leavers destroyed line ++ (passed_on destroyed line).queue
+line_splits false line = queue_splits line.holders line.queue
+line_splits true line = elim (is_empty line.holders) as (λ b. line.queue ≡ (if b then line.queue else []) ++ (if b then record { holders = line.holders; queue = [] } else line).queue) [
+  | true ↦ sym (append-nil line.queue)
+  | false ↦ refl
+]
+
+names-append : (first second : List (ℕ × Mode)) → names (first ++ second) ≡ names first ++ names second
+names-append [] second = refl
+names-append (one ∷ rest) second = ap (λ (tail : List ℕ). one.0 ∷ tail) (names-append rest second)
+
+pub names_split : (destroyed : Bool) (line : Line) → names line.queue ≡ names (leavers destroyed line) ++ names (passed_on destroyed line).queue
+names_split destroyed line = ap names (line_splits destroyed line) ∙ names-append (leavers destroyed line) (passed_on destroyed line).queue
+
+-- WHO HOLDS A BLOCK GOES TOGETHER.
+together_flips : (one other : Mode) → together one other ≡ together other one
+together_flips mode.Null other = elim other as (λ m. together mode.Null m ≡ together m mode.Null) [ mode.Null ↦ refl | mode.Ro ↦ refl | mode.Const ↦ refl | mode.Rw ↦ refl | mode.Ew ↦ refl ]
+together_flips mode.Ro other = elim other as (λ m. together mode.Ro m ≡ together m mode.Ro) [ mode.Null ↦ refl | mode.Ro ↦ refl | mode.Const ↦ refl | mode.Rw ↦ refl | mode.Ew ↦ refl ]
+together_flips mode.Const other = elim other as (λ m. together mode.Const m ≡ together m mode.Const) [ mode.Null ↦ refl | mode.Ro ↦ refl | mode.Const ↦ refl | mode.Rw ↦ refl | mode.Ew ↦ refl ]
+together_flips mode.Rw other = elim other as (λ m. together mode.Rw m ≡ together m mode.Rw) [ mode.Null ↦ refl | mode.Ro ↦ refl | mode.Const ↦ refl | mode.Rw ↦ refl | mode.Ew ↦ refl ]
+together_flips mode.Ew other = elim other as (λ m. together mode.Ew m ≡ together m mode.Ew) [ mode.Null ↦ refl | mode.Ro ↦ refl | mode.Const ↦ refl | mode.Rw ↦ refl | mode.Ew ↦ refl ]
+
+pub never_with_writer : (m : Mode) → together m mode.Ew ≡ false
+never_with_writer mode.Null = refl
+never_with_writer mode.Ro = refl
+never_with_writer mode.Const = refl
+never_with_writer mode.Rw = refl
+never_with_writer mode.Ew = refl
+
+pub writer_with_none : (m : Mode) → together mode.Ew m ≡ false
+writer_with_none m = together_flips mode.Ew m ∙ never_with_writer m
+
+fits_push : (m : Mode) (holders : List (ℕ × Mode)) (one : ℕ × Mode) → fits_all m holders ≡ true → together m one.1 ≡ true → fits_all m (holders ++ one ∷ []) ≡ true
+fits_push m [] one all last = rw last refl
+fits_push m (first ∷ rest) one all last =
+    let parts = and_parts (together m first.1) (fits_all m rest) all in
+    and_from _ _ parts.0 (fits_push m rest one parts.1 last)
+
+together_push : (holders : List (ℕ × Mode)) (one : ℕ × Mode) → GoTogether holders → fits_all one.1 holders ≡ true → GoTogether (holders ++ one ∷ [])
+together_push [] one all fits = (refl, tt)
+together_push (first ∷ rest) one all fits =
+    let parts = and_parts (together one.1 first.1) (fits_all one.1 rest) fits in
+    (fits_push first.1 rest one all.0 (together_flips first.1 one.1 ∙ parts.0), together_push rest one all.1 parts.1)
+
+together_front : (holders queue : List (ℕ × Mode)) → GoTogether holders → GoTogether (holders ++ front_that_fits holders queue)
+together_front holders [] all = subst GoTogether (sym (append-nil holders)) all
+together_front holders (one ∷ rest) all =
+    cond_both (fits_all one.1 holders) (one ∷ front_that_fits (holders ++ one ∷ []) rest) [] (λ (front : List (ℕ × Mode)). GoTogether (holders ++ front))
+    (λ fits. subst GoTogether (append_assoc holders (one ∷ []) (front_that_fits (holders ++ one ∷ []) rest))
+    (together_front (holders ++ one ∷ []) rest (together_push holders one all fits)))
+    (λ _. subst GoTogether (sym (append-nil holders)) all)
+
+fits_without : (m : Mode) (t : ℕ) (holders : List (ℕ × Mode)) → fits_all m holders ≡ true → fits_all m (without t holders) ≡ true
+fits_without m t [] all = refl
+fits_without m t (first ∷ rest) all =
+    let parts = and_parts (together m first.1) (fits_all m rest) all in
+    cond_both (first.0 == t) (without t rest) (first ∷ without t rest) (λ (kept : List (ℕ × Mode)). fits_all m kept ≡ true)
+    (λ _. fits_without m t rest parts.1)
+    (λ _. and_from _ _ parts.0 (fits_without m t rest parts.1))
+
+together_without : (t : ℕ) (holders : List (ℕ × Mode)) → GoTogether holders → GoTogether (without t holders)
+together_without t [] all = tt
+together_without t (first ∷ rest) all =
+    cond_both (first.0 == t) (without t rest) (first ∷ without t rest) GoTogether
+    (λ _. together_without t rest all.1)
+    (λ _. (fits_without first.1 t rest all.0, together_without t rest all.1))
+
+pub together_joined : (destroyed : Bool) (line : Line) (t : ℕ) (m : Mode) → GoTogether line.holders → GoTogether (joined destroyed line t m).holders
+together_joined destroyed line t m all =
+    cond_both (gone destroyed line) line _ (λ (after : Line). GoTogether after.holders)
+    (λ _. all)
+    (λ _. cond_both (can_grant destroyed line m) (record { holders = line.holders ++ (t, m) ∷ []; queue = line.queue }) (record { holders = line.holders; queue = line.queue ++ (t, m) ∷ [] }) (λ (after : Line). GoTogether after.holders)
+    (λ can. together_push line.holders (t, m) all (and_parts _ _ (and_parts _ _ can).1).1)
+    (λ _. all))
+
+pub together_passed : (destroyed : Bool) (line : Line) → GoTogether line.holders → GoTogether (passed_on destroyed line).holders
+together_passed false line all = together_front line.holders line.queue all
+together_passed true line all =
+    cond_both (is_empty line.holders) (record { holders = line.holders; queue = [] }) line (λ (after : Line). GoTogether after.holders) (λ _. all) (λ _. all)
+
+pub together_left : (t : ℕ) (line : Line) → GoTogether line.holders → GoTogether (left_by t line).holders
+together_left t line all = together_without t line.holders all
+
+-- WHO WAITS HAS A REASON.
+abbrev pub IsStuck : Bool → List (ℕ × Mode) → List (ℕ × Mode) → Type 0
+IsStuck destroyed holders [] = Unit {0}
+IsStuck destroyed holders (one ∷ rest) = (is_empty holders ≡ false) × (destroyed ≡ false → fits_all one.1 holders ≡ false)
+
+pub stuck_at : (destroyed : Bool) (holders queue : List (ℕ × Mode)) (one : ℕ × Mode) (rest : List (ℕ × Mode)) → IsStuck destroyed holders queue → queue ≡ one ∷ rest
+    → (is_empty holders ≡ false) × (destroyed ≡ false → fits_all one.1 holders ≡ false)
+stuck_at destroyed holders queue one rest stuck is = subst (λ (waiting : List (ℕ × Mode)). IsStuck destroyed holders waiting) is stuck
+
+not_empty : (m : Mode) (holders : List (ℕ × Mode)) → fits_all m holders ≡ false → is_empty holders ≡ false
+not_empty m [] is = cc
+not_empty m (one ∷ rest) is = refl
+
+stuck_rest : (holders queue : List (ℕ × Mode)) → IsStuck false (holders ++ front_that_fits holders queue) (rest_that_waits holders queue)
+stuck_rest holders [] = tt
+stuck_rest holders (one ∷ rest) =
+    elim (fits_all one.1 holders) as (λ b. fits_all one.1 holders ≡ b → IsStuck false (holders ++ (if b then one ∷ front_that_fits (holders ++ one ∷ []) rest else [])) (if b then rest_that_waits (holders ++ one ∷ []) rest else one ∷ rest)) [
+      | true ↦ λ _. subst (λ (all : List (ℕ × Mode)). IsStuck false all (rest_that_waits (holders ++ one ∷ []) rest)) (append_assoc holders (one ∷ []) (front_that_fits (holders ++ one ∷ []) rest)) (stuck_rest (holders ++ one ∷ []) rest)
+      | false ↦ λ is. subst (λ (all : List (ℕ × Mode)). IsStuck false all (one ∷ rest)) (sym (append-nil holders)) (not_empty one.1 holders is, λ _. is)
+    ] refl
+
+stuck_held : (holders queue : List (ℕ × Mode)) → is_empty holders ≡ false → IsStuck true holders queue
+stuck_held holders [] is = tt
+stuck_held holders (one ∷ rest) is = (is, λ h. cc)
+
+pub stuck_passed : (destroyed : Bool) (line : Line) → IsStuck destroyed (passed_on destroyed line).holders (passed_on destroyed line).queue
+stuck_passed false line = stuck_rest line.holders line.queue
+stuck_passed true line = elim (is_empty line.holders) as (λ b. is_empty line.holders ≡ b → IsStuck true (if b then record { holders = line.holders; queue = [] } else line).holders (if b then record { holders = line.holders; queue = [] } else line).queue) [
+  | true ↦ λ _. tt
+  | false ↦ λ is. stuck_held line.holders line.queue is
+] refl
+
+stuck_queued : (destroyed : Bool) (holders queue : List (ℕ × Mode)) (t : ℕ) (m : Mode) → (destroyed && is_empty holders) ≡ false
+    → (not destroyed && (is_empty queue && fits_all m holders)) ≡ false → IsStuck destroyed holders queue → IsStuck destroyed holders (queue ++ (t, m) ∷ [])
+stuck_queued true holders [] t m held refused stuck = (held, λ h. cc)
+stuck_queued false holders [] t m held refused stuck = (not_empty m holders refused, λ _. refused)
+stuck_queued destroyed holders (one ∷ rest) t m held refused stuck = stuck
+
+stuck_granted : (destroyed : Bool) (holders queue more : List (ℕ × Mode)) → is_empty queue ≡ true → IsStuck destroyed more queue
+stuck_granted destroyed holders [] more is = tt
+stuck_granted destroyed holders (one ∷ rest) more is = cc
+
+pub stuck_joined : (destroyed : Bool) (line : Line) (t : ℕ) (m : Mode) → IsStuck destroyed line.holders line.queue
+    → IsStuck destroyed (joined destroyed line t m).holders (joined destroyed line t m).queue
+stuck_joined destroyed line t m stuck =
+    cond_both (gone destroyed line) line _ (λ (after : Line). IsStuck destroyed after.holders after.queue)
+    (λ _. stuck)
+    (λ held. cond_both (can_grant destroyed line m) (record { holders = line.holders ++ (t, m) ∷ []; queue = line.queue }) (record { holders = line.holders; queue = line.queue ++ (t, m) ∷ [] }) (λ (after : Line). IsStuck destroyed after.holders after.queue)
+    (λ can. stuck_granted destroyed line.holders line.queue (line.holders ++ (t, m) ∷ []) (and_parts _ _ (and_parts _ _ can).1).0)
+    (λ refused. stuck_queued destroyed line.holders line.queue t m held refused stuck))
+
+-- A BLOCK THAT IS GONE.
+empty_is : (list : List (ℕ × Mode)) → is_empty list ≡ true → list ≡ []
+empty_is [] is = refl
+empty_is (one ∷ rest) is = cc
+
+empty_without : (t : ℕ) (list : List (ℕ × Mode)) → is_empty list ≡ true → is_empty (without t list) ≡ true
+empty_without t [] is = refl
+empty_without t (one ∷ rest) is = cc
+
+pub gone_joined : (destroyed : Bool) (line : Line) (t : ℕ) (m : Mode) → gone destroyed line ≡ true → gone destroyed (joined destroyed line t m) ≡ true
+gone_joined destroyed line t m is = rw is is
+
+pub gone_passed : (t : ℕ) (line : Line) → is_empty line.holders ≡ true → gone true (passed_on true (left_by t line)) ≡ true
+gone_passed t line is = let still : is_empty (without t line.holders) ≡ true = empty_without t line.holders is in rw still still
+
+pub gone_queue : (destroyed : Bool) (holders queue : List (ℕ × Mode)) → IsStuck destroyed holders queue → (destroyed && is_empty holders) ≡ true → queue ≡ []
+gone_queue destroyed holders [] stuck is = refl
+gone_queue destroyed holders (one ∷ rest) stuck is = let parts = and_parts destroyed (is_empty holders) is in absurd (grind (arith, common_steps, parts.1, stuck.0))
+
+-- NOBODY STANDS TWICE.
+none_push : (t : ℕ) (list : List (ℕ × Mode)) (one : ℕ × Mode) → mode_in t list ≡ None → (one.0 == t) ≡ false → mode_in t (list ++ one ∷ []) ≡ None
+none_push t [] one none apart = rw apart refl
+none_push t (first ∷ rest) one none apart = grind (arith, common_steps, none_push t rest one)
+
+none_both : (t : ℕ) (first second : List (ℕ × Mode)) → mode_in t first ≡ None → mode_in t second ≡ None → mode_in t (first ++ second) ≡ None
+none_both t [] second none none' = none'
+none_both t (one ∷ rest) second none none' = grind (arith, common_steps, none_both t rest second)
+
+once_push : (list : List (ℕ × Mode)) (t : ℕ) (m : Mode) → StandOnce list → mode_in t list ≡ None → StandOnce (list ++ (t, m) ∷ [])
+once_push [] t m once none = (refl, tt)
+once_push (first ∷ rest) t m once none =
+    let later : mode_in t rest ≡ None = grind (arith, common_steps) in
+    let apart : (t == first.0) ≡ false = grind (arith, common_steps, nat_tests) in
+    (none_push first.0 rest (t, m) once.0 apart, once_push rest t m once.1 later)
+
+none_without : (t u : ℕ) (list others : List (ℕ × Mode)) → mode_in u (list ++ others) ≡ None → mode_in u (without t list ++ others) ≡ None
+none_without t u [] others none = none
+none_without t u (first ∷ rest) others none = grind (arith, common_steps, none_without t u rest others)
+
+once_without : (t : ℕ) (list others : List (ℕ × Mode)) → StandOnce (list ++ others) → StandOnce (without t list ++ others)
+once_without t [] others once = once
+once_without t (first ∷ rest) others once =
+    cond_both (first.0 == t) (without t rest) (first ∷ without t rest) (λ (kept : List (ℕ × Mode)). StandOnce (kept ++ others))
+    (λ _. once_without t rest others once.1)
+    (λ _. (none_without t first.0 rest others once.0, once_without t rest others once.1))
+
+pub once_left : (t : ℕ) (line : Line) → StandOnce (line.holders ++ line.queue) → StandOnce ((left_by t line).holders ++ (left_by t line).queue)
+once_left t line once = once_without t line.holders line.queue once
+
+pub once_passed : (destroyed : Bool) (line : Line) → StandOnce (line.holders ++ line.queue) → StandOnce ((passed_on destroyed line).holders ++ (passed_on destroyed line).queue)
+once_passed false line once =
+    subst StandOnce (ap (λ (tail : List (ℕ × Mode)). line.holders ++ tail) (queue_splits line.holders line.queue)
+    ∙ sym (append_assoc line.holders (front_that_fits line.holders line.queue) (rest_that_waits line.holders line.queue))) once
+once_passed true line once = elim (is_empty line.holders) as (λ b. is_empty line.holders ≡ b → StandOnce ((if b then record { holders = line.holders; queue = [] } else line).holders ++ (if b then record { holders = line.holders; queue = [] } else line).queue)) [
+  | true ↦ λ is. subst (λ (list : List (ℕ × Mode)). StandOnce (list ++ [])) (sym (empty_is line.holders is)) tt
+  | false ↦ λ _. once
+] refl
+
+once_granted : (holders queue : List (ℕ × Mode)) (t : ℕ) (m : Mode) → is_empty queue ≡ true → StandOnce (holders ++ queue) → mode_in t holders ≡ None → StandOnce ((holders ++ (t, m) ∷ []) ++ queue)
+once_granted holders [] t m is once none =
+    subst StandOnce (sym (append-nil (holders ++ (t, m) ∷ []))) (once_push holders t m (subst StandOnce (append-nil holders) once) none)
+once_granted holders (one ∷ rest) t m is once none = cc
+
+pub once_joined : (destroyed : Bool) (line : Line) (t : ℕ) (m : Mode) → mode_in t line.holders ≡ None → mode_in t line.queue ≡ None
+    → StandOnce (line.holders ++ line.queue) → StandOnce ((joined destroyed line t m).holders ++ (joined destroyed line t m).queue)
+once_joined destroyed line t m holds waits once =
+    cond_both (gone destroyed line) line _ (λ (after : Line). StandOnce (after.holders ++ after.queue))
+    (λ _. once)
+    (λ held. cond_both (can_grant destroyed line m) (record { holders = line.holders ++ (t, m) ∷ []; queue = line.queue }) (record { holders = line.holders; queue = line.queue ++ (t, m) ∷ [] }) (λ (after : Line). StandOnce (after.holders ++ after.queue))
+    (λ can. once_granted line.holders line.queue t m (and_parts _ _ (and_parts _ _ can).1).0 once holds)
+    (λ refused. subst StandOnce (append_assoc line.holders line.queue ((t, m) ∷ [])) (once_push (line.holders ++ line.queue) t m once (none_both t line.holders line.queue holds waits))))
+
+-- ONE WHO WRITES ALONE.
+no_writer : (t : ℕ) (m : Mode) (holders : List (ℕ × Mode)) → fits_all m holders ≡ true → mode_in t holders ≢ Some mode.Ew
+no_writer t m [] fits is = cc
+no_writer t m (first ∷ rest) fits is =
+    let parts = and_parts (together m first.1) (fits_all m rest) fits in
+    elim (first.0 == t) as (λ b. (if b then Some first.1 else mode_in t rest) ≡ Some mode.Ew → ⊥) [
+      | true ↦ λ same. let writes : first.1 ≡ mode.Ew = cc in let no : together m first.1 ≡ false = rw writes (never_with_writer m) in cc
+      | false ↦ λ later. no_writer t m rest parts.1 later
+    ] is
+
+fits_writer : (holders : List (ℕ × Mode)) → fits_all mode.Ew holders ≡ true → holders ≡ []
+fits_writer [] fits = refl
+fits_writer (first ∷ rest) fits =
+    let parts = and_parts (together mode.Ew first.1) (fits_all mode.Ew rest) fits in
+    let no : together mode.Ew first.1 ≡ false = writer_with_none first.1 in
+    cc
+
+pub writer_alone : (t : ℕ) (holders : List (ℕ × Mode)) → GoTogether holders → mode_in t holders ≡ Some mode.Ew → holders ≡ (t, mode.Ew) ∷ []
+writer_alone t [] all is = cc
+writer_alone t (first ∷ rest) all is =
+    elim (first.0 == t) as (λ b. (first.0 == t) ≡ b → (if b then Some first.1 else mode_in t rest) ≡ Some mode.Ew → first ∷ rest ≡ (t, mode.Ew) ∷ []) [
+      | true ↦ λ here same.
+          let who : first.0 ≡ t = search rules in
+          let writes : first.1 ≡ mode.Ew = cc in
+          let others : rest ≡ [] = fits_writer rest (rw (← writes) all.0) in
+          let pair : first ≡ (t, mode.Ew) = λ i. (who i, writes i) in
+          cc
+      | false ↦ λ apart later. absurd (no_writer t first.1 rest all.0 later)
+    ] refl is
+
+pub alone_joined : (destroyed : Bool) (line : Line) (u t : ℕ) (m : Mode) → line.holders ≡ (u, mode.Ew) ∷ [] → (joined destroyed line t m).holders ≡ (u, mode.Ew) ∷ []
+alone_joined destroyed line u t m alone =
+    cond_both (gone destroyed line) line _ (λ (after : Line). after.holders ≡ (u, mode.Ew) ∷ [])
+    (λ _. alone)
+    (λ held. cond_both (can_grant destroyed line m) (record { holders = line.holders ++ (t, m) ∷ []; queue = line.queue }) (record { holders = line.holders; queue = line.queue ++ (t, m) ∷ [] }) (λ (after : Line). after.holders ≡ (u, mode.Ew) ∷ [])
+    (λ can.
+    let fits : fits_all m line.holders ≡ true = (and_parts _ _ (and_parts _ _ can).1).1 in
+    let one : fits_all m ((u, mode.Ew) ∷ []) ≡ true = rw alone at fits in
+    let parts = and_parts (together m mode.Ew) true one in
+    let no : together m mode.Ew ≡ false = never_with_writer m in
+    cc)
+    (λ refused. alone))
+
+pub alone_doomed : (line : Line) (u t : ℕ) → line.holders ≡ (u, mode.Ew) ∷ [] → (u == t) ≡ false → (passed_on true (left_by t line)).holders ≡ (u, mode.Ew) ∷ []
+alone_doomed line u t alone apart =
+    let kept : without t line.holders ≡ (u, mode.Ew) ∷ [] = rw (alone, apart) refl in
+    rw kept refl
+
+pub holds_alone : (line : Line) (u t : ℕ) → line.holders ≡ (u, mode.Ew) ∷ [] → is_some (mode_in t line.holders) ≡ true → u ≡ t
+holds_alone line u t alone holds =
+    let one : is_some (if u == t then Some mode.Ew else None) ≡ true = rw alone at holds in
+    grind (arith, common_steps, nat_tests)

@@ -1,0 +1,345 @@
+// A data block: its words, who holds it, and who waits for it.
+ghost use Rattle.std.specs.Prelude.{◌≡◌, ◌≢◌, ◌<◌, ◌≤◌, ◌↔◌, List, [], ◌∷◌, ◌++◌, length, take, drop, slice_index, Some, None, true, false, is_some, IfOk, OnErr};
+ghost use Rattle.ocr_acquire.specs.declared.Mode.TheVariants.{Const, Ew};
+ghost use Rattle.ocr_acquire.specs.Mode.{is_null};
+ghost use Rattle.ocr_datablock.specs.declared.datablock.Asked.TheVariants as asked;
+ghost use Rattle.ocr_datablock.specs.Lent.{words_in};
+ghost use Rattle.ocr_datablock.specs.Block.{state_of, names, mode_in, without, front_that_fits, rest_that_waits, leavers, passed_on, left_by, line, is_gone, is_grantable, on_ask, on_release, on_doom, with_line, asked_by, released, doomed, stored, lent_out, loan_from, taken_back, AskLaw, ReleaseLaw, DoomLaw, StoreLaw, LendLaw, TakeBackLaw, SizeLaw, HoldersLaw, OnceLaw, WaitingLaw, QueueLaw, GoneLaw, LoanLaw};
+
+use crate::loan::Lent;
+use ocr_acquire::{Mode, fits};
+use ocr_guid::{Guid, NoMemory};
+use std::alloc::Global;
+use std::marker::Model;
+
+/// What a block answers to an EDT that asks for it.
+#[derive(Clone, Copy, PartialEq, Eq, Debug)]
+pub enum Asked {
+    /// The EDT holds the block now.
+    Granted,
+    /// The EDT waits at the end of the block's queue.
+    Queued,
+    /// The block is gone, and the EDT neither holds it nor waits for it.
+    Gone,
+}
+
+/// A data block: a number of 64-bit words, the EDTs that hold it, and the EDTs that wait for it,
+/// who are served in the order in which they came.
+#[derive(Drop)]
+pub struct Block {
+    size: u32,
+    // none while they are on loan
+    words: Vec<u64>,
+    // who has the words on loan
+    borrower: Option<Guid>,
+    holders: Vec<(Guid, Mode)>,
+    queue: Vec<(Guid, Mode)>,
+    destroyed: bool,
+}
+
+impl Model for Block {
+    ghost use Rattle.std.specs.Prelude.{◌≡◌, ◌≤◌, length, None};
+    ghost use Rattle.ocr_datablock.specs.Block.{State};
+
+    ghost Value = { State };
+
+    ghost view = { λ b. record {
+      size = b.size;
+      words = b.words.items;
+      borrower = b.borrower;
+      holders = b.holders.items;
+      queue = b.queue.items;
+      destroyed = b.destroyed;
+    } };
+
+    ghost invariant = { λ b. (b.size ≤ 65536) × (b.borrower ≡ None → length b.words.items ≡ b.size) };
+}
+
+impl Block {
+    /// A block of zeros, which its creator holds in `Rw`, or nobody where the creator is `Guid::NULL`.
+    pub fn new(alloc: Global, words: u32, creator: Guid) -> Result<Block, NoMemory>
+        requires some { 1 ≤ words }
+        requires not_too_many { words ≤ 65536 }
+        ensures { IfOk result (λ block. block ≡ state_of words creator []) }
+    {
+        let Ok(zeros) = Vec::from_elem(alloc, 0, words as usize) else {
+            return Err(NoMemory);
+        };
+        let mut holders = Vec::new(alloc);
+        if creator != Guid::NULL && holders.push((creator, Mode::Rw)).is_err() {
+            return Err(NoMemory);
+        }
+        Ok(Block {
+            size: words,
+            words: zeros,
+            borrower: None,
+            holders,
+            queue: Vec::new(alloc),
+            destroyed: false,
+        })
+    }
+
+    /// The block's length in words.
+    pub fn words(&self) -> u32
+        ensures { result ≡ self.now.size }
+    {
+        self.size
+    }
+
+    /// Whether the block was destroyed: nobody more is granted.
+    pub fn is_destroyed(&self) -> bool
+        ensures { result ≡ self.now.destroyed }
+    {
+        self.destroyed
+    }
+
+    /// Whether the block is destroyed and nobody holds it.
+    pub fn is_gone(&self) -> bool
+        ensures { result ≡ is_gone self.now }
+    {
+        self.destroyed && self.holders.is_empty()
+    }
+
+    /// The mode in which the EDT holds the block; None where it does not hold it.
+    pub fn mode_of(&self, edt: Guid) -> Option<Mode>
+        ensures { result ≡ mode_in edt self.now.holders }
+    {
+        find_mode(&self.holders, edt)
+    }
+
+    /// Whether a newcomer would be granted the block in this mode now.
+    pub fn grantable(&self, mode: Mode) -> bool
+        requires { is_null mode ≡ false }
+        ensures { result ≡ is_grantable self.now mode }
+    {
+        !self.destroyed && self.queue.is_empty() && fits(mode, &self.holders)
+    }
+
+    /// Lets an EDT hold the block, or wait for it. After an error the block is as before.
+    pub fn ask(&mut self, _alloc: Global, edt: Guid, mode: Mode) -> Result<Asked, NoMemory>
+        requires no_holder { mode_in edt self.old.holders ≡ None }
+        requires not_waiting { mode_in edt self.old.queue ≡ None }
+        requires some_mode { is_null mode ≡ false }
+        ensures answer { IfOk result (λ answer. answer ≡ on_ask self.old mode) }
+        ensures gone { IfOk result (λ answer. (answer ≡ asked.Gone) ↔ (is_gone self.old ≡ true)) }
+        ensures granted { IfOk result (λ answer. (answer ≡ asked.Granted) ↔ (is_grantable self.old mode ≡ true)) }
+        ensures state { IfOk result (λ _. self.new ≡ asked_by self.old edt mode) }
+        ensures err { OnErr result (self.new ≡ self.old) }
+    {
+        if self.is_gone() {
+            return Ok(Asked::Gone);
+        }
+        if self.grantable(mode) {
+            if self.holders.push((edt, mode)).is_err() {
+                return Err(NoMemory);
+            }
+            return Ok(Asked::Granted);
+        }
+        if self.queue.push((edt, mode)).is_err() {
+            return Err(NoMemory);
+        }
+        Ok(Asked::Queued)
+    }
+
+    /// Ends a hold. Answers who is granted the block by that, in the order of the queue; where the block is gone now,
+    /// all who waited for it. After an error the block is as before.
+    pub fn release(&mut self, alloc: Global, edt: Guid) -> Result<Vec<Guid>, NoMemory>
+        requires holder { is_some (mode_in edt self.old.holders) ≡ true }
+        requires nothing_lent { self.old.borrower ≢ Some edt }
+        ensures answer { IfOk result (λ resumed. resumed.items ≡ on_release self.old edt) }
+        ensures state { IfOk result (λ _. self.new ≡ released self.old edt) }
+        ensures rest_waits { IfOk result (λ resumed. names self.old.queue ≡ resumed.items ++ names self.new.queue) }
+        ensures err { OnErr result (self.new ≡ self.old) }
+    {
+        self.end_hold(alloc, edt, self.destroyed)
+    }
+
+    /// Destroys the block: nobody more is granted, and who holds it goes on. Ends the hold of this EDT, if it has one.
+    /// Answers all who waited, where the block is gone by that, and else nobody. After an error the block is as before.
+    pub fn doom(&mut self, alloc: Global, edt: Guid) -> Result<Vec<Guid>, NoMemory>
+        requires not_destroyed { self.old.destroyed ≡ false }
+        requires nothing_lent { self.old.borrower ≢ Some edt }
+        ensures answer { IfOk result (λ resumed. resumed.items ≡ on_doom self.old edt) }
+        ensures state { IfOk result (λ _. self.new ≡ doomed self.old edt) }
+        ensures rest_waits { IfOk result (λ resumed. names self.old.queue ≡ resumed.items ++ names self.new.queue) }
+        ensures err { OnErr result (self.new ≡ self.old) }
+    {
+        self.end_hold(alloc, edt, true)
+    }
+
+    fn end_hold(&mut self, alloc: Global, edt: Guid, destroyed: bool) -> Result<Vec<Guid>, NoMemory>
+        ensures answer { IfOk result
+            (λ resumed. resumed.items ≡ names (leavers destroyed (left_by edt (line self.old)))) }
+        ensures state { IfOk result
+            (λ _. self.new ≡ with_line self.old destroyed (passed_on destroyed (left_by edt (line self.old)))) }
+        ensures rest_waits { IfOk result (λ resumed. names self.old.queue ≡ resumed.items ++ names self.new.queue) }
+        ensures err { OnErr result (self.new ≡ self.old) }
+    {
+        let mut holders = copy_without(alloc, &self.holders, edt)?;
+        let count = pass_on(destroyed, &mut holders, &self.queue)?;
+        let resumed = copy_names(alloc, &self.queue[..count])?;
+        self.holders = holders;
+        self.queue.drain(..count);
+        self.destroyed = destroyed;
+        Ok(resumed)
+    }
+
+    /// A word of the block.
+    pub fn load(&self, word: u32) -> u64
+        requires exists { word < self.now.size }
+        requires nothing_lent { self.now.borrower ≡ None }
+        ensures { result ≡ slice_index self.now.words word }
+    {
+        self.words[word as usize]
+    }
+
+    /// Sets a word of the block.
+    pub fn store(&mut self, word: u32, value: u64)
+        requires exists { word < self.old.size }
+        requires nothing_lent { self.old.borrower ≡ None }
+        ensures { self.new ≡ stored self.old word value }
+    {
+        self.words[word as usize] = value;
+    }
+
+    /// Lends the words themselves to an EDT that holds the block in `Ew`. The block has none until they come back.
+    pub fn lend(&mut self, edt: Guid) -> Lent
+        requires writer { mode_in edt self.old.holders ≡ Some Ew }
+        requires nothing_lent { self.old.borrower ≡ None }
+        ensures loan { result ≡ loan_from self.old Ew }
+        ensures state { self.new ≡ lent_out self.old edt }
+    {
+        let none = Vec::new(*self.words.allocator());
+        let words = std::mem::replace(&mut self.words, none);
+        self.borrower = Some(edt);
+        Lent::new(Mode::Ew, words)
+    }
+
+    /// Lends a copy of the words to an EDT that holds the block in `Const`.
+    pub fn lend_const(&mut self, alloc: Global, edt: Guid) -> Result<Lent, NoMemory>
+        requires reader { mode_in edt self.old.holders ≡ Some Const }
+        requires nothing_lent { self.old.borrower ≡ None }
+        ensures loan { IfOk result (λ loan. loan ≡ loan_from self.old Const) }
+        ensures state { self.new ≡ self.old }
+    {
+        let Ok(words) = Vec::from_slice(alloc, &self.words) else {
+            return Err(NoMemory);
+        };
+        Ok(Lent::new(Mode::Const, words))
+    }
+
+    /// Takes a loan back. The words of the block are those of a loan in `Ew`; a loan in `Const` changes nothing.
+    #[tactic(auto, using(crate::proofs::Writes::length_written))]
+    pub fn take_back(&mut self, edt: Guid, lent: Lent)
+        requires lent_to { lent.mode ≡ Ew → self.old.borrower ≡ Some edt }
+        requires same_size { lent.mode ≡ Ew → length lent.began ≡ self.old.size }
+        ensures state { self.new ≡ taken_back self.old lent }
+        ensures words { lent.mode ≡ Ew → self.new.words ≡ words_in lent }
+        ensures copy { lent.mode ≡ Const → self.new ≡ self.old }
+    {
+        if lent.is_exclusive() {
+            self.words = lent.into_words();
+            self.borrower = None;
+        }
+    }
+}
+
+/// What is told of a block by the list of the calls that it accepted.
+pub fn block_laws()
+    ensures ask { AskLaw }
+    ensures release { ReleaseLaw }
+    ensures doom { DoomLaw }
+    ensures store { StoreLaw }
+    ensures lend { LendLaw }
+    ensures take_back { TakeBackLaw }
+    ensures size { SizeLaw }
+    ensures holders { HoldersLaw }
+    ensures once { OnceLaw }
+    ensures waiting { WaitingLaw }
+    ensures queue { QueueLaw }
+    ensures gone { GoneLaw }
+    ensures loan { LoanLaw }
+{}
+
+fn find_mode(holders: &[(Guid, Mode)], edt: Guid) -> Option<Mode>
+    ensures { result ≡ mode_in edt holders.now }
+{
+    for (holder, mode) in holders {
+        if *holder == edt {
+            return Some(*mode);
+        }
+    }
+    None
+}
+
+/// The holders but for one.
+fn copy_without(
+    alloc: Global,
+    holders: &[(Guid, Mode)],
+    edt: Guid,
+) -> Result<Vec<(Guid, Mode)>, NoMemory>
+    ensures { IfOk result (λ rest. rest.items ≡ without edt holders.now) }
+{
+    let mut rest = Vec::new(alloc);
+    for (holder, mode) in holders {
+        if *holder != edt && rest.push((*holder, *mode)).is_err() {
+            return Err(NoMemory);
+        }
+    }
+    Ok(rest)
+}
+
+/// Adds to the holders who is granted now, and says how many leave the front of the queue.
+fn pass_on(
+    destroyed: bool,
+    holders: &mut Vec<(Guid, Mode)>,
+    queue: &[(Guid, Mode)],
+) -> Result<usize, NoMemory>
+    ensures holders { IfOk result (λ _.
+        holders.new.items ≡ (passed_on destroyed (record { holders = holders.old.items; queue = queue.now })).holders) }
+    ensures front { IfOk result (λ count.
+        take count queue.now ≡ leavers destroyed (record { holders = holders.old.items; queue = queue.now })) }
+    ensures rest { IfOk result (λ count.
+        drop count queue.now ≡ (passed_on destroyed (record { holders = holders.old.items; queue = queue.now })).queue) }
+    ensures within { IfOk result (λ count. count ≤ length queue.now) }
+{
+    if !destroyed {
+        return grant(holders, queue);
+    }
+    if holders.is_empty() {
+        Ok(queue.len())
+    } else {
+        Ok(0)
+    }
+}
+
+/// Adds the longest front of the queue that fits to the holders, and counts it.
+fn grant(holders: &mut Vec<(Guid, Mode)>, queue: &[(Guid, Mode)]) -> Result<usize, NoMemory>
+    ensures holders { IfOk result (λ _.
+        holders.new.items ≡ holders.old.items ++ front_that_fits holders.old.items queue.now) }
+    ensures front { IfOk result (λ count. take count queue.now ≡ front_that_fits holders.old.items queue.now) }
+    ensures rest { IfOk result (λ count. drop count queue.now ≡ rest_that_waits holders.old.items queue.now) }
+    ensures within { IfOk result (λ count. count ≤ length queue.now) }
+{
+    for i in 0..queue.len() {
+        if !fits(queue[i].1, holders) {
+            return Ok(i);
+        }
+        if holders.push(queue[i]).is_err() {
+            return Err(NoMemory);
+        }
+    }
+    Ok(queue.len())
+}
+
+fn copy_names(alloc: Global, front: &[(Guid, Mode)]) -> Result<Vec<Guid>, NoMemory>
+    ensures { IfOk result (λ copied. copied.items ≡ names front.now) }
+{
+    let mut copied = Vec::new(alloc);
+    for (edt, _) in front {
+        if copied.push(*edt).is_err() {
+            return Err(NoMemory);
+        }
+    }
+    Ok(copied)
+}
