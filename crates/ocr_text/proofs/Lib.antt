@@ -1,0 +1,5 @@
+pub mod Bytes
+pub mod Runs
+pub mod Fronts
+pub mod Laws
+pub mod Values
