@@ -19,8 +19,8 @@ pub enum Leaving {
     Done,
 }
 
-/// The scope of a finish EDT: how many of the EDTs that were made below it, directly or through others, and of their
-/// own scopes, have joined and have not left.
+/// The scope of a finish EDT. Its members are the EDT itself, each EDT that a member makes, and for a finish EDT among
+/// these its scope in its place. The scope counts those that have joined and have not left.
 #[derive(Clone, PartialEq, Eq, Debug, Drop)]
 pub struct Scope {
     outer: Guid,
@@ -40,8 +40,8 @@ impl Model for Scope {
 }
 
 impl Scope {
-    /// The scope of a new finish EDT, its one member. It leaves the scope `outer` when it is done, and satisfies `event`;
-    /// each is NULL_GUID where there is none.
+    /// The scope of a new finish EDT, its one member so far. When it is done it leaves the scope `outer`, and it
+    /// satisfies `event`; each is NULL_GUID where there is none.
     pub fn new(outer: Guid, event: Guid) -> Scope
         ensures { result ≡ state_of outer event [] }
     {
