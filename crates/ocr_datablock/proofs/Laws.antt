@@ -1,11 +1,11 @@
 -- The laws of loans and blocks, for the crates above.
-use Rattle.std.proofs.Common.{◌≡◌, ◌≢◌, ℕ, List, [], ◌∷◌, ◌++◌, Bool, true, false, ◌==◌, if◌then◌else◌, Option, Some, None, slice_index, unwrap_or, arith, refl, rules, ◌∙◌, ap}
+use Rattle.std.proofs.Common.{◌≡◌, ◌≢◌, ℕ, List, [], ◌∷◌, ◌++◌, Bool, true, false, ◌==◌, if◌then◌else◌, Option, Some, None, length, slice_index, unwrap_or, arith, refl, rules, ◌∙◌, ap}
 use Rattle.std.proofs.lemmas.Bool.{and_parts}
 use Rattle.std.proofs.lemmas.List.{length-set, length-replicate}
 use Rattle.ocr_acquire.specs.declared.Mode.TheVariants as mode
 use Rattle.ocr_datablock.specs.Lent as loan
 use Rattle.ocr_datablock.specs.Lent.{Loan, LoanCall, Listing, loan_of, writes_of, last_stored, value_at, written, words_in, IsRising, is_exclusive, StoredLaw, ListingLaw, WritesLaw, WordLaw}
-use Rattle.ocr_datablock.specs.Block.{BlockCall, Ask, Release, Doom, Store, Lend, TakeBack, left_by, is_destroyed, contents, borrower_of, holders_of, queue_of, line_of, is_empty, gone, GoTogether, StandOnce, AskLaw, ReleaseLaw, DoomLaw, StoreLaw, LendLaw, TakeBackLaw, SizeLaw, HoldersLaw, OnceLaw, WaitingLaw, QueueLaw, GoneLaw, LoanLaw}
+use Rattle.ocr_datablock.specs.Block.{BlockCall, Ask, Release, Doom, Store, Lend, TakeBack, left_by, is_destroyed, contents, borrower_of, holders_of, queue_of, line_of, is_empty, gone, GoTogether, StandOnce, AskLaw, ReleaseLaw, DoomLaw, StoreLaw, LendLaw, TakeBackLaw, WordsLaw, HoldersLaw, OnceLaw, WaitingLaw, QueueLaw, GoneLaw, LoanLaw}
 use Rattle.ocr_datablock.proofs.Writes.{rises_put, value_put, length_written, word_written}
 use Rattle.ocr_datablock.proofs.Lines.{line_splits, together_joined, together_passed, together_left, IsStuck, stuck_at, stuck_joined, stuck_passed, gone_joined, gone_passed, gone_queue, once_joined, once_left, once_passed, writer_alone, alone_joined, alone_doomed, holds_alone}
 
@@ -35,13 +35,13 @@ word_law m words calls k below =
 
 -- THE STEPS OF A BLOCK.
 pub ask_law : AskLaw
-ask_law n creator calls t m = refl
+ask_law n creator calls t m = (refl, refl)
 
 pub release_law : ReleaseLaw
-release_law n creator calls t = refl
+release_law n creator calls t = (refl, refl)
 
 pub doom_law : DoomLaw
-doom_law n creator calls t = refl
+doom_law n creator calls t = (refl, refl)
 
 pub store_law : StoreLaw
 store_law n creator calls word value none = rw none refl
@@ -53,14 +53,17 @@ pub take_back_law : TakeBackLaw
 take_back_law n creator calls t lent writer began = rw (writer, began) refl
 
 -- WHAT IS TOLD OF A BLOCK.
-pub size_law : SizeLaw
-size_law n [] = length-replicate n 0
-size_law n (Ask t m ∷ past) = size_law n past
-size_law n (Release t ∷ past) = size_law n past
-size_law n (Doom t ∷ past) = size_law n past
-size_law n (Store word value ∷ past) = length-set (contents n past) word value ∙ size_law n past
-size_law n (Lend t ∷ past) = size_law n past
-size_law n (TakeBack t writes ∷ past) = length_written writes (contents n past) ∙ size_law n past
+pub length-contents : (n : ℕ) (calls : List BlockCall) → length (contents n calls) ≡ n
+length-contents n [] = length-replicate n 0
+length-contents n (Ask t m ∷ past) = length-contents n past
+length-contents n (Release t ∷ past) = length-contents n past
+length-contents n (Doom t ∷ past) = length-contents n past
+length-contents n (Store word value ∷ past) = length-set (contents n past) word value ∙ length-contents n past
+length-contents n (Lend t ∷ past) = length-contents n past
+length-contents n (TakeBack t writes ∷ past) = length_written writes (contents n past) ∙ length-contents n past
+
+pub words_law : WordsLaw
+words_law n creator calls = (λ none. rw none refl, length-contents n calls)
 
 first_together : (creator : ℕ) (b : Bool) → GoTogether (if b then [] else (creator, mode.Rw) ∷ [])
 first_together creator true = tt

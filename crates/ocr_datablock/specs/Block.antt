@@ -142,6 +142,20 @@ holders_of creator calls = (line_of creator calls).holders
 abbrev pub queue_of : ℕ → List BlockCall → List (ℕ × Mode)
 queue_of creator calls = (line_of creator calls).queue
 
+-- what a block answers to one who asks
+abbrev pub answer_to : ℕ → List BlockCall → Mode → Asked
+answer_to creator past m =
+    if gone (is_destroyed past) (line_of creator past) then asked.Gone
+    else if can_grant (is_destroyed past) (line_of creator past) m then asked.Granted
+    else asked.Queued
+
+-- who leaves the queue by the end of a hold, and by the destruction of the block, in the order of the queue
+abbrev pub resumed_by_release : ℕ → List BlockCall → ℕ → List ℕ
+resumed_by_release creator past t = names (leavers (is_destroyed past) (left_by t (line_of creator past)))
+
+abbrev pub resumed_by_doom : ℕ → List BlockCall → ℕ → List ℕ
+resumed_by_doom creator past t = names (leavers true (left_by t (line_of creator past)))
+
 -- What a call of a block of n words presumes, by its calls before.
 abbrev pub IsAllowed : ℕ → ℕ → List BlockCall → BlockCall → Type 0
 IsAllowed n creator past (Ask t m) =
@@ -237,18 +251,21 @@ loan_from s m = loan_of m s.words []
 abbrev pub taken_back : State → Loan → State
 taken_back s loan = if is_exclusive loan.mode then with_words s None (words_in loan) else s
 
--- THE LAWS. The state after a call is the step of the state before it.
+-- THE LAWS. The state after a call is the step of the state before it, and the answer is that of the calls so far.
 abbrev pub AskLaw : Type 0
 AskLaw = (n creator : ℕ) (calls : List BlockCall) (t : ℕ) (m : Mode)
-    → state_of n creator (Ask t m ∷ calls) ≡ asked_by (state_of n creator calls) t m
+    → (state_of n creator (Ask t m ∷ calls) ≡ asked_by (state_of n creator calls) t m)
+    × (on_ask (state_of n creator calls) m ≡ answer_to creator calls m)
 
 abbrev pub ReleaseLaw : Type 0
 ReleaseLaw = (n creator : ℕ) (calls : List BlockCall) (t : ℕ)
-    → state_of n creator (Release t ∷ calls) ≡ released (state_of n creator calls) t
+    → (state_of n creator (Release t ∷ calls) ≡ released (state_of n creator calls) t)
+    × (on_release (state_of n creator calls) t ≡ resumed_by_release creator calls t)
 
 abbrev pub DoomLaw : Type 0
 DoomLaw = (n creator : ℕ) (calls : List BlockCall) (t : ℕ)
-    → state_of n creator (Doom t ∷ calls) ≡ doomed (state_of n creator calls) t
+    → (state_of n creator (Doom t ∷ calls) ≡ doomed (state_of n creator calls) t)
+    × (on_doom (state_of n creator calls) t ≡ resumed_by_doom creator calls t)
 
 abbrev pub StoreLaw : Type 0
 StoreLaw = (n creator : ℕ) (calls : List BlockCall) (word value : ℕ) → borrower_of calls ≡ None
@@ -266,9 +283,11 @@ TakeBackLaw = (n creator : ℕ) (calls : List BlockCall) (t : ℕ) (loan : Loan)
     → loan.mode ≡ mode.Ew → loan.began ≡ contents n calls
     → state_of n creator (TakeBack t loan.writes ∷ calls) ≡ taken_back (state_of n creator calls) loan
 
--- A block keeps its length.
-abbrev pub SizeLaw : Type 0
-SizeLaw = (n : ℕ) (calls : List BlockCall) → length (contents n calls) ≡ n
+-- The words of a block are its contents, but for the time of a loan. A block keeps its length.
+abbrev pub WordsLaw : Type 0
+WordsLaw = (n creator : ℕ) (calls : List BlockCall)
+    → (borrower_of calls ≡ None → (state_of n creator calls).words ≡ contents n calls)
+    × (length (contents n calls) ≡ n)
 
 -- Each holder's mode goes with those of all other holders.
 abbrev pub GoTogether : List (ℕ × Mode) → Type 0

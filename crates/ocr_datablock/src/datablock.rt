@@ -4,7 +4,7 @@ ghost use Rattle.ocr_acquire.specs.declared.Mode.TheVariants.{Const, Ew};
 ghost use Rattle.ocr_acquire.specs.Mode.{is_null};
 ghost use Rattle.ocr_datablock.specs.declared.datablock.Asked.TheVariants as asked;
 ghost use Rattle.ocr_datablock.specs.Lent.{words_in};
-ghost use Rattle.ocr_datablock.specs.Block.{state_of, names, mode_in, without, front_that_fits, rest_that_waits, leavers, passed_on, left_by, line, is_gone, is_grantable, on_ask, on_release, on_doom, with_line, asked_by, released, doomed, stored, lent_out, loan_from, taken_back, AskLaw, ReleaseLaw, DoomLaw, StoreLaw, LendLaw, TakeBackLaw, SizeLaw, HoldersLaw, OnceLaw, WaitingLaw, QueueLaw, GoneLaw, LoanLaw};
+ghost use Rattle.ocr_datablock.specs.Block.{state_of, names, mode_in, without, front_that_fits, rest_that_waits, leavers, passed_on, left_by, line, is_gone, is_grantable, on_ask, on_release, on_doom, with_line, asked_by, released, doomed, stored, lent_out, loan_from, taken_back, AskLaw, ReleaseLaw, DoomLaw, StoreLaw, LendLaw, TakeBackLaw, WordsLaw, HoldersLaw, OnceLaw, WaitingLaw, QueueLaw, GoneLaw, LoanLaw};
 
 use crate::loan::Lent;
 use ocr_acquire::{Mode, fits};
@@ -252,7 +252,7 @@ pub fn block_laws()
     ensures store { StoreLaw }
     ensures lend { LendLaw }
     ensures take_back { TakeBackLaw }
-    ensures size { SizeLaw }
+    ensures words { WordsLaw }
     ensures holders { HoldersLaw }
     ensures once { OnceLaw }
     ensures waiting { WaitingLaw }

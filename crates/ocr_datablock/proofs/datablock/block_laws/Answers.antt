@@ -1,4 +1,4 @@
-use Rattle.ocr_datablock.proofs.Laws.{ask_law, release_law, doom_law, store_law, lend_law, take_back_law, size_law, holders_law, once_law, waiting_law, queue_law, gone_law, loan_law}
+use Rattle.ocr_datablock.proofs.Laws.{ask_law, release_law, doom_law, store_law, lend_law, take_back_law, words_law, holders_law, once_law, waiting_law, queue_law, gone_law, loan_law}
 use Rattle.ocr_datablock.proofs.datablock.block_laws.Goals as goal
 
 pub returns-clause-ask : goal.returns-clause-ask
@@ -19,8 +19,8 @@ returns-clause-lend c = lend_law
 pub returns-clause-take_back : goal.returns-clause-take_back
 returns-clause-take_back c = take_back_law
 
-pub returns-clause-size : goal.returns-clause-size
-returns-clause-size c = size_law
+pub returns-clause-words : goal.returns-clause-words
+returns-clause-words c = words_law
 
 pub returns-clause-holders : goal.returns-clause-holders
 returns-clause-holders c = holders_law
