@@ -67,7 +67,6 @@ fn count(own: u64, given: u64, most: u32) -> Option<u32>
 #[cfg(test)]
 mod tests {
     use super::*;
-    use ocr_guid::Code;
     use std::test::Fail;
 
     #[test]
