@@ -1,11 +1,11 @@
 -- Which kind a first byte tells.
-use Rattle.std.proofs.Common.{◌≡◌, ◌≤◌, ◌<◌, ℕ, List, [], ◌∷◌, Bool, true, false, ◌||◌, ◌&&◌, ◌==◌, nat_le, nat_lt, cond, not, refl, sym, ap, subst, ◌∙◌, Option, Some, None, arith, inl, inr, ◌⊎◌}
+use Rattle.std.proofs.Common.{◌≡◌, ◌≤◌, ℕ, List, [], ◌∷◌, Bool, true, false, ◌||◌, ◌&&◌, ◌==◌, nat_le, nat_lt, cond, refl, sym, ap, subst, ◌∙◌, Option, Some, None, arith, inl, inr, ◌⊎◌}
 use Rattle.std.proofs.lemmas.Grind.{common_steps}
 use Rattle.std.specs.List.{list_any, list_all}
 use Rattle.ocr_text.specs.declared.token.TokenKind.{TokenKind}
 use Rattle.ocr_text.specs.declared.token.TokenKind.TheVariants as kind
-use Rattle.ocr_text.specs.Forms.{blanks, singles, is_blank, is_digit, is_letter, is_single, is_double, is_symbol, is_run, is_form}
-use Rattle.ocr_text.specs.Scan.{kind_at, goes_on}
+use Rattle.ocr_text.specs.Forms.{blanks, singles, is_blank, is_digit, is_letter, is_single, is_double, is_symbol, is_form}
+use Rattle.ocr_text.specs.Scan.{kind_at}
 
 pub and_left : (a b : Bool) → (a && b) ≡ true → a ≡ true
 and_left true b is = refl

@@ -1,9 +1,9 @@
 -- The token at the front of some bytes.
-use Rattle.std.proofs.Common.{◌≡◌, ◌≤◌, ◌<◌, ◌+◌, ◌-◌, ℕ, zero, suc, List, [], ◌∷◌, Bool, true, false, ◌&&◌, ◌==◌, cond, refl, sym, ap, subst, ◌∙◌, Option, Some, None, arith, length, take}
+use Rattle.std.proofs.Common.{◌≡◌, ◌≤◌, ◌<◌, ◌+◌, ℕ, zero, suc, List, [], ◌∷◌, Bool, true, false, ◌==◌, cond, refl, sym, subst, ◌∙◌, Some, arith, length, take}
 use Rattle.ocr_text.specs.declared.token.TokenKind.{TokenKind}
 use Rattle.ocr_text.specs.declared.token.TokenKind.TheVariants as kind
 use Rattle.ocr_text.specs.Forms.{is_form, is_double, is_symbol}
-use Rattle.ocr_text.specs.Scan.{kind_at, goes_on, run_of, second_of, rest_of, found, found_as}
+use Rattle.ocr_text.specs.Scan.{kind_at, goes_on, second_of, rest_of}
 use Rattle.ocr_text.proofs.Bytes.{first_byte, begins_is, and_both, and_right}
 use Rattle.ocr_text.proofs.Runs.{run_all, run_within, run_most}
 

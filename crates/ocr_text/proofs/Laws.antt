@@ -1,11 +1,11 @@
 -- The tokens of a text are one list, or there is one fault.
-use Rattle.std.proofs.Common.{◌≡◌, ◌≤◌, ◌<◌, ◌^◌, ◌+◌, ◌-◌, ◌⊎◌, inl, inr, ℕ, zero, suc, List, [], ◌∷◌, ◌++◌, Bool, true, false, cond, refl, sym, ap, subst, ◌∙◌, Option, Some, None, arith, length, take, drop, length-drop}
+use Rattle.std.proofs.Common.{◌≡◌, ◌≤◌, ◌<◌, ◌^◌, ◌+◌, ◌-◌, ◌⊎◌, inl, inr, ℕ, zero, suc, List, [], ◌∷◌, ◌++◌, true, refl, sym, ap, subst, ◌∙◌, Option, Some, None, arith, length, take, drop, length-drop}
 use Rattle.std.proofs.lemmas.List.{take_all}
 use Rattle.ocr_text.specs.declared.token.TokenKind.{TokenKind}
 use Rattle.ocr_text.specs.declared.token.TokenKind.TheVariants as kind
 use Rattle.ocr_text.specs.declared.token.Token.{Token}
 use Rattle.ocr_text.specs.Forms.{is_form, value_of}
-use Rattle.ocr_text.specs.Tokens.{IsLongest, IsNoToken, IsInRange, IsToken, Tile, AreTokens, IsTooLarge, IsFault}
+use Rattle.ocr_text.specs.Tokens.{IsLongest, IsNoToken, IsToken, Tile, AreTokens, IsTooLarge, IsFault}
 use Rattle.ocr_text.specs.Laws.{TokensLaw}
 use Rattle.ocr_text.specs.Scan.{kind_at, rest_of, found, found_as}
 use Rattle.ocr_text.proofs.Bytes.{first_byte}

@@ -3,3 +3,4 @@ pub mod Runs
 pub mod Fronts
 pub mod Laws
 pub mod Values
+pub mod Texts

@@ -2,3 +2,4 @@ pub mod Forms
 pub mod Tokens
 pub mod Laws
 pub mod Scan
+pub mod Texts
