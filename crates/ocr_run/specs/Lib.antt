@@ -1,1 +1,4 @@
+pub mod Headline
+pub mod ProgramText
 pub mod UnderWay
+pub mod Words

@@ -2,6 +2,11 @@
 #![tactic(auto)]
 
 mod desk;
+mod execute;
 mod log;
 mod output;
+mod reader;
+mod top;
 mod worker;
+
+pub use top::{Ended, ocr_main};

@@ -32,6 +32,7 @@ pub fn run(alloc: Global, program: &Checked) -> Result<Done, NoMemory>
     ensures run { IfOk result (λ done. IsRun (setting_of (checked_tree program.now)) (history_of done.journal)) }
     ensures finished { IfOk result (λ done. IsFinished (setting_of (checked_tree program.now)) (history_of done.journal)) }
     ensures status { IfOk result (λ done. done.status ≡ ending_of (history_of done.journal)) }
+    ensures small { IfOk result (λ done. (done.status ≡ 0) ⊎ (done.status ≡ 9)) }
 {
     let mut log = Log::new(alloc)?;
     if let Err(NoMemory) = begin(&mut log) {
@@ -72,6 +73,7 @@ fn stopped(log: Log, stop: BodyStop) -> Done
         → says_next s (history_of log.entries.items) 2 ≡ Stops BodyStop.Shutdown → IsRun s (history_of result.journal) }
     ensures stopped { is_stopped (history_of result.journal) ≡ true }
     ensures status { result.status ≡ ending_of (history_of result.journal) }
+    ensures small { (result.status ≡ 0) ⊎ (result.status ≡ 9) }
 {
     match stop {
         BodyStop::NoMemory => Done {

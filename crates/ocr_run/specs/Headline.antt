@@ -1,0 +1,88 @@
+-- The headline: the bytes written are the output of the run's own journal, which is a run of the machine on the program
+-- that the bytes read are.
+use Rattle.std.specs.Prelude.{◌≡◌, ◌≢◌, ◌⊎◌, ◌<◌, ◌+◌, ℕ, List, [], ◌∷◌, length, take, Option, Some, None, codes}
+use Rattle.std.specs.Io.KnownBytes.{Appends, Keeps}
+use Rattle.ocr_io.specs.Source.{Took}
+use Rattle.ocr_body.specs.Tree.{FunctionTree}
+use Rattle.ocr_machine.specs.declared.entry.Entry.{Entry}
+use Rattle.ocr_machine.specs.History.{history_of}
+use Rattle.ocr_machine.specs.Legal.{IsRun, IsQuiet}
+use Rattle.ocr_machine.specs.Laws.{StartsOnce, LeavesOpen}
+use Rattle.ocr_machine.specs.Output.{printed, ending_of}
+use Rattle.ocr_run.specs.ProgramText.{IsProgramText, IsNoProgram, most_bytes}
+use Rattle.ocr_run.specs.UnderWay.{setting_of, IsFinished}
+
+-- these bytes are a program, this is the journal of a run of it that came to its end, this text is the run's output,
+-- and this is its status
+pub record IsExecuted (bytes : List ℕ) (journal : List Entry) (text : List ℕ) (status : ℕ) : Type 0 where
+  pub program : List FunctionTree
+  pub is_program : IsProgramText bytes program
+  pub run : IsRun (setting_of program) (history_of journal)
+  pub finished : IsFinished (setting_of program) (history_of journal)
+  pub once : StartsOnce (history_of journal)
+  pub left : IsQuiet (setting_of program) (history_of journal) → LeavesOpen (history_of journal)
+  pub output : text ≡ printed (history_of journal)
+  pub ending : status ≡ ending_of (history_of journal)
+
+-- the output of a run with this ending was written: whole, or a front of it where a write failed; nothing for want of memory
+pub data IsWritten (old new : Option (List ℕ)) (fault : Type 0) (text : List ℕ) (ending : ℕ) : ℕ → Type 0 where
+  whole : ending ≢ 9 → Appends old new text → IsWritten old new fault text ending ending
+  front : ending ≢ 9 → fault → (n : ℕ) → n < length text → Appends old new (take n text) → IsWritten old new fault text ending 8
+  nothing : ending ≡ 9 → Keeps old new → IsWritten old new fault text ending 9
+
+-- where the source tells its bytes, these are all of them, and none is left
+abbrev pub IsAllOf : Option (List ℕ) → Option (List ℕ) → List ℕ → Type 0
+IsAllOf None now bytes = Unit {0}
+IsAllOf (Some told) now bytes = (bytes ≡ told) × (now ≡ Some [])
+
+-- the run of a program was written
+pub record IsAnswered (bytes : List ℕ) (out_old out_new : Option (List ℕ)) (fault : Type 0) (status : ℕ) (journal : List Entry) : Type 0 where
+  pub text : List ℕ
+  pub ending : ℕ
+  pub executed : IsExecuted bytes journal text ending
+  pub written : IsWritten out_old out_new fault text ending status
+
+-- all bytes of the source were read, and the output of the journal that they give was written
+pub record IsHeadline (left_old left_new out_old out_new : Option (List ℕ)) (fault : Type 0) (status : ℕ) (journal : List Entry) : Type 0 where
+  pub bytes : List ℕ
+  pub read : IsAllOf left_old left_new bytes
+  pub answered : IsAnswered bytes out_old out_new fault status journal
+
+-- the one word that is taken
+abbrev pub AreRun : List (List ℕ) → Type 0
+AreRun words = words ≡ codes "run" ∷ []
+
+-- more bytes were read than a program has
+abbrev pub IsTooBig : Option (List ℕ) → Option (List ℕ) → ℕ → ℕ → Type 0
+IsTooBig left_old left_new given_old given_new = Took left_old left_new given_old given_new (most_bytes + 1)
+
+-- all bytes were read, and are no program
+pub record IsNotBuilt (left_old left_new : Option (List ℕ)) : Type 0 where
+  pub bytes : List ℕ
+  pub read : IsAllOf left_old left_new bytes
+  pub no_program : IsNoProgram bytes
+
+-- the line that goes with a status
+pub data IsLine (too_big not_built : Type 0) : ℕ → List ℕ → Type 0 where
+  no_line : IsLine too_big not_built 0 []
+  words_refused : IsLine too_big not_built 2 (codes "words refused\n")
+  text_too_big : too_big → IsLine too_big not_built 3 (codes "text too big\n")
+  text_not_built : not_built → IsLine too_big not_built 3 (codes "text not built\n")
+  read_fault : IsLine too_big not_built 7 (codes "read fault\n")
+  write_fault : IsLine too_big not_built 8 (codes "write fault\n")
+  want_of_memory : IsLine too_big not_built 9 (codes "want of memory\n")
+
+-- a line was written: whole, or a front of it where a write failed
+pub record IsTold (old new : Option (List ℕ)) (fault : Type 0) (line : List ℕ) : Type 0 where
+  pub told : List ℕ
+  pub written : Appends old new told
+  pub front : (told ≡ line) ⊎ (fault × ((n : ℕ) × (told ≡ take n line)))
+
+-- the statuses
+pub data IsStatus : ℕ → Type 0 where
+  ran : IsStatus 0
+  refused : IsStatus 2
+  no_program : IsStatus 3
+  read_failed : IsStatus 7
+  write_failed : IsStatus 8
+  out_of_memory : IsStatus 9

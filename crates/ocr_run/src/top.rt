@@ -1,0 +1,155 @@
+// The top call.
+ghost use Rattle.std.specs.Prelude.{◌≡◌, ◌≢◌, ◌⊎◌, ◌↔◌, ◌+◌, ◌<◌, ◌≤◌, ◌^◌, [], ◌∷◌, IfSome, IfNone, IsSome, IsNone, IfOk, OnErr, IsTrue, map, length, string_bytes, codes, List, ℕ, Option, Some};
+ghost use Rattle.std.specs.Io.KnownBytes.{Keeps};
+ghost use Rattle.ocr_io.specs.Counts.{Rose};
+ghost use Rattle.ocr_run.specs.ProgramText.{IsNoProgram, most_bytes};
+ghost use Rattle.ocr_run.specs.Headline.{IsHeadline, IsExecuted, IsAnswered, IsWritten, AreRun, IsTooBig, IsNotBuilt, IsLine, IsTold, IsStatus};
+
+use crate::execute::{Executed, execute};
+use ocr_guid::NoMemory;
+use ocr_io::{ReadStop, Sink, Source, read_all, write_all};
+use ocr_machine::Journal;
+use std::alloc::Global;
+
+/// The most bytes that a program has.
+const MOST_BYTES: usize = 1_048_576;
+
+/// How a call of the program came out: its exit status, and the journal of the run where one was made.
+#[derive(Drop)]
+pub struct Ended {
+    pub status: u8,
+    pub journal: Option<Journal>,
+}
+
+fn are_run(words: &[String]) -> bool
+    ensures { IsTrue result ↔ AreRun (map (λ w. string_bytes w) words.now) }
+{
+    match words {
+        [word] => word.as_str() == "run",
+        _ => false,
+    }
+}
+
+// Writes a line to `err`. A write that fails there changes nothing else.
+#[tactic(auto, using(crate::proofs::Told::told_whole, crate::proofs::Told::told_front))]
+fn tell<E: Sink>(err: &mut E, line: &[u8])
+    ensures { IsTold (E.taken err.old) (E.taken err.new) (Rose (E.failures err.old) (E.failures err.new)) line.now }
+{
+    let _ = write_all(err, line);
+}
+
+// The end without a run.
+fn refuse<E: Sink>(err: &mut E, status: u8, line: &[u8]) -> Ended
+    ensures status { result.status ≡ status }
+    ensures journal { IsNone result.journal }
+    ensures told { IsTold (E.taken err.old) (E.taken err.new) (Rose (E.failures err.old) (E.failures err.new)) line.now }
+{
+    tell(err, line);
+    Ended {
+        status,
+        journal: None,
+    }
+}
+
+// Writes what a run printed.
+#[tactic(auto, using(crate::proofs::Told::keeps_same, crate::proofs::Told::zero_status, crate::proofs::Told::status_at))]
+fn finish<O: Sink, E: Sink>(executed: Executed, out: &mut O, err: &mut E) -> Ended
+    requires { (executed.status ≡ 0) ⊎ (executed.status ≡ 9) }
+    ensures journal { result.journal ≡ Some executed.journal }
+    ensures written { IsWritten (O.taken out.old) (O.taken out.new) (Rose (O.failures out.old) (O.failures out.new))
+        executed.text.items executed.status result.status }
+    ensures told { (line : List ℕ) × (IsTold (E.taken err.old) (E.taken err.new) (Rose (E.failures err.old) (E.failures err.new)) line
+        × IsLine ⊥ ⊥ result.status line) }
+    ensures status { IsStatus result.status }
+    ensures write_fault { result.status ≡ 8 → Rose (O.failures out.old) (O.failures out.new) }
+    ensures memory { result.status ≡ 9 → Keeps (O.taken out.old) (O.taken out.new) }
+{
+    if executed.status == 9 {
+        tell(err, b"want of memory\n");
+        return Ended {
+            status: 9,
+            journal: Some(executed.journal),
+        };
+    }
+    match write_all(out, &executed.text) {
+        Ok(()) => Ended {
+            status: executed.status,
+            journal: Some(executed.journal),
+        },
+        Err(_) => {
+            tell(err, b"write fault\n");
+            Ended {
+                status: 8,
+                journal: Some(executed.journal),
+            }
+        }
+    }
+}
+
+// Runs the program that these bytes are, and writes its output.
+fn answer<O: Sink, E: Sink>(alloc: Global, bytes: &[u8], out: &mut O, err: &mut E) -> Ended
+    requires { length bytes.now ≤ most_bytes }
+    ensures status { IsStatus result.status }
+    ensures accepted { (result.status ≢ 2) × (result.status ≢ 7) }
+    ensures ran { IfSome result.journal (IsAnswered bytes.now (O.taken out.old) (O.taken out.new)
+        (Rose (O.failures out.old) (O.failures out.new)) result.status) }
+    ensures given { (result.status ≡ 0) ⊎ (result.status ≡ 8) → IsSome result.journal }
+    ensures no_program { result.status ≡ 3 → IsNone result.journal × IsNoProgram bytes.now }
+    ensures silent { IfNone result.journal (Keeps (O.taken out.old) (O.taken out.new)) }
+    ensures told { (line : List ℕ) × (IsTold (E.taken err.old) (E.taken err.new) (Rose (E.failures err.old) (E.failures err.new)) line
+        × IsLine ⊥ (IsNoProgram bytes.now) result.status line) }
+    ensures write_fault { result.status ≡ 8 → Rose (O.failures out.old) (O.failures out.new) }
+    ensures memory { result.status ≡ 9 → Keeps (O.taken out.old) (O.taken out.new) }
+{
+    match execute(alloc, bytes) {
+        Ok(Some(executed)) => finish(executed, out, err),
+        Ok(None) => refuse(err, 3, b"text not built\n"),
+        Err(NoMemory) => refuse(err, 9, b"want of memory\n"),
+    }
+}
+
+/// The program: looks at the words, reads the input, runs the task program that it is, and writes what it prints.
+///
+/// The one word that is taken is `run`. The status is that of docs/SPECIFICATION.md, "The program", and the line that
+/// goes with it is written to `err`. The journal is given with each of the statuses 0 and 8, may be given with 9, and is
+/// not given with 2, 3 and 7.
+pub fn ocr_main<S: Source, O: Sink, E: Sink>(
+    alloc: Global,
+    words: &[String],
+    input: &mut S,
+    out: &mut O,
+    err: &mut E,
+) -> Ended
+    // The headline: all bytes of the source are a program, the journal is a run of it that came to its end, and the
+    // bytes written are the journal's output.
+    ensures headline { IfSome result.journal (IsHeadline (S.left input.old) (S.left input.new) (O.taken out.old) (O.taken out.new)
+        (Rose (O.failures out.old) (O.failures out.new)) result.status) }
+    ensures given { (result.status ≡ 0) ⊎ (result.status ≡ 8) → IsSome result.journal }
+    ensures silent { IfNone result.journal (Keeps (O.taken out.old) (O.taken out.new)) }
+
+    // Each status has its cause.
+    ensures status { IsStatus result.status }
+    ensures words { (result.status ≡ 2) ↔ (AreRun (map (λ w. string_bytes w) words.now) → ⊥) }
+    ensures untouched { result.status ≡ 2 → input.new ≡ input.old }
+    ensures no_program { result.status ≡ 3 → IsNone result.journal
+        × (IsTooBig (S.left input.old) (S.left input.new) (S.given input.old) (S.given input.new)
+        ⊎ IsNotBuilt (S.left input.old) (S.left input.new)) }
+    ensures too_big { S.given input.old + (most_bytes + 1) < 2 ^ 64
+        → S.given input.new ≡ S.given input.old + (most_bytes + 1) → result.status ≡ 3 }
+    ensures read_fault { result.status ≡ 7 → IsNone result.journal × Rose (S.failures input.old) (S.failures input.new) }
+    ensures write_fault { result.status ≡ 8 → Rose (O.failures out.old) (O.failures out.new) }
+    ensures memory { result.status ≡ 9 → Keeps (O.taken out.old) (O.taken out.new) }
+    ensures told { (line : List ℕ) × (IsTold (E.taken err.old) (E.taken err.new) (Rose (E.failures err.old) (E.failures err.new)) line
+        × IsLine (IsTooBig (S.left input.old) (S.left input.new) (S.given input.old) (S.given input.new))
+        (IsNotBuilt (S.left input.old) (S.left input.new)) result.status line) }
+{
+    if !are_run(words) {
+        return refuse(err, 2, b"words refused\n");
+    }
+    match read_all(alloc, input, MOST_BYTES) {
+        Ok(bytes) => answer(alloc, &bytes, out, err),
+        Err(ReadStop::Failed) => refuse(err, 7, b"read fault\n"),
+        Err(ReadStop::TooBig) => refuse(err, 3, b"text too big\n"),
+        Err(ReadStop::NoMemory) => refuse(err, 9, b"want of memory\n"),
+    }
+}

@@ -1,0 +1,5 @@
+//! Tests of the top call, which cross crates.
+#![tactic(auto)]
+
+#[cfg(test)]
+mod first_run;
