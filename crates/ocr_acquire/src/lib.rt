@@ -3,7 +3,7 @@
 
 ghost use Rattle.std.specs.Prelude.{◌≡◌, ◌≤◌, ◌↔◌, ◌∷◌, ◌++◌, IsTrue, IsSome, IfSome, IfOk};
 ghost use Rattle.std.specs.List.{All, filter};
-ghost use Rattle.ocr_acquire.specs.Plan.{plan_of, IsPlan, asks, last_of_each, PlanLaw, OnlyPlanLaw, GivenLaw, LengthLaw};
+ghost use Rattle.ocr_acquire.specs.Plan.{plan_of, IsPlan, IsWellFormed, asks, last_of_each, PlanLaw, OnlyPlanLaw, GivenLaw, LengthLaw};
 ghost use Rattle.ocr_acquire.specs.Mode.{rank_of, mode_of, together, fits_all, NumberLaw, OrderLaw, SharingLaw, AloneLaw};
 
 use ocr_guid::{Guid, NoMemory};
@@ -103,6 +103,7 @@ impl Default for Want {
 pub fn plan(alloc: Global, slots: &[(Guid, Mode)]) -> Result<SmallVec<Want, 8>, NoMemory>
     ensures value { IfOk result (λ plan. plan.items ≡ plan_of slots.now) }
     ensures wanted { IfOk result (λ plan. IsPlan slots.now plan.items) }
+    ensures well_formed { IfOk result (λ plan. IsWellFormed plan.items) }
 {
     let mut entries = asked(alloc, slots)?;
     entries.sort_unstable();

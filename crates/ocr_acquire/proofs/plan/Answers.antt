@@ -5,10 +5,10 @@ use Rattle.std.proofs.lemmas.List.Sorted.{length_permutation}
 use Rattle.smallvec.specs.SmallVec.{SmallVec}
 use Rattle.smallvec.proofs.SmallVecLemmas.{items-with_items}
 use Rattle.ocr_acquire.specs.declared.Mode.{Mode}
-use Rattle.ocr_acquire.specs.Plan.{IsPlan, asks, plan_of, last_of_each}
+use Rattle.ocr_acquire.specs.Plan.{IsPlan, IsWellFormed, asks, plan_of, last_of_each}
 use Rattle.ocr_acquire.proofs.Order.{ascends}
 use Rattle.ocr_acquire.proofs.Sorting.{sorted_plan}
-use Rattle.ocr_acquire.proofs.Laws.{plan_law}
+use Rattle.ocr_acquire.proofs.Laws.{plan_law, given_law}
 use Rattle.ocr_acquire.proofs.plan.Goals as goal
 
 -- what the sorted slots leave is the plan
@@ -31,3 +31,11 @@ wanted_if slots (Err e) h = h
 
 pub returns-clause-wanted : goal.returns-clause-wanted
 returns-clause-wanted c = wanted_if c.args.slots.now c.strongest.result (returns-clause-value c)
+
+formed_if : {E : Type 0} (slots : List (ℕ × Mode)) (r : Result (SmallVec (ℕ × Mode)) E) → IfOk r (λ plan. plan.items ≡ plan_of slots)
+    → IfOk r (λ plan. IsWellFormed plan.items)
+formed_if slots (Ok plan) h = subst IsWellFormed (sym h) (given_law slots)
+formed_if slots (Err e) h = h
+
+pub returns-clause-well_formed : goal.returns-clause-well_formed
+returns-clause-well_formed c = formed_if c.args.slots.now c.strongest.result (returns-clause-value c)

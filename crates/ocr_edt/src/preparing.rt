@@ -1,0 +1,189 @@
+// The phases before an EDT starts.
+ghost use Rattle.std.specs.Prelude.{◌≡◌, ◌<◌, IsSome, None, length, true};
+ghost use Rattle.ocr_acquire.specs.Plan.{IsWellFormed};
+ghost use Rattle.ocr_edt.specs.Phases.{next_of, readied, advanced, started, marked_at};
+
+use crate::Identity;
+use crate::executing::Running;
+use ocr_acquire::{Mode, Want};
+use ocr_guid::Guid;
+use smallvec::SmallVec;
+use std::marker::Model;
+
+/// An EDT whose slots are being filled.
+#[derive(Drop)]
+pub struct Filling {
+    identity: Identity,
+}
+
+impl Model for Filling {
+    ghost use Rattle.ocr_edt.specs.declared.Identity.{Identity};
+
+    ghost Value = { Identity };
+
+    ghost view = { λ f. f.identity };
+}
+
+impl Filling {
+    /// An EDT that was made in this scope, or in none, with this output event, or with none.
+    pub fn new(edt: Guid, scope: Guid, output: Guid, finish: bool) -> Filling
+        ensures { result ≡ record { edt = edt; scope = scope; output = output; finish = finish } }
+    {
+        let identity = Identity {
+            edt,
+            scope,
+            output,
+            finish,
+        };
+        Filling { identity }
+    }
+
+    pub fn identity(&self) -> Identity
+        ensures { result ≡ self.now }
+    {
+        self.identity
+    }
+
+    /// Every slot is set: the EDT goes on to acquire the blocks of its plan.
+    pub fn ready(self, plan: SmallVec<Want, 8>) -> Acquiring
+        requires { IsWellFormed plan.items }
+        ensures { result ≡ readied self plan.items }
+    {
+        let Filling { identity } = self;
+        Acquiring {
+            identity,
+            entries: plan,
+            done: 0,
+        }
+    }
+}
+
+/// An EDT that acquires the blocks of its plan one by one.
+#[derive(Drop)]
+pub struct Acquiring {
+    identity: Identity,
+    // the plan, where a block that was found stale has the mode `Null`
+    entries: SmallVec<Want, 8>,
+    done: usize,
+}
+
+impl Model for Acquiring {
+    ghost use Rattle.ocr_edt.specs.Phases.{Progress, progress_in, IsUnderWay};
+
+    ghost Value = { Progress };
+
+    ghost view = { λ a. progress_in a.identity a.entries.items a.done };
+
+    ghost invariant = { λ a. IsUnderWay a.entries.items a.done };
+}
+
+impl Acquiring {
+    pub fn identity(&self) -> Identity
+        ensures { result ≡ self.now.identity }
+    {
+        self.identity
+    }
+
+    /// The first block of the plan that is neither acquired nor found stale.
+    pub fn next(&self) -> Option<(Guid, Mode)>
+        ensures { result ≡ next_of self.now }
+    {
+        let entries = self.entries.as_slice();
+        if self.done == entries.len() {
+            return None;
+        }
+        let want = entries[self.done];
+        Some((want.block, want.mode))
+    }
+
+    /// The next block was acquired, or it was found stale.
+    pub fn acquired(self, stale: bool) -> Acquiring
+        requires { IsSome (next_of self) }
+        ensures { result ≡ advanced self stale }
+    {
+        let Acquiring {
+            identity,
+            entries,
+            done,
+        } = self;
+        Acquiring {
+            identity,
+            entries: marked(entries, done, stale),
+            done: done + 1,
+        }
+    }
+
+    /// The next block can't be acquired yet: the EDT waits for it.
+    pub fn wait(self) -> Waiting
+        requires { IsSome (next_of self) }
+        ensures { result ≡ self }
+    {
+        Waiting { acquiring: self }
+    }
+
+    /// The whole plan is done: the EDT runs, and holds what was acquired.
+    pub fn start(self) -> Running
+        requires { next_of self ≡ None }
+        ensures { result ≡ started self }
+    {
+        let Acquiring {
+            identity,
+            entries,
+            done: _,
+        } = self;
+        Running::begin(identity, entries)
+    }
+}
+
+/// The entries, where the one at this place has the mode `Null` if it was found stale.
+fn marked(mut entries: SmallVec<Want, 8>, place: usize, stale: bool) -> SmallVec<Want, 8>
+    requires { place < length entries.items }
+    ensures { result.items ≡ marked_at entries.items place stale }
+{
+    if stale {
+        mark_stale(entries.as_mut_slice(), place);
+    }
+    entries
+}
+
+fn mark_stale(entries: &mut [Want], place: usize)
+    requires { place < length entries.old }
+    ensures { entries.new ≡ marked_at entries.old place true }
+{
+    let entry = &mut entries[place];
+    entry.mode = Mode::Null;
+}
+
+/// An EDT that waits in the queue of its next block.
+#[derive(Drop)]
+pub struct Waiting {
+    acquiring: Acquiring,
+}
+
+impl Model for Waiting {
+    ghost use Rattle.std.specs.Prelude.{IsSome};
+    ghost use Rattle.ocr_edt.specs.Phases.{Progress, next_of};
+
+    ghost Value = { Progress };
+
+    ghost view = { λ w. w.acquiring };
+
+    ghost invariant = { λ w. IsSome (next_of w.acquiring) };
+}
+
+impl Waiting {
+    pub fn identity(&self) -> Identity
+        ensures { result ≡ self.now.identity }
+    {
+        self.acquiring.identity()
+    }
+
+    /// The queue let the EDT go on: its next block is the one that it waited for.
+    pub fn resumed(self) -> Acquiring
+        ensures state { result ≡ self }
+        ensures next { IsSome (next_of result) }
+    {
+        let Waiting { acquiring } = self;
+        acquiring
+    }
+}
