@@ -1,20 +1,37 @@
 //! The program: `ocr run` reads a task program on standard input, runs it, and writes what it prints.
 #![tactic(auto)]
 
-use ocr_io::{StderrSink, StdinSource, StdoutSink};
+use ocr_io::{Sink, StderrSink, StdinSource, StdoutSink, write_all};
 use ocr_run::ocr_main;
+use std::io::ErrorKind;
 use std::process::ExitCode;
 use std::{env, io};
 
-fn main(rt: HostRuntime) -> io::Result<ExitCode> {
-    let alloc = rt.alloc();
-    let mut words = Vec::new(alloc);
-    for word in env::args(&rt)?.skip(1) {
-        words.push(word)?;
-    }
+fn main(rt: HostRuntime) -> ExitCode {
     let mut input = StdinSource::new(rt.stdin());
     let mut out = StdoutSink::new(rt.stdout());
     let mut err = StderrSink::new(rt.stderr());
-    let ended = ocr_main(alloc, &words, &mut input, &mut out, &mut err);
-    Ok(ExitCode::from(ended.status))
+    let status = match words(&rt) {
+        Ok(words) => ocr_main(rt.alloc(), &words, &mut input, &mut out, &mut err).status,
+        Err(error) if error.kind() == ErrorKind::OutOfMemory => {
+            refuse(&mut err, 9, b"want of memory\n")
+        }
+        // A word is no text.
+        Err(_) => refuse(&mut err, 2, b"words refused\n"),
+    };
+    ExitCode::from(status)
+}
+
+// The words behind the program's name.
+fn words(rt: &HostRuntime) -> io::Result<Vec<String>> {
+    let mut words = Vec::new(rt.alloc());
+    for word in env::args(rt)?.skip(1) {
+        words.push(word)?;
+    }
+    Ok(words)
+}
+
+fn refuse<E: Sink>(err: &mut E, status: u8, line: &[u8]) -> u8 {
+    let _ = write_all(err, line);
+    status
 }
