@@ -1,10 +1,10 @@
 -- What the order of the program's types says of modes, and of blocks with their modes.
 use Rattle.std.proofs.Common.{◌≡◌, ℕ, ◌≤◌, Bool, false, List, arith}
 use Rattle.std.specs.List.Sorted.{IsSortedBy}
-use Rattle.std.specs.Ordering.{is_lt}
+use Rattle.std.specs.Ordering.{is_lt, ordering_then}
 use Rattle.std.proofs.lemmas.Bool.Decides.{nat_tests}
 use Rattle.ocr_acquire.specs.contracts.ModeOrd as of_modes
-use Rattle.ocr_acquire.specs.contracts.WantOrd as of_wants
+use Rattle.ocr_guid.specs.contracts.GuidOrd as of_guids
 use Rattle.ocr_acquire.specs.declared.Mode.{Mode}
 use Rattle.ocr_acquire.specs.declared.Mode.TheVariants as mode
 use Rattle.ocr_acquire.specs.Mode.{rank_of}
@@ -39,7 +39,7 @@ modes_tell mode.Ew mode.Rw h = omega arith
 modes_tell mode.Ew mode.Ew h = omega arith
 
 abbrev pub below : ℕ × Mode → ℕ × Mode → Bool
-below e f = is_lt (of_wants.TheImpl.ghosts.cmp e f)
+below e f = is_lt (ordering_then (of_guids.TheImpl.ghosts.cmp e.0 f.0) (of_modes.TheImpl.ghosts.cmp e.1 f.1))
 
 wants_tell : (e f : ℕ × Mode) → below f e ≡ false → IsUpTo e f
 wants_tell (a, m) (b, n) h = grind (arith, nat_tests, modes_tell)

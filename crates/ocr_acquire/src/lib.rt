@@ -70,37 +70,15 @@ pub fn fits(mode: Mode, holders: &[(Guid, Mode)]) -> bool
     true
 }
 
-/// A block, and the mode in which an EDT acquires it.
-#[derive(Clone, Copy, PartialEq, Eq, PartialOrd, Ord, Debug)]
-pub struct Want {
-    pub block: Guid,
-    pub mode: Mode,
-}
-
-// Contracts see the pair.
-impl Model for Want {
-    ghost use Rattle.std.specs.Prelude.{ℕ};
-    ghost use Rattle.ocr_acquire.specs.declared.Mode.{Mode};
-
-    ghost Value = { ℕ × Mode };
-
-    ghost view = { λ w. (w.block, w.mode) };
-
-    ghost inverse = { λ pair. record { block = pair.0; mode = pair.1 } };
-}
-
-impl Default for Want {
-    fn default() -> Want {
-        Want {
-            block: Guid::NULL,
-            mode: Mode::Null,
-        }
+impl Default for Mode {
+    fn default() -> Mode {
+        Mode::Null
     }
 }
 
 /// What an EDT acquires for the payloads and modes of its slots: the distinct blocks other than
 /// NULL_GUID whose strongest mode is not `Null`, rising, each in its strongest mode.
-pub fn plan(alloc: Global, slots: &[(Guid, Mode)]) -> Result<SmallVec<Want, 8>, NoMemory>
+pub fn plan(alloc: Global, slots: &[(Guid, Mode)]) -> Result<SmallVec<(Guid, Mode), 8>, NoMemory>
     ensures value { IfOk result (λ plan. plan.items ≡ plan_of slots.now) }
     ensures wanted { IfOk result (λ plan. IsPlan slots.now plan.items) }
     ensures well_formed { IfOk result (λ plan. IsWellFormed plan.items) }
@@ -111,7 +89,7 @@ pub fn plan(alloc: Global, slots: &[(Guid, Mode)]) -> Result<SmallVec<Want, 8>, 
 }
 
 /// The slots that ask for a block.
-fn asked(alloc: Global, slots: &[(Guid, Mode)]) -> Result<SmallVec<Want, 8>, NoMemory>
+fn asked(alloc: Global, slots: &[(Guid, Mode)]) -> Result<SmallVec<(Guid, Mode), 8>, NoMemory>
     ensures { IfOk result (λ entries. entries.items ≡ filter asks slots.now) }
 {
     let mut entries = SmallVec::new(alloc);
@@ -119,11 +97,7 @@ fn asked(alloc: Global, slots: &[(Guid, Mode)]) -> Result<SmallVec<Want, 8>, NoM
         if *block == Guid::NULL || *mode == Mode::Null {
             continue;
         }
-        let want = Want {
-            block: *block,
-            mode: *mode,
-        };
-        if entries.push(want).is_err() {
+        if entries.push((*block, *mode)).is_err() {
             return Err(NoMemory);
         }
     }
@@ -131,7 +105,7 @@ fn asked(alloc: Global, slots: &[(Guid, Mode)]) -> Result<SmallVec<Want, 8>, NoM
 }
 
 /// Of sorted entries the last of each block, which has its strongest mode.
-fn strongest(alloc: Global, entries: &[Want]) -> Result<SmallVec<Want, 8>, NoMemory>
+fn strongest(alloc: Global, entries: &[(Guid, Mode)]) -> Result<SmallVec<(Guid, Mode), 8>, NoMemory>
     ensures { IfOk result (λ plan. plan.items ≡ last_of_each entries.now) }
 {
     let mut plan = SmallVec::new(alloc);
@@ -139,7 +113,7 @@ fn strongest(alloc: Global, entries: &[Want]) -> Result<SmallVec<Want, 8>, NoMem
         let entry = entries[i];
         if i + 1 < entries.len() {
             let next = entries[i + 1];
-            if next.block == entry.block {
+            if next.0 == entry.0 {
                 continue;
             }
         }
@@ -181,16 +155,7 @@ mod tests {
             (Guid(9), Mode::Null),
         ];
         let plan = plan(rt.alloc(), &slots)?;
-        let wanted = [
-            Want {
-                block: Guid(3),
-                mode: Mode::Const,
-            },
-            Want {
-                block: Guid(7),
-                mode: Mode::Ew,
-            },
-        ];
+        let wanted = [(Guid(3), Mode::Const), (Guid(7), Mode::Ew)];
         assert_eq!(rt; plan.as_slice(), wanted.as_slice());
         Ok(())
     }

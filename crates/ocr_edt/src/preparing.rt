@@ -5,7 +5,7 @@ ghost use Rattle.ocr_edt.specs.Phases.{next_of, readied, advanced, started, mark
 
 use crate::Identity;
 use crate::executing::Running;
-use ocr_acquire::{Mode, Want};
+use ocr_acquire::Mode;
 use ocr_guid::Guid;
 use smallvec::SmallVec;
 use std::marker::Model;
@@ -45,7 +45,7 @@ impl Filling {
     }
 
     /// Every slot is set: the EDT goes on to acquire the blocks of its plan.
-    pub fn ready(self, plan: SmallVec<Want, 8>) -> Acquiring
+    pub fn ready(self, plan: SmallVec<(Guid, Mode), 8>) -> Acquiring
         requires { IsWellFormed plan.items }
         ensures { result ≡ readied self plan.items }
     {
@@ -63,7 +63,7 @@ impl Filling {
 pub struct Acquiring {
     identity: Identity,
     // the plan, where a block that was found stale has the mode `Null`
-    entries: SmallVec<Want, 8>,
+    entries: SmallVec<(Guid, Mode), 8>,
     done: usize,
 }
 
@@ -92,8 +92,7 @@ impl Acquiring {
         if self.done == entries.len() {
             return None;
         }
-        let want = entries[self.done];
-        Some((want.block, want.mode))
+        Some(entries[self.done])
     }
 
     /// The next block was acquired, or it was found stale.
@@ -136,7 +135,11 @@ impl Acquiring {
 }
 
 /// The entries, where the one at this place has the mode `Null` if it was found stale.
-fn marked(mut entries: SmallVec<Want, 8>, place: usize, stale: bool) -> SmallVec<Want, 8>
+fn marked(
+    mut entries: SmallVec<(Guid, Mode), 8>,
+    place: usize,
+    stale: bool,
+) -> SmallVec<(Guid, Mode), 8>
     requires { place < length entries.items }
     ensures { result.items ≡ marked_at entries.items place stale }
 {
@@ -146,12 +149,12 @@ fn marked(mut entries: SmallVec<Want, 8>, place: usize, stale: bool) -> SmallVec
     entries
 }
 
-fn mark_stale(entries: &mut [Want], place: usize)
+fn mark_stale(entries: &mut [(Guid, Mode)], place: usize)
     requires { place < length entries.old }
     ensures { entries.new ≡ marked_at entries.old place true }
 {
     let entry = &mut entries[place];
-    entry.mode = Mode::Null;
+    entry.1 = Mode::Null;
 }
 
 /// An EDT that waits in the queue of its next block.

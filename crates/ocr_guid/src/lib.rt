@@ -10,7 +10,7 @@ use std::marker::Model;
 
 /// The name of an object: a number from 1, in the order in which the names were drawn.
 /// 0 names nothing, and 2^64 - 1 is no object yet.
-#[derive(Clone, Copy, PartialEq, Eq, PartialOrd, Ord, Debug)]
+#[derive(Clone, Copy, PartialEq, Eq, PartialOrd, Ord, Default, Debug)]
 pub struct Guid(pub u64);
 
 // Contracts see a name as its number.
