@@ -96,7 +96,13 @@ fn prints_before_a_shutdown_stand_and_those_after_do_not(rt: HostRuntime) -> Res
 fn other_words_are_refused(rt: HostRuntime) -> Result<(), Fail> {
     let alloc = rt.alloc();
     let none = outcome_of(alloc, &[], FIRST.to_vec(alloc)?, 1000, NO_FAULTS)?;
-    let twice = outcome_of(alloc, &["run", "run"], FIRST.to_vec(alloc)?, 1000, NO_FAULTS)?;
+    let twice = outcome_of(
+        alloc,
+        &["run", "run"],
+        FIRST.to_vec(alloc)?,
+        1000,
+        NO_FAULTS,
+    )?;
     let other = outcome_of(alloc, &["Run"], FIRST.to_vec(alloc)?, 1000, NO_FAULTS)?;
     for done in [none, twice, other] {
         assert_eq!(rt; done.ended.status, 2);
