@@ -1,25 +1,39 @@
 -- The functions of a program by their numbers.
-use Rattle.std.proofs.Common.{◌≡◌, ◌<◌, ℕ, zero, suc, List, [], ◌∷◌, length, get_or, refl, arith, true, false, Bool, ◌&&◌}
-use Rattle.ocr_body.specs.View.{functions_of, statements_of}
+use Rattle.std.proofs.Common.{◌≡◌, ◌<◌, ◌+◌, ◌-◌, ℕ, zero, suc, List, [], ◌∷◌, length, get_or, map, refl, ap, sym, ◌∙◌, arith, true}
+use Rattle.ocr_body.specs.Tree.{FunctionTree, Statements}
+use Rattle.ocr_body.specs.Code.{body_in, bodies_in, is_sound, are_sound}
 use Rattle.ocr_body.specs.Serving.{statements_at}
-use Rattle.ocr_body.specs.FirstForm.{is_first_form, are_built}
-use Rattle.ocr_body.specs.declared.tree.Function.{Function}
+use Rattle.ocr_body.specs.declared.code.FunctionCode.{FunctionCode}
+use Rattle.ocr_body.proofs.Variables.{first_of, second_of}
 
-pub statements_at_place : (fs : List Function) (n : ℕ) (d : Function) → n < length fs → statements_at (functions_of fs) (suc n) ≡ statements_of (get_or fs n d).body.items
-statements_at_place [] n d h = absurd (omega (arith, h))
-statements_at_place (f ∷ fs) zero d h = refl
-statements_at_place (f ∷ fs) (suc n) d h = statements_at_place fs n d (omega (arith, h))
+-- there is code for each function
+pub as_many : (cs : List FunctionCode) (fs : List FunctionTree) → bodies_in cs ≡ map (λ f. f.body) fs → length cs ≡ length fs
+as_many [] [] same = refl
+as_many [] (f ∷ fs) same = cc same
+as_many (c ∷ cs) [] same = cc same
+as_many (c ∷ cs) (f ∷ fs) same =
+    let rest : bodies_in cs ≡ map (λ f. f.body) fs = cc same in
+    omega (arith, as_many cs fs rest)
 
--- the two sides of an and
-pub first_of : (a b : Bool) → (a && b) ≡ true → a ≡ true
-first_of true b h = refl
-first_of false b h = h
+body_at_suc : (cs : List FunctionCode) (fs : List FunctionTree) (n : ℕ) (d : FunctionCode) → bodies_in cs ≡ map (λ f. f.body) fs → n < length fs → body_in (get_or cs n d) ≡ statements_at fs (suc n)
+body_at_suc [] [] n d same less = absurd (omega (arith, less))
+body_at_suc [] (f ∷ fs) n d same less = cc same
+body_at_suc (c ∷ cs) [] n d same less = cc same
+body_at_suc (c ∷ cs) (f ∷ fs) zero d same less = cc same
+body_at_suc (c ∷ cs) (f ∷ fs) (suc n) d same less =
+    let rest : bodies_in cs ≡ map (λ f. f.body) fs = cc same in
+    body_at_suc cs fs n d rest (omega (arith, less))
 
-pub second_of : (a b : Bool) → (a && b) ≡ true → b ≡ true
-second_of true b h = h
-second_of false b h = cc h
+pub body_at : (cs : List FunctionCode) (fs : List FunctionTree) (number n : ℕ) (c : FunctionCode) → bodies_in cs ≡ map (λ f. f.body) fs → number ≡ n + 1 → n < length fs
+    → c ≡ get_or cs n c → body_in c ≡ statements_at fs number
+body_at cs fs number n c same is less at =
+    let there : number ≡ suc n = omega arith in
+    ap body_in at ∙ body_at_suc cs fs n c same less ∙ ap (statements_at fs) (sym there)
 
-pub built_at_place : (fs : List Function) (n : ℕ) (d : Function) → n < length fs → is_first_form (functions_of fs) ≡ true → are_built (statements_of (get_or fs n d).body.items) ≡ true
-built_at_place [] n d h all = absurd (omega (arith, h))
-built_at_place (f ∷ fs) zero d h all = first_of _ _ all
-built_at_place (f ∷ fs) (suc n) d h all = built_at_place fs n d (omega (arith, h)) (second_of _ _ all)
+sound_in : (cs : List FunctionCode) (n : ℕ) (d : FunctionCode) → are_sound cs ≡ true → n < length cs → is_sound (get_or cs n d) ≡ true
+sound_in [] n d are less = absurd (omega (arith, less))
+sound_in (c ∷ cs) zero d are less = first_of _ _ are
+sound_in (c ∷ cs) (suc n) d are less = sound_in cs n d (second_of _ _ are) (omega (arith, less))
+
+pub sound_at : (cs : List FunctionCode) (n : ℕ) (c : FunctionCode) → are_sound cs ≡ true → n < length cs → c ≡ get_or cs n c → is_sound c ≡ true
+sound_at cs n c are less at = ap is_sound at ∙ sound_in cs n c are less

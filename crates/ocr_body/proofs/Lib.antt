@@ -1,4 +1,11 @@
+pub mod Blocks
+pub mod Codes
 pub mod Functions
+pub mod Names
 pub mod Plain
+pub mod Rows
+pub mod Start
 pub mod Stopped
-pub mod Steps
+pub mod Turns
+pub mod Variables
+pub mod Weight

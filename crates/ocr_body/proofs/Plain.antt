@@ -5,7 +5,7 @@ use Rattle.ocr_body.specs.declared.call.Answer.{Answer}
 use Rattle.ocr_body.specs.Tree as tree
 use Rattle.ocr_body.specs.Tree.{Expression, Arguments, Statement, Statements, FunctionTree}
 use Rattle.ocr_body.specs.Meaning.{Frame, State, Value, exec, exec_all, asked}
-use Rattle.ocr_body.proofs.Functions.{first_of, second_of}
+use Rattle.ocr_body.proofs.Variables.{first_of, second_of}
 use Rattle.ocr_body.specs.Serving.{behaviour, statements_at}
 use Rattle.ocr_body.specs.FirstForm.{PlainLaw, is_first_form, IsPlain, is_built, are_built, count_of, is_number, is_shutdown, is_empty}
 use Rattle.ocr_body.specs.declared.tree.CallName.{CallName}
@@ -22,35 +22,37 @@ pub after_plain : (log : List Asked) (b : Behaviour) → IsPlain b → IsPlain (
 after_plain [] b h = h
 after_plain (asked ∷ earlier) b h = answered_plain (after earlier b) asked.answer (after_plain earlier b h)
 
-print_plain : (f : Frame) (e : Expression) (n : ℕ) (k : State → Behaviour) → is_number e ≡ true → IsPlain (k (record { fuel = n }))
-    → IsPlain (exec f (tree.Print e) (record { fuel = suc (suc n) }) k)
-print_plain f (tree.Number v) n k is rest = (tt, λ a. rest)
-print_plain f other n k is rest = cc is
+print_plain : (f : Frame) (e : Expression) (n code : ℕ) (variables : List ℕ → ℕ) (k : State → Behaviour) → is_number e ≡ true
+    → IsPlain (k (record { fuel = n; code = code; variables = variables }))
+    → IsPlain (exec f (tree.Print e) (record { fuel = suc (suc n); code = code; variables = variables }) k)
+print_plain f (tree.Number v) n code variables k is rest = (tt, λ a. rest)
+print_plain f other n code variables k is rest = cc is
 
-shutdown_plain : (made : CallName) (st : State) (k : Value) → is_shutdown made ≡ true → IsPlain (asked made st k)
-shutdown_plain name.Shutdown st k is = refl
-shutdown_plain other st k is = cc is
+shutdown_plain : (made : CallName) (xs : List ℕ) (st : State) (k : Value) → is_shutdown made ≡ true → IsPlain (asked made xs st k)
+shutdown_plain name.Shutdown xs st k is = refl
+shutdown_plain other xs st k is = cc is
 
-call_plain : (f : Frame) (made : CallName) (xs : Arguments) (n : ℕ) (k : State → Behaviour) → is_shutdown made ≡ true → is_empty xs ≡ true
-    → IsPlain (exec f (tree.Do made xs) (record { fuel = suc (suc n) }) k)
-call_plain f made tree.empty n k is none = shutdown_plain made (record { fuel = n }) (λ v st. k st) is
-call_plain f made other n k is none = cc none
+call_plain : (f : Frame) (made : CallName) (xs : Arguments) (n code : ℕ) (variables : List ℕ → ℕ) (k : State → Behaviour) → is_shutdown made ≡ true → is_empty xs ≡ true
+    → IsPlain (exec f (tree.Do made xs) (record { fuel = suc (suc n); code = code; variables = variables }) k)
+call_plain f made tree.empty n code variables k is none = shutdown_plain made [] (record { fuel = n; code = code; variables = variables }) (λ v st. k st) is
+call_plain f made other n code variables k is none = cc none
 
 -- a statement spends two units
-exec_plain : (f : Frame) (s : Statement) (n : ℕ) (k : State → Behaviour) → is_built s ≡ true → IsPlain (k (record { fuel = n }))
-    → IsPlain (exec f s (record { fuel = suc (suc n) }) k)
-exec_plain f (tree.Print e) n k is rest = print_plain f e n k is rest
-exec_plain f (tree.Do made xs) n k is rest = call_plain f made xs n k (first_of _ _ is) (second_of _ _ is)
-exec_plain f other n k is rest = cc is
+exec_plain : (f : Frame) (s : Statement) (n code : ℕ) (variables : List ℕ → ℕ) (k : State → Behaviour) → is_built s ≡ true
+    → IsPlain (k (record { fuel = n; code = code; variables = variables }))
+    → IsPlain (exec f s (record { fuel = suc (suc n); code = code; variables = variables }) k)
+exec_plain f (tree.Print e) n code variables k is rest = print_plain f e n code variables k is rest
+exec_plain f (tree.Do made xs) n code variables k is rest = call_plain f made xs n code variables k (first_of _ _ is) (second_of _ _ is)
+exec_plain f other n code variables k is rest = cc is
 
 -- the statements of a body spend two units each
-pub exec_all_plain : (f : Frame) (ss : Statements) (fuel : ℕ) (k : State → Behaviour) → are_built ss ≡ true → 2 * count_of ss ≤ fuel
-    → ((st : State) → IsPlain (k st)) → IsPlain (exec_all f ss (record { fuel = fuel }) k)
-exec_all_plain f tree.nothing fuel k is enough end = end (record { fuel = fuel })
-exec_all_plain f (tree.statement s rest) zero k is enough end = absurd (omega (arith, enough))
-exec_all_plain f (tree.statement s rest) (suc zero) k is enough end = absurd (omega (arith, enough))
-exec_all_plain f (tree.statement s rest) (suc (suc n)) k is enough end =
-    exec_plain f s n (λ st. exec_all f rest st k) (first_of _ _ is) (exec_all_plain f rest n k (second_of _ _ is) (omega (arith, enough)) end)
+pub exec_all_plain : (f : Frame) (ss : Statements) (fuel code : ℕ) (variables : List ℕ → ℕ) (k : State → Behaviour) → are_built ss ≡ true → 2 * count_of ss ≤ fuel
+    → ((st : State) → IsPlain (k st)) → IsPlain (exec_all f ss (record { fuel = fuel; code = code; variables = variables }) k)
+exec_all_plain f tree.nothing fuel code variables k is enough end = end (record { fuel = fuel; code = code; variables = variables })
+exec_all_plain f (tree.statement s rest) zero code variables k is enough end = absurd (omega (arith, enough))
+exec_all_plain f (tree.statement s rest) (suc zero) code variables k is enough end = absurd (omega (arith, enough))
+exec_all_plain f (tree.statement s rest) (suc (suc n)) code variables k is enough end =
+    exec_plain f s n code variables (λ st. exec_all f rest st k) (first_of _ _ is) (exec_all_plain f rest n code variables k (second_of _ _ is) (omega (arith, enough)) end)
 
 -- the statements of a function of a program that is built
 statements_built : (program : List FunctionTree) (n : ℕ) → is_first_form program ≡ true → are_built (statements_at program n) ≡ true
@@ -61,4 +63,4 @@ statements_built (f ∷ rest) (suc (suc n)) is = statements_built rest (suc n) (
 
 pub plain_law : PlainLaw
 plain_law b log is enough =
-    after_plain log (behaviour b) (exec_all_plain (record { params = b.params; depv = b.depv }) (statements_at b.program b.function) b.fuel (λ _. Ends 0) (statements_built b.program b.function is) enough (λ st. refl))
+    after_plain log (behaviour b) (exec_all_plain (record { params = b.params; depv = b.depv }) (statements_at b.program b.function) b.fuel 0 (λ x. 0) (λ _. Ends 0) (statements_built b.program b.function is) enough (λ st. refl))

@@ -1,4 +1,4 @@
--- The programs that are built: their statements are `print NUMBER;` and `ocrShutdown();`.
+-- The programs of the first form: their statements are `print NUMBER;` and `ocrShutdown();`.
 use Rattle.std.specs.Prelude.{◌≡◌, ◌+◌, ◌*◌, ◌≤◌, ℕ, List, [], ◌∷◌, Bool, true, false, ◌&&◌}
 use Rattle.ocr_body.specs.Tree as tree
 use Rattle.ocr_body.specs.Tree.{Expression, Arguments, Statement, Statements, FunctionTree}
@@ -52,6 +52,6 @@ IsPlain (Stops s) = s ≡ stop.Shutdown
 IsPlain (Asks made next) = IsPrint made × ((a : Answer) → IsPlain (next a))
 IsPlain NotBuilt = ⊥
 
--- a body that is built, with two units of fuel for each statement, prints and then ends or shuts down, whatever it is answered
+-- a body of the first form, with two units of fuel for each statement, prints and then ends or shuts down, whatever it is answered
 abbrev pub PlainLaw : Type 0
 PlainLaw = (b : Body) (log : List Asked) → is_first_form b.program ≡ true → 2 * count_of (statements_at b.program b.function) ≤ b.fuel → IsPlain (says b log)

@@ -1,9 +1,12 @@
 pub mod Behaviour
+pub mod Built
 pub mod Checked
+pub mod Code
 pub mod Constant
 pub mod FirstForm
 pub mod Local
 pub mod Meaning
+pub mod Resolved
 pub mod Serving
 pub mod Tree
 pub mod View

@@ -1,10 +1,26 @@
 -- What the walker keeps, as the meaning names it.
+use Rattle.std.specs.Prelude.{◌≡◌, ℕ, List, [], ◌∷◌, bytes_eq, if◌then◌else◌}
+use Rattle.ocr_body.specs.Behaviour.{Behaviour, Ends}
+use Rattle.ocr_body.specs.Serving.{IsDone}
 use Rattle.ocr_body.specs.Meaning.{State, Frame}
-use Rattle.ocr_body.specs.declared.walker.Local.{Local}
-use Rattle.ocr_body.specs.declared.walker.Frame as walker
+use Rattle.ocr_body.specs.declared.local.Flow.{Flow}
+use Rattle.ocr_body.specs.declared.local.Flow.TheVariants.{Next, Returned}
+use Rattle.ocr_body.specs.declared.local.Local.{Local}
+use Rattle.ocr_body.specs.declared.local.Frame as walker
 
-abbrev pub state_of : Local → State
-state_of local = record { fuel = local.fuel }
+-- the value of a name, by the places of the names
+abbrev pub value_in : List (List ℕ) → List ℕ → List ℕ → ℕ
+value_in [] values y = 0
+value_in (x ∷ names) [] y = 0
+value_in (x ∷ names) (v ∷ values) y = if bytes_eq x y then v else value_in names values y
+
+abbrev pub state_of : List (List ℕ) → Local → State
+state_of names local = record { fuel = local.fuel; code = local.code; variables = λ y. value_in names local.values.items y }
 
 abbrev pub frame_of : walker.Frame → Frame
 frame_of f = record { params = f.params.now; depv = f.deps.now }
+
+-- statements were done, or ended the body
+abbrev pub Flows : Behaviour → ((State → Behaviour) → Behaviour) → Flow → State → Behaviour → Type 0
+Flows before part Next st now = IsDone before part st now
+Flows before part (Returned g) st now = now ≡ Ends g

@@ -2,7 +2,7 @@
 use Rattle.std.specs.Prelude.{◌≡◌, ◌+◌, ◌-◌, ◌≤◌, ◌^◌, ℕ, zero, suc, min, List, [], ◌∷◌, if◌then◌else◌, bytes_eq, codes}
 use Rattle.ocr_body.specs.Tree.{FunctionTree, Statements, nothing}
 use Rattle.ocr_body.specs.Behaviour.{Behaviour, Ends, Stops, Asked, after, IsNext}
-use Rattle.ocr_body.specs.Meaning.{State, exec_all}
+use Rattle.ocr_body.specs.Meaning.{State, Value, exec_all, fresh}
 use Rattle.ocr_body.specs.declared.call.BodyStop.{BodyStop}
 use Rattle.ocr_body.specs.declared.call.BodyStop.TheVariants as stop
 
@@ -32,7 +32,7 @@ number_of_main program = number_named (codes "mainEdt") program
 
 -- what a body does from its start
 abbrev pub behaviour : Body → Behaviour
-behaviour b = exec_all (record { params = b.params; depv = b.depv }) (statements_at b.program b.function) (record { fuel = b.fuel }) (λ _. Ends 0)
+behaviour b = exec_all (record { params = b.params; depv = b.depv }) (statements_at b.program b.function) (fresh b.fuel) (λ _. Ends 0)
 
 -- what a body does after these calls, the newest of which stands first
 abbrev pub says : Body → List Asked → Behaviour
@@ -50,6 +50,14 @@ Begins left part = (k : State → Behaviour) × (left ≡ part k)
 -- this part was done, and left this state
 abbrev pub IsDone : Behaviour → ((State → Behaviour) → Behaviour) → State → Behaviour → Type 0
 IsDone before part st now = (k : State → Behaviour) → before ≡ part k → now ≡ k st
+
+-- what is left begins with this expression
+abbrev pub BeginsValue : Behaviour → (Value → Behaviour) → Type 0
+BeginsValue left part = (k : Value) × (left ≡ part k)
+
+-- this expression was found to have this value, and left this state
+abbrev pub HasValue : Behaviour → (Value → Behaviour) → ℕ → State → Behaviour → Type 0
+HasValue before part v st now = (k : Value) → before ≡ part k → now ≡ k v st
 
 -- a count rose, or stood at its last value
 abbrev pub Rose : ℕ → ℕ → Type 0

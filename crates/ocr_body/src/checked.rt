@@ -1,39 +1,59 @@
 // A program that may be run.
-ghost use Rattle.std.specs.Prelude.{◌≡◌, true};
-ghost use Rattle.ocr_body.specs.FirstForm.{is_first_form};
-ghost use Rattle.ocr_body.specs.View.{tree_of};
+use crate::code::FunctionCode;
+use crate::resolver::resolve;
+use crate::tree::Program;
+use ocr_guid::NoMemory;
+use std::alloc::Global;
+use std::marker::Model;
 
-use crate::tree::{Program, Stmt};
-
-/// A program that may be run: each of its statements is of a form that is built.
+/// A program that may be run, each of whose calls is built. Contracts see it as its functions.
 #[derive(Drop)]
 pub struct Checked {
     program: Program,
-    pub ghost first_form: { is_first_form (tree_of program) ≡ true },
+    code: Vec<FunctionCode>,
+}
+
+impl Model for Checked {
+    ghost use Rattle.std.specs.Prelude.{◌≡◌, map, true};
+    ghost use Rattle.ocr_body.specs.Code.{bodies_in, are_sound};
+    ghost use Rattle.ocr_body.specs.View.{tree_of};
+    ghost use Rattle.std.specs.Coded.{codes};
+    ghost use Rattle.ocr_body.specs.contracts.tree.Expr as expr;
+    ghost use Rattle.ocr_body.specs.contracts.tree.Stmt as stmt;
+    ghost use Rattle.ocr_body.specs.declared.tree.Program.{Program};
+
+    ghost Value = { Program };
+
+    ghost coded = { Prim.hlevel (codes, expr.the_row.coded, stmt.the_row.coded) };
+
+    ghost view = { λ c. c.program };
+
+    ghost invariant = { λ c. (bodies_in c.code.items ≡ map (λ f. f.body) (tree_of c.program)) × (are_sound c.code.items ≡ true) };
 }
 
 impl Checked {
-    ghost use Rattle.std.specs.Prelude.{◌≡◌, ◌≤◌, ◌<◌, length, true};
-    ghost use Rattle.ocr_body.specs.FirstForm.{is_first_form, are_built};
-    ghost use Rattle.ocr_body.specs.View.{tree_of, statements_of};
-    ghost use Rattle.ocr_body.specs.Serving.{statements_at};
+    ghost use Rattle.std.specs.Prelude.{◌≡◌, ◌≤◌, ◌<◌, length, true, IfOk};
+    ghost use Rattle.ocr_body.specs.Built.{are_built};
     ghost use Rattle.ocr_body.specs.Checked.{checked_tree};
+    ghost use Rattle.ocr_body.specs.Code.{body_in, is_sound};
+    ghost use Rattle.ocr_body.specs.Serving.{statements_at};
+    ghost use Rattle.ocr_body.specs.View.{tree_of};
 
-    /// Takes a program whose statements are all of a form that is built.
-    pub fn new(program: Program) -> Self
-        requires { is_first_form (tree_of program) ≡ true }
-        ensures { checked_tree result ≡ tree_of program }
+    /// Takes a program whose calls are all built.
+    pub fn new(alloc: Global, program: Program) -> Result<Self, NoMemory>
+        requires { are_built (tree_of program) ≡ true }
+        ensures { IfOk result (λ checked. checked_tree checked ≡ tree_of program) }
     {
-        Checked { program }
+        let code = resolve(alloc, &program)?;
+        Ok(Checked { program, code })
     }
 
-    /// The statements of function number n, from 1.
-    pub fn body(&self, function: u32) -> &[Stmt]
+    /// The code of function number n, from 1.
+    pub fn function(&self, function: u32) -> &FunctionCode
         requires { (0 < function) × (function ≤ length (checked_tree self.now)) }
-        ensures statements { statements_of result.now ≡ statements_at (checked_tree self.now) function }
-        ensures built { are_built (statements_of result.now) ≡ true }
+        ensures body { body_in result.now ≡ statements_at (checked_tree self.now) function }
+        ensures sound { is_sound result.now ≡ true }
     {
-        let function = &self.program.functions[function as usize - 1];
-        &function.body
+        &self.code[function as usize - 1]
     }
 }

@@ -4,14 +4,20 @@
 mod api;
 mod call;
 mod checked;
+mod code;
 mod first_form;
+mod local;
+mod operators;
+mod resolver;
 mod tree;
 mod walker;
 
 pub use api::Api;
 pub use call::{Answer, BodyStop, Call};
 pub use checked::Checked;
+pub use code::{FunctionCode, Invocation, Node, Step};
 pub use first_form::first_form_laws;
+pub use resolver::resolve;
 pub use tree::{
     BinaryOp, CallName, Constant, Expr, Function, Invoke, Name, Program, Stmt, UnaryOp,
 };

@@ -1,69 +1,139 @@
-// The walker, which runs a body by one plain walk over its tree.
-ghost use Rattle.std.specs.Prelude.{◌≡◌, ◌≤◌, ◌<◌, ◌+◌, [], true, ℕ, suc, IfOk, OnOk, IfErr, length};
+// The walker, which runs a body by one plain walk over its code.
+ghost use Rattle.std.specs.Prelude.{◌≡◌, ◌&&◌, ◌≤◌, ◌<◌, ◌+◌, [], true, List, ℕ, IfOk, OnOk, OnErr, IfErr, length, replicate};
 ghost use Rattle.ocr_body.specs.Behaviour.{Behaviour, Ends, Stops};
-ghost use Rattle.ocr_body.specs.Tree.{Number};
-ghost use Rattle.ocr_body.specs.Meaning.{State};
-ghost use Rattle.ocr_body.specs.Meaning as meaning;
-ghost use Rattle.ocr_body.specs.Serving.{Body, says, behaviour, IsTrace, Begins, IsDone, Rose, StoppedBy};
-ghost use Rattle.ocr_body.specs.FirstForm.{is_number, is_built, are_built};
-ghost use Rattle.ocr_body.specs.View.{expression_of, statement_of, statements_of};
 ghost use Rattle.ocr_body.specs.Checked.{checked_tree};
-ghost use Rattle.ocr_body.specs.Local.{state_of, frame_of};
+ghost use Rattle.ocr_body.specs.Code.{are_distinct, is_placed, is_call_placed, is_step_placed, are_placed, expression_at, called, arguments_at, statement_at, statements_in};
+ghost use Rattle.ocr_body.specs.Local.{state_of, frame_of, Flows};
+ghost use Rattle.ocr_body.specs.Meaning.{State, Value};
+ghost use Rattle.ocr_body.specs.Meaning as meaning;
+ghost use Rattle.ocr_body.specs.Tree.{While};
+ghost use Rattle.ocr_body.specs.Serving.{Body, says, behaviour, IsTrace, Begins, BeginsValue, IsDone, HasValue, Rose, StoppedBy};
 
 use crate::api::Api;
 use crate::call::{BodyStop, Call};
 use crate::checked::Checked;
-use crate::tree::{Expr, Invoke, Stmt};
-use ocr_guid::Guid;
+use crate::code::{Invocation, Node, Step};
+use crate::local::{Flow, Frame, Local, read, spend, write};
+use crate::operators::{apply, operate};
+use ocr_guid::{Guid, NoMemory};
+use std::alloc::Global;
 
-// What the walker keeps of a body: the fuel that is left.
-#[derive(Drop)]
-pub struct Local {
-    pub fuel: u64,
-}
-
-// What a body was given.
-#[derive(Clone, Copy)]
-pub struct Frame<'a> {
-    pub params: &'a [u64],
-    pub deps: &'a [Guid],
-}
-
-fn spend(local: &mut Local) -> Result<(), BodyStop>
-    ensures ok { OnOk result (local.old.fuel ≡ suc local.new.fuel) }
-    ensures err { IfErr result (λ e. (e ≡ BodyStop.Fuel) × (local.old.fuel ≡ 0)) }
+// The value of an expression.
+#[tactic(auto, using(crate::proofs::Stopped::stopped_later, crate::proofs::Stopped::stopped_by_body, crate::proofs::Stopped::eval_stopped, crate::proofs::Stopped::exec_stopped, crate::proofs::Stopped::says_more, crate::proofs::Stopped::stopped_by_refusal, crate::proofs::Variables::first_of, crate::proofs::Variables::second_of))]
+#[cycle(eval)]
+fn eval<A: Api>(frame: &Frame, node: &Node, local: &mut Local, api: &mut A) -> Result<u64, BodyStop>
+    requires ready { A.is_ready api.old }
+    requires distinct { are_distinct frame.now.names.now ≡ true }
+    requires room { length local.old.values.items ≡ length frame.now.names.now }
+    requires placed { is_placed (length frame.now.names.now) node.now ≡ true }
+    requires begins { BeginsValue (says (A.serves api.old) (A.log api.old))
+        (meaning.eval (frame_of frame.now) (expression_at frame.now.names.now node.now) (state_of frame.now.names.now local.old)) }
+    ensures ready { A.is_ready api.new }
+    ensures serves { A.serves api.new ≡ A.serves api.old }
+    ensures kept { A.kept api.new ≡ A.kept api.old }
+    ensures trace { IsTrace (behaviour (A.serves api.old)) (A.log api.old) →
+        IsTrace (behaviour (A.serves api.old)) (A.log api.new) }
+    ensures room { length local.new.values.items ≡ length frame.now.names.now }
+    ensures fuel { local.new.fuel ≤ local.old.fuel }
+    ensures ok { IfOk result (λ v. HasValue (says (A.serves api.old) (A.log api.old))
+        (meaning.eval (frame_of frame.now) (expression_at frame.now.names.now node.now) (state_of frame.now.names.now local.old)) v (state_of frame.now.names.now local.new)
+        (says (A.serves api.old) (A.log api.new))) }
+    ensures err { IfErr result (StoppedBy (says (A.serves api.old) (A.log api.new))
+        (Rose (A.closed api.old) (A.closed api.new))) }
+    ensures later { A.closed api.old ≤ A.closed api.new }
 {
-    if local.fuel == 0 {
-        return Err(BodyStop::Fuel);
+    if let Node::Invoke(made) = node {
+        return invoke(frame, made, local, api);
     }
-    local.fuel -= 1;
-    Ok(())
+    spend(local)?;
+    match node {
+        Node::Number(n) => Ok(*n),
+        Node::Constant(constant) => Ok(constant.value()),
+        Node::Variable(place) => Ok(read(frame, *place, local)),
+        Node::Paramc => Ok(frame.params.len() as u64),
+        Node::Depc => Ok(frame.deps.len() as u64),
+        Node::LastCode => Ok(local.code),
+        Node::Paramv(index) => {
+            let index = eval(frame, index, local, api)?;
+            if index >= frame.params.len() as u64 {
+                return Err(BodyStop::BadIndex);
+            }
+            Ok(frame.params[index as usize])
+        }
+        Node::Depv(index) => {
+            let index = eval(frame, index, local, api)?;
+            if index >= frame.deps.len() as u64 {
+                return Err(BodyStop::BadIndex);
+            }
+            let dependence = frame.deps[index as usize];
+            Ok(dependence.0)
+        }
+        Node::Unary(op, operand) => {
+            let x = eval(frame, operand, local, api)?;
+            Ok(apply(*op, x))
+        }
+        Node::Binary(op, left, right) => {
+            let x = eval(frame, left, local, api)?;
+            let y = eval(frame, right, local, api)?;
+            operate(*op, x, y)
+        }
+        Node::Invoke(_) => unreachable!(),
+    }
 }
 
-fn eval(expr: &Expr, local: &mut Local) -> Result<u64, BodyStop>
-    requires { is_number (expression_of expr.now) ≡ true }
-    ensures value { IfOk result (λ v. expression_of expr.now ≡ Number v) }
-    ensures fuel { OnOk result (local.old.fuel ≡ suc local.new.fuel) }
-    ensures err { IfErr result (λ e. (e ≡ BodyStop.Fuel) × (local.old.fuel ≡ 0)) }
+// A call, which is a node of its own.
+#[tactic(auto, using(crate::proofs::Stopped::stopped_later, crate::proofs::Stopped::stopped_by_body, crate::proofs::Stopped::eval_stopped, crate::proofs::Stopped::exec_stopped, crate::proofs::Stopped::says_more, crate::proofs::Stopped::stopped_by_refusal, crate::proofs::Variables::first_of, crate::proofs::Variables::second_of))]
+#[cycle(eval)]
+fn invoke<A: Api>(
+    frame: &Frame,
+    made: &Invocation,
+    local: &mut Local,
+    api: &mut A,
+) -> Result<u64, BodyStop>
+    requires ready { A.is_ready api.old }
+    requires distinct { are_distinct frame.now.names.now ≡ true }
+    requires room { length local.old.values.items ≡ length frame.now.names.now }
+    requires placed { is_call_placed (length frame.now.names.now) made.now ≡ true }
+    requires begins { BeginsValue (says (A.serves api.old) (A.log api.old))
+        (meaning.invoke (frame_of frame.now) (called made.now) (arguments_at frame.now.names.now made.now) (state_of frame.now.names.now local.old)) }
+    ensures ready { A.is_ready api.new }
+    ensures serves { A.serves api.new ≡ A.serves api.old }
+    ensures kept { A.kept api.new ≡ A.kept api.old }
+    ensures trace { IsTrace (behaviour (A.serves api.old)) (A.log api.old) →
+        IsTrace (behaviour (A.serves api.old)) (A.log api.new) }
+    ensures room { length local.new.values.items ≡ length frame.now.names.now }
+    ensures fuel { local.new.fuel ≤ local.old.fuel }
+    ensures ok { IfOk result (λ v. HasValue (says (A.serves api.old) (A.log api.old))
+        (meaning.invoke (frame_of frame.now) (called made.now) (arguments_at frame.now.names.now made.now) (state_of frame.now.names.now local.old)) v (state_of frame.now.names.now local.new)
+        (says (A.serves api.old) (A.log api.new))) }
+    ensures err { IfErr result (StoppedBy (says (A.serves api.old) (A.log api.new))
+        (Rose (A.closed api.old) (A.closed api.new))) }
+    ensures later { A.closed api.old ≤ A.closed api.new }
 {
     spend(local)?;
-    match expr {
-        Expr::Number(n) => Ok(*n),
-        _ => unreachable!(),
+    match made {
+        Invocation::Shutdown => Err(BodyStop::Shutdown),
+        Invocation::Abort(code) => {
+            let code = eval(frame, code, local, api)?;
+            Err(BodyStop::Abort(code))
+        }
     }
 }
 
+// A call of print.
 #[tactic(auto, using(crate::proofs::Stopped::says_more, crate::proofs::Stopped::stopped_by_refusal))]
-fn print<A: Api>(value: u64, local: &Local, api: &mut A) -> Result<(), BodyStop>
+fn print<A: Api>(frame: &Frame, value: u64, local: &Local, api: &mut A) -> Result<(), BodyStop>
     requires ready { A.is_ready api.old }
-    requires begins { Begins (says (A.serves api.old) (A.log api.old)) (meaning.printed value (state_of local.now)) }
+    requires begins { Begins (says (A.serves api.old) (A.log api.old))
+        (meaning.printed value (state_of frame.now.names.now local.now)) }
     ensures ready { A.is_ready api.new }
     ensures serves { A.serves api.new ≡ A.serves api.old }
     ensures kept { A.kept api.new ≡ A.kept api.old }
     ensures trace { IsTrace (behaviour (A.serves api.old)) (A.log api.old) →
         IsTrace (behaviour (A.serves api.old)) (A.log api.new) }
     ensures ok { OnOk result (IsDone (says (A.serves api.old) (A.log api.old))
-        (meaning.printed value (state_of local.now)) (state_of local.now) (says (A.serves api.old) (A.log api.new))) }
+        (meaning.printed value (state_of frame.now.names.now local.now)) (state_of frame.now.names.now local.now)
+        (says (A.serves api.old) (A.log api.new))) }
     ensures err { IfErr result (StoppedBy (says (A.serves api.old) (A.log api.new))
         (Rose (A.closed api.old) (A.closed api.new))) }
     ensures later { A.closed api.old ≤ A.closed api.new }
@@ -73,73 +143,165 @@ fn print<A: Api>(value: u64, local: &Local, api: &mut A) -> Result<(), BodyStop>
     Ok(())
 }
 
-// Runs a statement. Only these two forms are built.
-#[tactic(auto, using(crate::proofs::Stopped::stopped_by_body, crate::proofs::Steps::exec_stopped, crate::proofs::Steps::print_stopped, crate::proofs::Steps::shutdown_stopped, crate::proofs::Steps::shutdown_shuts))]
-fn exec<A: Api>(frame: &Frame, stmt: &Stmt, local: &mut Local, api: &mut A) -> Result<(), BodyStop>
+// Runs a statement.
+#[tactic(auto, using(crate::proofs::Stopped::stopped_later, crate::proofs::Stopped::stopped_by_body, crate::proofs::Stopped::eval_stopped, crate::proofs::Stopped::exec_stopped, crate::proofs::Stopped::says_more, crate::proofs::Stopped::stopped_by_refusal, crate::proofs::Variables::first_of, crate::proofs::Variables::second_of))]
+#[cycle(exec)]
+fn exec<A: Api>(
+    frame: &Frame,
+    step: &Step,
+    local: &mut Local,
+    api: &mut A,
+) -> Result<Flow, BodyStop>
     requires ready { A.is_ready api.old }
-    requires built { is_built (statement_of stmt.now) ≡ true }
+    requires distinct { are_distinct frame.now.names.now ≡ true }
+    requires room { length local.old.values.items ≡ length frame.now.names.now }
+    requires placed { is_step_placed (length frame.now.names.now) step.now ≡ true }
     requires begins { Begins (says (A.serves api.old) (A.log api.old))
-        (meaning.exec (frame_of frame.now) (statement_of stmt.now) (state_of local.old)) }
+        (meaning.exec (frame_of frame.now) (statement_at frame.now.names.now step.now) (state_of frame.now.names.now local.old)) }
     ensures ready { A.is_ready api.new }
     ensures serves { A.serves api.new ≡ A.serves api.old }
     ensures kept { A.kept api.new ≡ A.kept api.old }
     ensures trace { IsTrace (behaviour (A.serves api.old)) (A.log api.old) →
         IsTrace (behaviour (A.serves api.old)) (A.log api.new) }
-    ensures ok { OnOk result (IsDone (says (A.serves api.old) (A.log api.old))
-        (meaning.exec (frame_of frame.now) (statement_of stmt.now) (state_of local.old)) (state_of local.new)
+    ensures room { length local.new.values.items ≡ length frame.now.names.now }
+    ensures fuel { local.new.fuel ≤ local.old.fuel }
+    ensures ok { IfOk result (λ flow. Flows (says (A.serves api.old) (A.log api.old))
+        (meaning.exec (frame_of frame.now) (statement_at frame.now.names.now step.now) (state_of frame.now.names.now local.old)) flow (state_of frame.now.names.now local.new)
         (says (A.serves api.old) (A.log api.new))) }
     ensures err { IfErr result (StoppedBy (says (A.serves api.old) (A.log api.new))
         (Rose (A.closed api.old) (A.closed api.new))) }
     ensures later { A.closed api.old ≤ A.closed api.new }
 {
+    if let Step::While(test, body) = step {
+        return repeat(frame, test, body, local, api);
+    }
     spend(local)?;
-    match stmt {
-        Stmt::Print { value } => {
-            let value = eval(value, local)?;
-            print(value, local, api)
+    match step {
+        Step::Let(place, value) | Step::Assign(place, value) => {
+            let value = eval(frame, value, local, api)?;
+            write(frame, *place, value, local);
+            Ok(Flow::Next)
         }
-        Stmt::Invoke(Invoke::Shutdown) => {
-            spend(local)?;
-            Err(BodyStop::Shutdown)
+        Step::If(test, yes, no) => {
+            let value = eval(frame, test, local, api)?;
+            if value == 0 {
+                exec_all(frame, no, local, api)
+            } else {
+                exec_all(frame, yes, local, api)
+            }
         }
-        _ => unreachable!(),
+        Step::Print(value) => {
+            let value = eval(frame, value, local, api)?;
+            print(frame, value, local, api)?;
+            Ok(Flow::Next)
+        }
+        Step::Return(value) => {
+            let value = eval(frame, value, local, api)?;
+            Ok(Flow::Returned(Guid(value)))
+        }
+        Step::Invoke(made) => {
+            invoke(frame, made, local, api)?;
+            Ok(Flow::Next)
+        }
+        Step::While(_, _) => unreachable!(),
     }
 }
 
-#[tactic(auto, using(crate::proofs::Stopped::stopped_later))]
-fn exec_all<A: Api>(
+// Runs a loop.
+#[tactic(auto, using(crate::proofs::Stopped::stopped_later, crate::proofs::Stopped::stopped_by_body, crate::proofs::Stopped::eval_stopped, crate::proofs::Stopped::exec_stopped, crate::proofs::Stopped::says_more, crate::proofs::Stopped::stopped_by_refusal, crate::proofs::Variables::first_of, crate::proofs::Variables::second_of))]
+#[cycle(exec)]
+fn repeat<A: Api>(
     frame: &Frame,
-    stmts: &[Stmt],
+    test: &Node,
+    steps: &[Step],
     local: &mut Local,
     api: &mut A,
-) -> Result<(), BodyStop>
+) -> Result<Flow, BodyStop>
     requires ready { A.is_ready api.old }
-    requires built { are_built (statements_of stmts.now) ≡ true }
+    requires distinct { are_distinct frame.now.names.now ≡ true }
+    requires room { length local.old.values.items ≡ length frame.now.names.now }
+    requires placed { (is_placed (length frame.now.names.now) test.now && are_placed (length frame.now.names.now) steps.now) ≡ true }
     requires begins { Begins (says (A.serves api.old) (A.log api.old))
-        (meaning.exec_all (frame_of frame.now) (statements_of stmts.now) (state_of local.old)) }
+        (meaning.exec (frame_of frame.now) (While (expression_at frame.now.names.now test.now) (statements_in frame.now.names.now steps.now)) (state_of frame.now.names.now local.old)) }
     ensures ready { A.is_ready api.new }
     ensures serves { A.serves api.new ≡ A.serves api.old }
     ensures kept { A.kept api.new ≡ A.kept api.old }
     ensures trace { IsTrace (behaviour (A.serves api.old)) (A.log api.old) →
         IsTrace (behaviour (A.serves api.old)) (A.log api.new) }
-    ensures ok { OnOk result (IsDone (says (A.serves api.old) (A.log api.old))
-        (meaning.exec_all (frame_of frame.now) (statements_of stmts.now) (state_of local.old)) (state_of local.new)
+    ensures room { length local.new.values.items ≡ length frame.now.names.now }
+    ensures fuel { local.new.fuel ≤ local.old.fuel }
+    ensures ok { IfOk result (λ flow. Flows (says (A.serves api.old) (A.log api.old))
+        (meaning.exec (frame_of frame.now) (While (expression_at frame.now.names.now test.now) (statements_in frame.now.names.now steps.now)) (state_of frame.now.names.now local.old)) flow (state_of frame.now.names.now local.new)
         (says (A.serves api.old) (A.log api.new))) }
     ensures err { IfErr result (StoppedBy (says (A.serves api.old) (A.log api.new))
         (Rose (A.closed api.old) (A.closed api.new))) }
     ensures later { A.closed api.old ≤ A.closed api.new }
 {
-    for stmt in stmts {
-        exec(frame, stmt, local, api)?;
+    loop {
+        spend(local)?; // for the turn
+        let value = eval(frame, test, local, api)?;
+        if value == 0 {
+            return Ok(Flow::Next);
+        }
+        if let Flow::Returned(guid) = exec_all(frame, steps, local, api)? {
+            return Ok(Flow::Returned(guid));
+        }
     }
-    Ok(())
+}
+
+// Runs statements one after another.
+#[tactic(auto, using(crate::proofs::Stopped::stopped_later, crate::proofs::Stopped::stopped_by_body, crate::proofs::Stopped::eval_stopped, crate::proofs::Stopped::exec_stopped, crate::proofs::Stopped::says_more, crate::proofs::Stopped::stopped_by_refusal, crate::proofs::Variables::first_of, crate::proofs::Variables::second_of))]
+#[cycle(exec)]
+fn exec_all<A: Api>(
+    frame: &Frame,
+    steps: &[Step],
+    local: &mut Local,
+    api: &mut A,
+) -> Result<Flow, BodyStop>
+    requires ready { A.is_ready api.old }
+    requires distinct { are_distinct frame.now.names.now ≡ true }
+    requires room { length local.old.values.items ≡ length frame.now.names.now }
+    requires placed { are_placed (length frame.now.names.now) steps.now ≡ true }
+    requires begins { Begins (says (A.serves api.old) (A.log api.old))
+        (meaning.exec_all (frame_of frame.now) (statements_in frame.now.names.now steps.now) (state_of frame.now.names.now local.old)) }
+    ensures ready { A.is_ready api.new }
+    ensures serves { A.serves api.new ≡ A.serves api.old }
+    ensures kept { A.kept api.new ≡ A.kept api.old }
+    ensures trace { IsTrace (behaviour (A.serves api.old)) (A.log api.old) →
+        IsTrace (behaviour (A.serves api.old)) (A.log api.new) }
+    ensures room { length local.new.values.items ≡ length frame.now.names.now }
+    ensures fuel { local.new.fuel ≤ local.old.fuel }
+    ensures ok { IfOk result (λ flow. Flows (says (A.serves api.old) (A.log api.old))
+        (meaning.exec_all (frame_of frame.now) (statements_in frame.now.names.now steps.now) (state_of frame.now.names.now local.old)) flow (state_of frame.now.names.now local.new)
+        (says (A.serves api.old) (A.log api.new))) }
+    ensures err { IfErr result (StoppedBy (says (A.serves api.old) (A.log api.new))
+        (Rose (A.closed api.old) (A.closed api.new))) }
+    ensures later { A.closed api.old ≤ A.closed api.new }
+{
+    for step in steps {
+        if let Flow::Returned(guid) = exec(frame, step, local, api)? {
+            return Ok(Flow::Returned(guid));
+        }
+    }
+    Ok(Flow::Next)
+}
+
+// As many zeros.
+fn zeros(alloc: Global, count: usize) -> Result<Vec<u64>, NoMemory>
+    ensures { IfOk result (λ values. values.items ≡ replicate count 0) }
+{
+    match Vec::from_elem(alloc, 0, count) {
+        Ok(values) => Ok(values),
+        Err(_) => Err(NoMemory),
+    }
 }
 
 /// Runs a body to its end. It makes the calls that the body's meaning says, in their order, and ends as it says;
 /// `Closed` comes only where the run was found closed in this call, and any other stop but want of memory
 /// exactly where the body says it next.
-#[tactic(auto, using(crate::proofs::Stopped::stopped_later))]
+#[tactic(auto, using(crate::proofs::Stopped::stopped_later, crate::proofs::Variables::first_of, crate::proofs::Variables::second_of))]
 pub fn walk<A: Api>(
+    alloc: Global,
     program: &Checked,
     function: u32,
     params: &[u64],
@@ -166,8 +328,22 @@ pub fn walk<A: Api>(
         (Rose (A.closed api.old) (A.closed api.new))) }
     ensures later { A.closed api.old ≤ A.closed api.new }
 {
-    let mut local = Local { fuel };
-    let frame = Frame { params, deps };
-    exec_all(&frame, program.body(function), &mut local, api)?;
-    Ok(Guid::NULL)
+    let code = program.function(function);
+    let Ok(values) = zeros(alloc, code.names.len()) else {
+        return Err(BodyStop::NoMemory)
+    };
+    let mut local = Local {
+        fuel,
+        code: 0,
+        values,
+    };
+    let frame = Frame {
+        params,
+        deps,
+        names: &code.names,
+    };
+    match exec_all(&frame, &code.body, &mut local, api)? {
+        Flow::Next => Ok(Guid::NULL),
+        Flow::Returned(guid) => Ok(guid),
+    }
 }

@@ -5,8 +5,11 @@ use Rattle.ocr_text.specs.declared.token.Token.{Token}
 use Rattle.ocr_text.specs.declared.token.TokenKind.{TokenKind}
 use Rattle.ocr_text.specs.declared.token.TokenKind.TheVariants as kind
 use Rattle.ocr_body.specs.Tree as tree
-use Rattle.ocr_body.specs.Tree.{Statement, Statements, FunctionTree}
-use Rattle.ocr_body.specs.FirstForm.{is_built, are_built, count_of}
+use Rattle.ocr_body.specs.Built as calls
+use Rattle.ocr_body.specs.declared.tree.CallName.{CallName}
+use Rattle.ocr_body.specs.declared.tree.CallName.TheVariants as name
+use Rattle.ocr_body.specs.Tree.{Expression, Arguments, Statement, Statements, FunctionTree}
+use Rattle.ocr_body.specs.FirstForm.{is_number, is_shutdown, is_empty, is_built, are_built, is_first_form, count_of}
 use Rattle.ocr_run.specs.ProgramText.{IsStatement, print, shutdown, AreStatements, IsProgramText, words_with, words_of}
 use Rattle.ocr_run.specs.UnderWay.{IsRunnable}
 use Rattle.ocr_run.proofs.Words.{front_of}
@@ -55,3 +58,37 @@ runnable bytes program text =
     let enough : 2 * count_of w.body ≤ 1000000 =
     omega (arith, counted w.body w.inside _ w.statements, ap length w.begins, ap length w.main, ap length w.opening, few_words bytes text.tokens, tiled bytes text.tokens 0 (length bytes) text.are_tokens, text.size) in
     subst IsRunnable (sym w.is) (main_runnable w.body (built_statements w.body w.inside _ w.statements) enough)
+
+-- the calls of a program of the first form are built
+number_built : (e : Expression) → is_number e ≡ true → calls.is_built e ≡ true
+number_built (tree.Number n) is = refl
+number_built other is = cc is
+
+shutdown_built : (made : CallName) → is_shutdown made ≡ true → calls.is_call_built made ≡ true
+shutdown_built name.Shutdown is = refl
+shutdown_built other is = cc is
+
+no_arguments_built : (xs : Arguments) → is_empty xs ≡ true → calls.are_arguments_built xs ≡ true
+no_arguments_built tree.empty is = refl
+no_arguments_built other is = cc is
+
+first_of : (a b : Bool) → (a && b) ≡ true → a ≡ true
+first_of true b h = refl
+first_of false b h = h
+
+second_of : (a b : Bool) → (a && b) ≡ true → b ≡ true
+second_of true b h = h
+second_of false b h = cc h
+
+statement_built : (s : Statement) → is_built s ≡ true → calls.is_statement_built s ≡ true
+statement_built (tree.Print e) is = number_built e is
+statement_built (tree.Do made xs) is = both _ _ (shutdown_built made (first_of _ _ is)) (no_arguments_built xs (second_of _ _ is))
+statement_built other is = cc is
+
+body_built : (ss : Statements) → are_built ss ≡ true → calls.are_statements_built ss ≡ true
+body_built tree.nothing is = refl
+body_built (tree.statement s ss) is = both _ _ (statement_built s (first_of _ _ is)) (body_built ss (second_of _ _ is))
+
+pub calls_built : (program : List FunctionTree) → is_first_form program ≡ true → calls.are_built program ≡ true
+calls_built [] is = refl
+calls_built (f ∷ rest) is = both _ _ (body_built f.body (first_of _ _ is)) (calls_built rest (second_of _ _ is))

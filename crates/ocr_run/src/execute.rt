@@ -29,8 +29,8 @@ pub fn execute(alloc: Global, bytes: &[u8]) -> Result<Option<Executed>, NoMemory
     let Some(program) = read(alloc, bytes)? else {
         return Ok(None)
     };
-    let program = Checked::new(program);
-    let done = run(alloc, &program)?;
+    let checked = Checked::new(alloc, program)?;
+    let done = run(alloc, &checked)?;
     let Ok(text) = output(alloc, done.journal.entries()) else {
         return Err(NoMemory)
     };

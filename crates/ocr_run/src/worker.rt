@@ -43,7 +43,7 @@ pub fn run(alloc: Global, program: &Checked) -> Result<Done, NoMemory>
         program,
         log,
     };
-    let ending = walk(program, 1, &[], &[ARGUMENTS], FUEL, &mut desk);
+    let ending = walk(alloc, program, 1, &[], &[ARGUMENTS], FUEL, &mut desk);
     let Desk {
         alloc: _,
         program: _,

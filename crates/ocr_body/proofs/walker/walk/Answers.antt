@@ -1,15 +1,28 @@
-use Rattle.std.proofs.Common.{◌∙◌, ap, sym, List}
-use Rattle.ocr_body.specs.Behaviour.{Ends, Asked}
-use Rattle.ocr_body.specs.Meaning as meaning
-use Rattle.ocr_body.specs.Serving.{says, behaviour}
-use Rattle.ocr_body.specs.Tree.{Statements}
+use Rattle.std.proofs.Common.{◌≡◌, ◌∙◌, refl}
+use Rattle.ocr_body.specs.Behaviour.{Ends}
+use Rattle.ocr_body.specs.Checked.{checked_tree}
+use Rattle.ocr_body.specs.Code.{statements_in}
+use Rattle.ocr_body.specs.Serving.{statements_at, by_memory}
+use Rattle.ocr_body.proofs.Start.{starts, state_is_fresh}
+use Rattle.ocr_body.proofs.Turns.{flowed_on}
 use Rattle.ocr_body.proofs.walker.walk.Goals as goal
 
--- at its start the body is all that is left
 pub exec_all-requires-clause-begins : goal.exec_all-requires-clause-begins
-exec_all-requires-clause-begins g c = (
-  λ _. Ends 0,
-  ap (λ (l : List Asked). says (g.A.Api.serves c.args.api.now) l) c.requires.fresh
-      ∙ ap behaviour c.requires.serves
-      ∙ ap (λ (s : Statements). meaning.exec_all (record { params = c.args.params.now; depv = c.args.deps.now }) s (record { fuel = c.args.fuel }) (λ _. Ends 0)) (sym c.body.ensures.statements),
-)
+exec_all-requires-clause-begins g c =
+    let body : statements_in c.deref.result.now c.deref-2.result.now ≡ statements_at (checked_tree c.args.program.now) c.args.function =
+    (λ i. statements_in (c.deref.ensures.value i) (c.deref-2.ensures.value i)) ∙ c.function-code.ensures.body in (
+      λ _. Ends 0,
+      starts _ _ (checked_tree c.args.program.now) c.args.function c.args.params.now c.args.deps.now c.args.fuel _ _ c.requires.serves c.requires.fresh body
+          (state_is_fresh c.deref.result.now (record { fuel = c.args.fuel; code = 0; values = c.in-Ok.values }) c.args.fuel _ refl refl c.in-Ok.ensures),
+    )
+
+pub returns-in-Next-clause-ok : goal.returns-in-Next-clause-ok
+returns-in-Next-clause-ok g c =
+    let body : statements_in c.deref.result.now c.deref-2.result.now ≡ statements_at (checked_tree c.args.program.now) c.args.function =
+    (λ i. statements_in (c.deref.ensures.value i) (c.deref-2.ensures.value i)) ∙ c.function-code.ensures.body in
+    flowed_on _ _ _ _ _ c.in-Next.is c.in_ok-exec_all.ensures.ok (λ _. Ends 0)
+    (starts _ _ (checked_tree c.args.program.now) c.args.function c.args.params.now c.args.deps.now c.args.fuel _ _ c.requires.serves c.requires.fresh body
+    (state_is_fresh c.deref.result.now (record { fuel = c.args.fuel; code = 0; values = c.in-Ok.values }) c.args.fuel _ refl refl c.in-Ok.ensures))
+
+pub returns-in_default-clause-err : goal.returns-in_default-clause-err
+returns-in_default-clause-err g c = by_memory

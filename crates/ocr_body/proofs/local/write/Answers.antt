@@ -1,0 +1,12 @@
+use Rattle.std.proofs.Common.{◌≡◌, ℕ, List}
+use Rattle.ocr_body.specs.Meaning.{State}
+use Rattle.ocr_body.proofs.Variables.{value_set}
+use Rattle.ocr_body.proofs.local.write.Goals as goal
+
+pub returns-clause-state : goal.returns-clause-state
+returns-clause-state c =
+    λ i. record {
+      fuel = c.args.local.now.fuel;
+      code = c.args.local.now.code;
+      variables = λ y. value_set c.args.frame.now.names.now c.args.local.now.values.items c.args.place c.args.value y c.requires.place c.requires.room c.requires.distinct i;
+    }

@@ -1,0 +1,235 @@
+use Rattle.std.proofs.Common.{rules, arith, ◌≡◌, ◌∙◌, sym, ap, subst, ◌+◌, ◌-◌, ◌<◌, ◌≤◌, ◌∷◌, ◌&&◌, ℕ, suc, List, true, Bool, length, drop, refl, IfOk}
+use Rattle.std.proofs.lemmas.Grind.{common_steps}
+use Rattle.ocr_body.specs.Behaviour.{Behaviour, Stops}
+use Rattle.ocr_body.specs.Tree as tree
+use Rattle.ocr_body.specs.Code.{statement_at, statements_in, expression_at, is_step_placed, is_placed, are_placed}
+use Rattle.ocr_body.specs.Meaning as meaning
+use Rattle.ocr_body.specs.Local.{state_of, frame_of, Flows}
+use Rattle.ocr_body.specs.Serving.{Body, says, behaviour, Begins, IsTrace, IsDone, StoppedBy, Rose}
+use Rattle.ocr_body.specs.declared.code.Step.{Step}
+use Rattle.ocr_body.proofs.Weight.{weight, weights, weight_at}
+use Rattle.ocr_body.proofs.Rows.{if_view, while_view, if_placed, while_placed}
+use Rattle.ocr_body.proofs.Stopped.{stopped_by_body}
+use Rattle.ocr_body.proofs.Turns.{tested, turn_begins, turn_ends, turn_goes_on, turn_stops, turns_left, flows_along, flowed_on}
+use Rattle.ocr_body.proofs.Variables.{first_of, second_of}
+use Rattle.ocr_body.proofs.walker.+exec.Goals as goal
+
+pub exec-repeat-requires : goal.exec-repeat-requires
+exec-repeat-requires g t c = λ κs l.
+    let names = c.args.frame.now.names.now in
+    let items : c.deref.result.now ≡ c.in-While.body.items = c.deref.ensures.value in
+    let view : statement_at names c.args.step.now ≡ tree.While (expression_at names c.in-While.test) (statements_in names c.deref.result.now) =
+    ap (statement_at names) c.in-While.is ∙ while_view names c.in-While.test c.in-While.body
+    ∙ ap (λ (ss : List Step). tree.While (expression_at names c.in-While.test) (statements_in names ss)) (sym items) in
+    let placed : (is_placed (length names) c.in-While.test && are_placed (length names) c.deref.result.now) ≡ true =
+    ap (λ (ss : List Step). is_placed (length names) c.in-While.test && are_placed (length names) ss) items
+    ∙ sym (ap (is_step_placed (length names)) c.in-While.is ∙ while_placed (length names) c.in-While.test c.in-While.body) ∙ c.requires.placed in
+    let P : tree.Statement → Type 0 = λ s. Begins (says (g.A.Api.serves c.args.api.now) (g.A.Api.log c.args.api.now)) (meaning.exec (frame_of c.args.frame.now) s (state_of names c.args.local.now)) in
+    (omega (arith, ap weight view), (l.0, (l.1, (c.requires.ready, (c.requires.distinct, (c.requires.room, (placed, subst P view c.requires.begins)))))))
+
+pub exec-returns-in-While-clause-ok : goal.exec-returns-in-While-clause-ok
+exec-returns-in-While-clause-ok g t c =
+    let names = c.args.frame.now.names.now in
+    let items : c.deref.result.now ≡ c.in-While.body.items = c.deref.ensures.value in
+    let view : statement_at names c.args.step.now ≡ tree.While (expression_at names c.in-While.test) (statements_in names c.deref.result.now) =
+    ap (statement_at names) c.in-While.is ∙ while_view names c.in-While.test c.in-While.body
+    ∙ ap (λ (ss : List Step). tree.While (expression_at names c.in-While.test) (statements_in names ss)) (sym items) in
+    flows_along _ _ _ _ _ _ _ _ view c.repeat.ensures.ok
+
+pub repeat-returns-in_err-spend-clause-err : goal.repeat-returns-in_err-spend-clause-err
+repeat-returns-in_err-spend-clause-err g t c =
+    let names = c.args.frame.now.names.now in
+    let test : meaning.State → meaning.Value → Behaviour = meaning.eval (frame_of c.args.frame.now) (expression_at names c.args.test.now) in
+    let body : meaning.State → (meaning.State → Behaviour) → Behaviour = meaning.exec_all (frame_of c.args.frame.now) (statements_in names c.args.steps.now) in
+    let m = c.loop-local.invariant.left.0 in
+    let before = state_of names c.loop-local.local in
+    let here : says (g.A.Api.serves c.args.api.now) (g.A.Api.log c.loop-local.api) ≡ Stops c.in_err-spend.field-0.0 =
+    c.loop-local.invariant.left.1.1 c.requires.begins.0 c.requires.begins.1 ∙ turn_stops m test body before c.requires.begins.0 c.in_err-spend.ensures.err.1
+    ∙ ap Stops (sym c.in_err-spend.ensures.err.0) in
+    let stopped : StoppedBy (says (g.A.Api.serves c.args.api.now) (g.A.Api.log c.loop-local.api)) (Rose (g.A.Api.closed c.args.api.now) (g.A.Api.closed c.loop-local.api)) c.in_err-spend.field-0.0 =
+    stopped_by_body _ _ _ here in
+    search (rules, common_steps)
+
+pub repeat-eval-requires-clause-begins : goal.repeat-eval-requires-clause-begins
+repeat-eval-requires-clause-begins g t c =
+    let names = c.args.frame.now.names.now in
+    let test : meaning.State → meaning.Value → Behaviour = meaning.eval (frame_of c.args.frame.now) (expression_at names c.args.test.now) in
+    let body : meaning.State → (meaning.State → Behaviour) → Behaviour = meaning.exec_all (frame_of c.args.frame.now) (statements_in names c.args.steps.now) in
+    let m = c.loop-local.invariant.left.0 in
+    let before = state_of names c.loop-local.local in
+    let spent = state_of names c.spend.new.local in (
+      tested m test body c.requires.begins.0,
+      ap (λ (b : Body). says b (g.A.Api.log c.loop-local.api)) c.loop-local.invariant.serves
+          ∙ c.loop-local.invariant.left.1.1 c.requires.begins.0 c.requires.begins.1
+          ∙ turn_begins m test body c.requires.begins.0 before spent (c.in_ok-spend.ensures.ok names),
+    )
+
+pub repeat-exec_all-requires : goal.repeat-exec_all-requires
+repeat-exec_all-requires g t c = λ κs l.
+    let names = c.args.frame.now.names.now in
+    let test : meaning.State → meaning.Value → Behaviour = meaning.eval (frame_of c.args.frame.now) (expression_at names c.args.test.now) in
+    let body : meaning.State → (meaning.State → Behaviour) → Behaviour = meaning.exec_all (frame_of c.args.frame.now) (statements_in names c.args.steps.now) in
+    let m = c.loop-local.invariant.left.0 in
+    let before = state_of names c.loop-local.local in
+    let spent = state_of names c.spend.new.local in
+    let tried = state_of names c.eval.new.local in
+    let v = c.in_ok-value.value in
+    let found : (k : meaning.State → Behaviour) → says (g.A.Api.serves c.args.api.now) (g.A.Api.log c.loop-local.api) ≡ meaning.turns (suc m) test body before k
+    → says (g.A.Api.serves c.eval.new.api) (g.A.Api.log c.eval.new.api) ≡ tested m test body k v tried =
+    λ k here.
+    ap (λ (b : Body). says b (g.A.Api.log c.eval.new.api)) c.in_ok-value.ensures.serves
+    ∙ c.in_ok-value.ensures.ok (tested m test body k) (ap (λ (b : Body). says b (g.A.Api.log c.loop-local.api)) c.loop-local.invariant.serves ∙ here ∙ turn_begins m test body k before spent (c.in_ok-spend.ensures.ok names)) in
+    let served : g.A.Api.serves c.eval.new.api ≡ g.A.Api.serves c.args.api.now = c.in_ok-value.ensures.serves ∙ c.loop-local.invariant.serves in (
+      omega arith,
+      (
+        l.0,
+        (
+          l.1,
+          (
+            c.in_ok-value.ensures.ready,
+            (
+              c.requires.distinct,
+              (
+                c.in_ok-value.ensures.room,
+                (
+                  second_of _ _ c.requires.placed,
+                  (
+                    λ st. meaning.turns m test body st c.requires.begins.0,
+                    found c.requires.begins.0 (c.loop-local.invariant.left.1.1 c.requires.begins.0 c.requires.begins.1) ∙ turn_goes_on m test body c.requires.begins.0 v tried c.if-value-eq0.false,
+                  ),
+                ),
+              ),
+            ),
+          ),
+        ),
+      ),
+    )
+
+pub repeat-returns-then-value-eq0-clause-ok : goal.repeat-returns-then-value-eq0-clause-ok
+repeat-returns-then-value-eq0-clause-ok g t c =
+    let names = c.args.frame.now.names.now in
+    let test : meaning.State → meaning.Value → Behaviour = meaning.eval (frame_of c.args.frame.now) (expression_at names c.args.test.now) in
+    let body : meaning.State → (meaning.State → Behaviour) → Behaviour = meaning.exec_all (frame_of c.args.frame.now) (statements_in names c.args.steps.now) in
+    let m = c.loop-local.invariant.left.0 in
+    let before = state_of names c.loop-local.local in
+    let spent = state_of names c.spend.new.local in
+    let tried = state_of names c.eval.new.local in
+    let v = c.in_ok-value.value in
+    let found : (k : meaning.State → Behaviour) → says (g.A.Api.serves c.args.api.now) (g.A.Api.log c.loop-local.api) ≡ meaning.turns (suc m) test body before k
+    → says (g.A.Api.serves c.eval.new.api) (g.A.Api.log c.eval.new.api) ≡ tested m test body k v tried =
+    λ k here.
+    ap (λ (b : Body). says b (g.A.Api.log c.eval.new.api)) c.in_ok-value.ensures.serves
+    ∙ c.in_ok-value.ensures.ok (tested m test body k) (ap (λ (b : Body). says b (g.A.Api.log c.loop-local.api)) c.loop-local.invariant.serves ∙ here ∙ turn_begins m test body k before spent (c.in_ok-spend.ensures.ok names)) in
+    let served : g.A.Api.serves c.eval.new.api ≡ g.A.Api.serves c.args.api.now = c.in_ok-value.ensures.serves ∙ c.loop-local.invariant.serves in
+    λ k was.
+    ap (λ (b : Body). says b (g.A.Api.log c.eval.new.api)) (sym served)
+    ∙ found k (c.loop-local.invariant.left.1.1 k was) ∙ turn_ends m test body k v tried c.if-value-eq0.true
+
+pub repeat-loop-local-preserved : goal.repeat-loop-local-preserved
+repeat-loop-local-preserved g t c =
+    let names = c.args.frame.now.names.now in
+    let test : meaning.State → meaning.Value → Behaviour = meaning.eval (frame_of c.args.frame.now) (expression_at names c.args.test.now) in
+    let body : meaning.State → (meaning.State → Behaviour) → Behaviour = meaning.exec_all (frame_of c.args.frame.now) (statements_in names c.args.steps.now) in
+    let m = c.loop-local.invariant.left.0 in
+    let before = state_of names c.loop-local.local in
+    let spent = state_of names c.spend.new.local in
+    let tried = state_of names c.eval.new.local in
+    let v = c.in_ok-value.value in
+    let found : (k : meaning.State → Behaviour) → says (g.A.Api.serves c.args.api.now) (g.A.Api.log c.loop-local.api) ≡ meaning.turns (suc m) test body before k
+    → says (g.A.Api.serves c.eval.new.api) (g.A.Api.log c.eval.new.api) ≡ tested m test body k v tried =
+    λ k here.
+    ap (λ (b : Body). says b (g.A.Api.log c.eval.new.api)) c.in_ok-value.ensures.serves
+    ∙ c.in_ok-value.ensures.ok (tested m test body k) (ap (λ (b : Body). says b (g.A.Api.log c.loop-local.api)) c.loop-local.invariant.serves ∙ here ∙ turn_begins m test body k before spent (c.in_ok-spend.ensures.ok names)) in
+    let served : g.A.Api.serves c.eval.new.api ≡ g.A.Api.serves c.args.api.now = c.in_ok-value.ensures.serves ∙ c.loop-local.invariant.serves in
+    let second : IsTrace (behaviour (g.A.Api.serves c.args.api.now)) (g.A.Api.log c.loop-local.api) → IsTrace (behaviour (g.A.Api.serves c.args.api.now)) (g.A.Api.log c.eval.new.api) =
+    subst (λ (b : Body). IsTrace (behaviour b) (g.A.Api.log c.loop-local.api) → IsTrace (behaviour b) (g.A.Api.log c.eval.new.api)) c.loop-local.invariant.serves c.in_ok-value.ensures.trace in
+    let third : IsTrace (behaviour (g.A.Api.serves c.args.api.now)) (g.A.Api.log c.eval.new.api) → IsTrace (behaviour (g.A.Api.serves c.args.api.now)) (g.A.Api.log c.exec_all.new.api) =
+    subst (λ (b : Body). IsTrace (behaviour b) (g.A.Api.log c.eval.new.api) → IsTrace (behaviour b) (g.A.Api.log c.exec_all.new.api)) served c.in_ok-guid.ensures.trace in
+    let done : IsDone (says (g.A.Api.serves c.eval.new.api) (g.A.Api.log c.eval.new.api)) (body tried) (state_of names c.exec_all.new.local) (says (g.A.Api.serves c.eval.new.api) (g.A.Api.log c.exec_all.new.api)) =
+    flowed_on _ _ (body tried) _ c.in_ok-guid.field-0 c.in_default.is c.in_ok-guid.ensures.ok in
+    let less : c.exec_all.new.local.fuel < c.loop-local.local.fuel = omega (arith, c.in_ok-guid.ensures.fuel, c.in_ok-value.ensures.fuel, c.in_ok-spend.ensures.less) in
+    let enough : c.loop-local.local.fuel ≤ m = c.loop-local.invariant.left.1.0 in
+    record {
+      ready = c.in_ok-guid.ensures.ready;
+      serves = c.in_ok-guid.ensures.serves ∙ served;
+      kept = c.in_ok-guid.ensures.kept ∙ c.in_ok-value.ensures.kept ∙ c.loop-local.invariant.kept;
+      trace = λ was. third (second (c.loop-local.invariant.trace was));
+      room = c.in_ok-guid.ensures.room;
+      fuel = omega (arith, c.loop-local.invariant.fuel);
+      left = (
+        m - 1,
+        (
+          omega arith,
+          λ k was.
+              ap (λ (b : Body). says b (g.A.Api.log c.exec_all.new.api)) (sym served)
+              ∙ done (λ st. meaning.turns m test body st k) (found k (c.loop-local.invariant.left.1.1 k was) ∙ turn_goes_on m test body k v tried c.if-value-eq0.false)
+              ∙ turns_left m c.exec_all.new.local.fuel c.loop-local.local.fuel test body (state_of names c.exec_all.new.local) k less enough,
+        ),
+      );
+      later = omega (arith, c.loop-local.invariant.later, c.in_ok-value.ensures.later, c.in_ok-guid.ensures.later);
+    }
+
+pub exec-exec_all-requires : goal.exec-exec_all-requires
+exec-exec_all-requires g t c = λ κs l.
+    let names = c.args.frame.now.names.now in
+    let items : c.deref-then-value-eq0.result.now ≡ c.in-If.no.items = c.deref-then-value-eq0.ensures.value in
+    let view : statement_at names c.args.step.now ≡ tree.If (expression_at names c.in-If.test) (statements_in names c.in-If.yes.items) (statements_in names c.in-If.no.items) =
+    ap (statement_at names) c.in-If.is ∙ if_view names c.in-If.test c.in-If.yes c.in-If.no in
+    let parts : (is_placed (length names) c.in-If.test && (are_placed (length names) c.in-If.yes.items && are_placed (length names) c.in-If.no.items)) ≡ true =
+    sym (ap (is_step_placed (length names)) c.in-If.is ∙ if_placed (length names) c.in-If.test c.in-If.yes c.in-If.no) ∙ c.requires.placed in
+    let placed : are_placed (length names) c.deref-then-value-eq0.result.now ≡ true = ap (are_placed (length names)) items ∙ second_of _ _ (second_of _ _ parts) in
+    let P : tree.Statement → Type 0 = λ s. Begins (says (g.A.Api.serves c.args.api.now) (g.A.Api.log c.args.api.now)) (meaning.exec (frame_of c.args.frame.now) s (state_of names c.args.local.now)) in
+    let b = subst P view c.requires.begins in
+    (omega (arith, ap weight view, ap (λ (ss : List Step). weights (statements_in names ss)) items), (l.0, (l.1, (c.in_ok-value-in-If.ensures.ready, (c.requires.distinct, (c.in_ok-value-in-If.ensures.room, (placed, search (rules, b))))))))
+
+pub exec-exec_all-requires-else-value-eq0 : goal.exec-exec_all-requires-else-value-eq0
+exec-exec_all-requires-else-value-eq0 g t c = λ κs l.
+    let names = c.args.frame.now.names.now in
+    let items : c.deref-else-value-eq0.result.now ≡ c.in-If.yes.items = c.deref-else-value-eq0.ensures.value in
+    let view : statement_at names c.args.step.now ≡ tree.If (expression_at names c.in-If.test) (statements_in names c.in-If.yes.items) (statements_in names c.in-If.no.items) =
+    ap (statement_at names) c.in-If.is ∙ if_view names c.in-If.test c.in-If.yes c.in-If.no in
+    let parts : (is_placed (length names) c.in-If.test && (are_placed (length names) c.in-If.yes.items && are_placed (length names) c.in-If.no.items)) ≡ true =
+    sym (ap (is_step_placed (length names)) c.in-If.is ∙ if_placed (length names) c.in-If.test c.in-If.yes c.in-If.no) ∙ c.requires.placed in
+    let placed : are_placed (length names) c.deref-else-value-eq0.result.now ≡ true = ap (are_placed (length names)) items ∙ first_of _ _ (second_of _ _ parts) in
+    let P : tree.Statement → Type 0 = λ s. Begins (says (g.A.Api.serves c.args.api.now) (g.A.Api.log c.args.api.now)) (meaning.exec (frame_of c.args.frame.now) s (state_of names c.args.local.now)) in
+    let b = subst P view c.requires.begins in
+    (omega (arith, ap weight view, ap (λ (ss : List Step). weights (statements_in names ss)) items), (l.0, (l.1, (c.in_ok-value-in-If.ensures.ready, (c.requires.distinct, (c.in_ok-value-in-If.ensures.room, (placed, search (rules, b))))))))
+
+pub exec-returns-then-value-eq0-clause-ok : goal.exec-returns-then-value-eq0-clause-ok
+exec-returns-then-value-eq0-clause-ok g t c = rw (c.in-If.is, if_view, ← c.deref-then-value-eq0.ensures.value) (search rules)
+
+pub exec-returns-else-value-eq0-clause-ok : goal.exec-returns-else-value-eq0-clause-ok
+exec-returns-else-value-eq0-clause-ok g t c = rw (c.in-If.is, if_view, ← c.deref-else-value-eq0.ensures.value) (search rules)
+
+pub exec_all-exec-requires : goal.exec_all-exec-requires
+exec_all-exec-requires g t c = λ κs l.
+    let names = c.args.frame.now.names.now in
+    let rest : drop c.loop-step.step-index c.args.steps.now ≡ c.step-item.result ∷ drop (c.loop-step.step-index + 1) c.args.steps.now = search (rules, common_steps) in
+    let placed : (is_step_placed (length names) c.step-item.result && are_placed (length names) (drop (c.loop-step.step-index + 1) c.args.steps.now)) ≡ true =
+    sym (ap (are_placed (length names)) rest) ∙ c.loop-step.invariant.placed in
+    let here : says (g.A.Api.serves c.loop-step.api) (g.A.Api.log c.loop-step.api) ≡ meaning.exec_all (frame_of c.args.frame.now) (statements_in names (drop c.loop-step.step-index c.args.steps.now)) (state_of names c.loop-step.local) c.requires.begins.0 =
+    ap (λ (b : Body). says b (g.A.Api.log c.loop-step.api)) c.loop-step.invariant.serves ∙ c.loop-step.invariant.goes_on c.requires.begins.0 c.requires.begins.1 in (
+      omega (arith, weight_at names c.args.steps.now c.loop-step.step-index c.step-item.result c.loop-step-test.true, ap (λ (s : Step). weight (statement_at names s)) c.step-item.is),
+      (
+        l.0,
+        (
+          l.1,
+          (
+            c.loop-step.invariant.ready,
+            (
+              c.requires.distinct,
+              (
+                c.loop-step.invariant.room,
+                (
+                  first_of _ _ placed,
+                  (
+                    λ st. meaning.exec_all (frame_of c.args.frame.now) (statements_in names (drop (c.loop-step.step-index + 1) c.args.steps.now)) st c.requires.begins.0,
+                    here ∙ ap (λ (xs : List Step). meaning.exec_all (frame_of c.args.frame.now) (statements_in names xs) (state_of names c.loop-step.local) c.requires.begins.0) rest,
+                  ),
+                ),
+              ),
+            ),
+          ),
+        ),
+      ),
+    )

@@ -1,0 +1,72 @@
+// What the walker keeps of a body.
+ghost use Rattle.std.specs.Prelude.{◌≡◌, ◌<◌, ◌≤◌, List, ℕ, true, length, OnOk, IfErr};
+ghost use Rattle.ocr_body.specs.Behaviour.{Behaviour};
+ghost use Rattle.ocr_body.specs.Code.{are_distinct, name_at};
+ghost use Rattle.ocr_body.specs.Meaning.{State};
+ghost use Rattle.ocr_body.specs.Meaning as meaning;
+ghost use Rattle.ocr_body.specs.Local.{state_of};
+
+use crate::call::BodyStop;
+use crate::tree::Name;
+use ocr_guid::Guid;
+
+// What the walker keeps of a body: its fuel, the code of its last call, and its variables by their places.
+#[derive(Drop)]
+pub struct Local {
+    pub fuel: u64,
+    pub code: u64,
+    pub values: Vec<u64>,
+}
+
+// What a body was given, and the names of its variables.
+#[derive(Clone, Copy)]
+pub struct Frame<'a> {
+    pub params: &'a [u64],
+    pub deps: &'a [Guid],
+    pub names: &'a [Name],
+}
+
+// Where a statement leads.
+#[derive(Clone, Copy)]
+pub enum Flow {
+    Next,
+    Returned(Guid),
+}
+
+// One unit of fuel.
+pub fn spend(local: &mut Local) -> Result<(), BodyStop>
+    ensures ok { OnOk result ((names : List (List ℕ)) (k : State → Behaviour) →
+        meaning.spend (state_of names local.old) k ≡ k (state_of names local.new)) }
+    ensures less { OnOk result (local.new.fuel < local.old.fuel) }
+    ensures fuel { local.new.fuel ≤ local.old.fuel }
+    ensures values { local.new.values ≡ local.old.values }
+    ensures err { IfErr result (λ e. (e ≡ BodyStop.Fuel) × (local.old.fuel ≡ 0)) }
+{
+    if local.fuel == 0 {
+        return Err(BodyStop::Fuel);
+    }
+    local.fuel -= 1;
+    Ok(())
+}
+
+// The value of a variable.
+pub fn read(frame: &Frame, place: usize, local: &Local) -> u64
+    requires place { place < length frame.now.names.now }
+    requires room { length local.now.values.items ≡ length frame.now.names.now }
+    requires distinct { are_distinct frame.now.names.now ≡ true }
+    ensures { result ≡ (state_of frame.now.names.now local.now).variables (name_at frame.now.names.now place) }
+{
+    local.values[place]
+}
+
+// A variable gets a value.
+pub fn write(frame: &Frame, place: usize, value: u64, local: &mut Local)
+    requires place { place < length frame.now.names.now }
+    requires room { length local.old.values.items ≡ length frame.now.names.now }
+    requires distinct { are_distinct frame.now.names.now ≡ true }
+    ensures state { state_of frame.now.names.now local.new
+        ≡ meaning.bound (name_at frame.now.names.now place) value (state_of frame.now.names.now local.old) }
+    ensures room { length local.new.values.items ≡ length local.old.values.items }
+{
+    local.values[place] = value;
+}

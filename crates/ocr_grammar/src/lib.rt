@@ -1,0 +1,14 @@
+//! The grammar of task programs: what a token is to it, what a program is, and the limits.
+#![tactic(auto)]
+
+mod laws;
+mod lexeme;
+mod lexing;
+mod slots;
+mod words;
+
+pub use laws::grammar_laws;
+pub use lexeme::{Lexeme, Word};
+pub use lexing::read_token;
+pub use slots::{Slot, shape};
+pub use words::{call_text, constant_text, named, operator_text, symbol, word_text};
