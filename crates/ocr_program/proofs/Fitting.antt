@@ -1,0 +1,174 @@
+-- Each step keeps that the arguments fit.
+use Rattle.std.proofs.Common.{◌≡◌, ℕ, List, [], ◌∷◌, true, Option, Some, None, refl, sym, ap, subst, ◌∙◌}
+use Rattle.std.proofs.lemmas.Bool.{cond_both}
+use Rattle.std.specs.Prelude.{nat_le}
+use Rattle.ocr_body.specs.declared.tree.BinaryOp.{BinaryOp}
+use Rattle.ocr_body.specs.declared.tree.BinaryOp.TheVariants as binary
+use Rattle.ocr_body.specs.declared.tree.CallName.{CallName}
+use Rattle.ocr_body.specs.Tree as tree
+use Rattle.ocr_body.specs.Tree.{Expression, Arguments, empty, value, list, named, Statements, nothing, FunctionTree}
+use Rattle.ocr_grammar.specs.declared.lexeme.Lexeme.{Lexeme}
+use Rattle.ocr_grammar.specs.declared.lexeme.Lexeme.TheVariants as lexeme
+use Rattle.ocr_grammar.specs.declared.lexeme.Word.TheVariants as word
+use Rattle.ocr_grammar.specs.Grammar.{level}
+use Rattle.ocr_grammar.specs.declared.slots.Slot.{Slot}
+use Rattle.ocr_grammar.specs.declared.slots.Slot.TheVariants.{Value, Values, Named, Flags}
+use Rattle.ocr_grammar.specs.Shape.{shape}
+use Rattle.ocr_program.specs.Joined.{with}
+use Rattle.ocr_program.specs.Machine as m
+use Rattle.ocr_program.specs.Fitting.{fits, is_output, LeadsTo, LeadsToFlags, LeadsToOutput, IsFitting, IsFittingAround, IsFittingState, IsFittingIfAny}
+use Rattle.ocr_program.proofs.Complete.{with_none, with_more}
+
+-- arguments that lead to no further slot fit
+pub fits_whole : (c : CallName) (done : Arguments) → LeadsTo c done [] → fits (shape c) done ≡ true
+fits_whole c done w = ap (fits (shape c)) (sym (with_none done)) ∙ w empty refl
+
+pub leads_value : (c : CallName) (done : Arguments) (ss : List Slot) (e : Expression) → LeadsTo c done (Value ∷ ss)
+    → LeadsTo c (with done (value e empty)) ss
+leads_value c done ss e w args is = ap (fits (shape c)) (with_more done (value e empty) args) ∙ w (value e args) is
+
+pub leads_list : (c : CallName) (done : Arguments) (ss : List Slot) (es : Arguments) → LeadsTo c done (Values ∷ ss)
+    → LeadsTo c (with done (list es empty)) ss
+leads_list c done ss es w args is = ap (fits (shape c)) (with_more done (list es empty) args) ∙ w (list es args) is
+
+pub leads_named : (c : CallName) (done : Arguments) (ss : List Slot) (x : List ℕ) → LeadsTo c done (Named ∷ ss)
+    → LeadsTo c (with done (named x empty)) ss
+leads_named c done ss x w args is = ap (fits (shape c)) (with_more done (named x empty) args) ∙ w (named x args) is
+
+pub leads_output : (c : CallName) (done : Arguments) (e : Expression) → LeadsToFlags c done
+    → LeadsToOutput c (with done (value e empty))
+leads_output c done e w x = ap (fits (shape c)) (with_more done (value e empty) (named x empty)) ∙ w e (named x empty) refl
+
+fold_fits : (l : ℕ) (k : m.Stack) (e : Expression) → IsFitting k → IsFitting (m.folded l k e).pending
+fold_fits l (m.Bottom p) e w = w
+fold_fits l (m.Left a op k) e w = cond_both (nat_le l (level op)) _ _ (λ (held : m.Held). IsFitting held.pending)
+    (λ _. fold_fits l k (tree.Binary op a e) w)
+    (λ _. w)
+fold_fits l (m.Prefix op k) e w = fold_fits l k (tree.Unary op e) w
+fold_fits l (m.Round k) e w = w
+fold_fits l (m.Index i k) e w = w
+fold_fits l (m.Argument c done ss k) e w = w
+fold_fits l (m.Member c done es ss k) e w = w
+fold_fits l (m.Flag c done k) e w = w
+
+pub folded_fits : (l : ℕ) (k : m.Stack) (e : Expression) → IsFitting k → IsFitting (m.folded l k e).pending
+folded_fits l k e w = fold_fits l k e w
+
+called_fits : (h : m.Here) (c : CallName) (args : Arguments) (k : m.Around) → IsFittingAround k
+    → IsFittingState (m.called h c args k)
+called_fits h c args (m.Within k) w = w
+called_fits h c args m.Alone w = tt
+
+argument_fits : (h : m.Here) (c : CallName) (done : Arguments) (ss : List Slot) (k : m.Around) → LeadsTo c done ss
+    → IsFittingAround k → IsFittingState (m.argument h c done ss k)
+argument_fits h c done [] k w a = (fits_whole c done w, a)
+argument_fits h c done (Value ∷ ss) k w a = (w, a)
+argument_fits h c done (Values ∷ ss) k w a = (w, a)
+argument_fits h c done (Named ∷ ss) k w a = (w, a)
+argument_fits h c done (Flags ∷ ss) k w a = (λ e args is. w (value e args) is, a)
+
+followed_fits : (h : m.Here) (c : CallName) (done : Arguments) (ss : List Slot) (k : m.Around) (t : Lexeme)
+    → LeadsTo c done ss → IsFittingAround k → IsFittingIfAny (m.followed h c done ss k t)
+followed_fits h c done [] k lexeme.CloseRound w a = called_fits h c done k a
+followed_fits h c done (s ∷ ss) k lexeme.Comma w a = argument_fits h c done (s ∷ ss) k w a
+followed_fits h c done ss k t w a = tt
+
+operand_fits : (h : m.Here) (k : m.Stack) (t : Lexeme) → IsFitting k → IsFittingIfAny (m.operand h k t)
+operand_fits h k (lexeme.Number n) w = w
+operand_fits h k (lexeme.Constant c) w = w
+operand_fits h k (lexeme.Name x) w = w
+operand_fits h k (lexeme.Word word.Paramc) w = w
+operand_fits h k (lexeme.Word word.Depc) w = w
+operand_fits h k (lexeme.Word word.Code) w = w
+operand_fits h k (lexeme.Word word.Paramv) w = w
+operand_fits h k (lexeme.Word word.Depv) w = w
+operand_fits h k lexeme.Not w = w
+operand_fits h k lexeme.Invert w = w
+operand_fits h k (lexeme.Operator binary.Sub) w = w
+operand_fits h k lexeme.OpenRound w = w
+operand_fits h k (lexeme.Call c) w = w
+operand_fits h k other w = tt
+
+list_fits : (h : m.Here) (c : CallName) (done : Arguments) (ss : List Slot) (k : m.Around) (t : Lexeme)
+    → LeadsTo c done (Values ∷ ss) → IsFittingAround k → IsFittingIfAny (m.list_start h c done ss k t)
+list_fits h c done ss k lexeme.CloseSquare w a = (leads_list c done ss empty w, a)
+list_fits h c done ss k other w a = operand_fits h (m.Member c done empty ss k) other (w, a)
+
+whole_fits : (h : m.Here) (p : m.Purpose) (e : Expression) (t : Lexeme) → IsFittingIfAny (m.whole h p e t)
+whole_fits h (m.ToLet x) e lexeme.Semicolon = tt
+whole_fits h (m.ToAssign x) e lexeme.Semicolon = tt
+whole_fits h m.ToTest e lexeme.OpenBrace = tt
+whole_fits h m.ToRepeat e lexeme.OpenBrace = tt
+whole_fits h m.ToPrint e lexeme.Semicolon = tt
+whole_fits h m.ToReturn e lexeme.Semicolon = tt
+whole_fits h p e t = tt
+
+closed_fits : (h : m.Here) (k : m.Stack) (e : Expression) (t : Lexeme) → IsFitting k → IsFittingIfAny (m.closed h k e t)
+closed_fits h (m.Round k) e lexeme.CloseRound w = w
+closed_fits h (m.Index i k) e lexeme.CloseSquare w = w
+closed_fits h (m.Argument c done ss k) e t w = followed_fits h c (with done (value e empty)) ss k t (leads_value c done ss e w.0) w.1
+closed_fits h (m.Member c done es ss k) e lexeme.Comma w = w
+closed_fits h (m.Member c done es ss k) e lexeme.CloseSquare w = (leads_list c done ss (with es (value e empty)) w.0, w.1)
+closed_fits h (m.Flag c done k) e lexeme.CloseRound w = called_fits h c (with done (value e empty)) k w.1
+closed_fits h (m.Flag c done k) e lexeme.Comma w = (leads_output c done e w.0, w.1)
+closed_fits h (m.Bottom p) e t w = whole_fits h p e t
+closed_fits h other e t w = tt
+
+after_fits : (h : m.Here) (k : m.Stack) (e : Expression) (t : Lexeme) (o : Option BinaryOp) → IsFitting k
+    → IsFittingIfAny (m.after h k e t o)
+after_fits h k e t (Some op) w = fold_fits (level op) k e w
+after_fits h k e t None w = closed_fits h (m.folded 0 k e).pending (m.folded 0 k e).value t (fold_fits 0 k e w)
+
+left_fits : (fs : List FunctionTree) (x : List ℕ) (outer : List m.Outer) (before : Statements) (k : m.Kind)
+    (body : Statements) → IsFittingState (m.left fs x outer before k body)
+left_fits fs x outer before (m.Repeated e) body = tt
+left_fits fs x outer before (m.First e) body = tt
+left_fits fs x outer before (m.Second e first) body = tt
+
+ended_fits : (fs : List FunctionTree) (x : List ℕ) (outer : List m.Outer) (body : Statements)
+    → IsFittingState (m.ended fs x outer body)
+ended_fits fs x [] body = tt
+ended_fits fs x (o ∷ outer) body = left_fits fs x outer o.before o.kind body
+
+statement_fits : (h : m.Here) (t : Lexeme) → IsFittingIfAny (m.at_statement h t)
+statement_fits h (lexeme.Word word.Let) = tt
+statement_fits h (lexeme.Word word.If) = tt
+statement_fits h (lexeme.Word word.While) = tt
+statement_fits h (lexeme.Word word.Print) = tt
+statement_fits h (lexeme.Word word.Return) = tt
+statement_fits h (lexeme.Name x) = tt
+statement_fits h (lexeme.Call c) = tt
+statement_fits h lexeme.CloseBrace = ended_fits h.functions h.name h.outer h.done
+statement_fits h other = tt
+
+choice_fits : (h : m.Here) (e : Expression) (first : Statements) (t : Lexeme) → IsFittingIfAny (m.may_else h e first t)
+choice_fits h e first (lexeme.Word word.Else) = tt
+choice_fits h e first other = statement_fits (m.with_done h (tree.If e first nothing)) other
+
+pub step_fits : (s : m.State) (t : Lexeme) → IsFittingState s → IsFittingIfAny (m.step s t)
+step_fits (m.Functions fs) (lexeme.Word word.Fn) w = tt
+step_fits (m.FunctionName fs) (lexeme.Name x) w = tt
+step_fits (m.FunctionOpen fs x) lexeme.OpenBrace w = tt
+step_fits (m.AtStatement h) t w = statement_fits h t
+step_fits (m.LetName h) (lexeme.Name x) w = tt
+step_fits (m.LetEquals h x) lexeme.Equals w = tt
+step_fits (m.AssignEquals h x) lexeme.Equals w = tt
+step_fits (m.Called h c args) lexeme.Semicolon w = tt
+step_fits (m.MayElse h e first) t w = choice_fits h e first t
+step_fits (m.ElseOpen h e first) lexeme.OpenBrace w = tt
+step_fits (m.Operand h k) t w = operand_fits h k t w
+step_fits (m.IndexOpen h i k) lexeme.OpenSquare w = w
+step_fits (m.CallOpen h c k) lexeme.OpenRound w = argument_fits h c empty (shape c) k (λ args is. is) w
+step_fits (m.CallEnd h c done k) lexeme.CloseRound w = called_fits h c done k w.1
+step_fits (m.ListOpen h c done ss k) lexeme.OpenSquare w = w
+step_fits (m.ListStart h c done ss k) t w = list_fits h c done ss k t w.0 w.1
+step_fits (m.NameAt h c done ss k) (lexeme.Name x) w = (leads_named c done ss x w.0, w.1)
+step_fits (m.AfterArgument h c done ss k) t w = followed_fits h c done ss k t w.0 w.1
+step_fits (m.OutputAnd h c done k) (lexeme.Operator binary.And) w = w
+step_fits (m.OutputName h c done k) (lexeme.Name x) w = (w.0 x, w.1)
+step_fits (m.Has h k e) t w = after_fits h k e t (m.operator t) w
+step_fits other t w = tt
+
+-- the state after a step
+pub step_fitting : (s s1 : m.State) (t : Lexeme) → IsFittingState s → m.step s t ≡ Some s1 → IsFittingState s1
+step_fitting s s1 t w is = let P : Option m.State → Type 0 = IsFittingIfAny in subst P is (step_fits s t w)

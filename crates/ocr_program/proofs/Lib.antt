@@ -1,0 +1,11 @@
+pub mod Complete
+pub mod Sound
+pub mod Exact
+pub mod Fitting
+pub mod Lists
+pub mod Rows
+pub mod Heights
+pub mod Places
+pub mod One
+pub mod Calls
+pub mod Marks

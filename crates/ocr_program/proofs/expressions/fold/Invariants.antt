@@ -1,0 +1,14 @@
+use Rattle.std.proofs.Common.{◌≡◌}
+use Rattle.ocr_program.specs.Machine as machine
+use Rattle.ocr_body.specs.View.{expression_of}
+use Rattle.ocr_program.specs.View.{stack_of}
+use Rattle.ocr_program.proofs.Heights.{height}
+use Rattle.ocr_program.proofs.expressions.fold.Given as goal
+
+abbrev pub invariant-loop-stack : goal.invariant-loop-stack
+invariant-loop-stack l =
+    machine.folded l.low (stack_of l.stack) (expression_of l.value)
+    ≡ machine.folded l.low (stack_of l.fn.stack) (expression_of l.fn.value)
+
+abbrev pub decreases-loop-stack : goal.decreases-loop-stack
+decreases-loop-stack l = height (stack_of l.stack)
