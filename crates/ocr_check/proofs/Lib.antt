@@ -1,0 +1,10 @@
+pub mod Events
+pub mod First
+pub mod Judging
+pub mod Names
+pub mod Parts
+pub mod Rows
+pub mod Blocks
+pub mod Outcomes
+pub mod Programs
+pub mod Stops

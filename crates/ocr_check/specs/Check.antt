@@ -1,0 +1,235 @@
+-- The rules that a task program keeps, and which one a program breaks first.
+-- The body of a function is told as the events that stand in its text, from its start to its end. What an event may be
+-- rests on the events before it, so the first event that breaks a rule is the breach of its function.
+use Rattle.std.specs.Prelude.{◌≡◌, ℕ, zero, suc, ◌+◌, Bool, true, false, cond, ◌||◌, nat_lt, nat_le, List, [], ◌∷◌, ◌++◌, map, length, reverse, Option, None, Some, IsSome}
+use Rattle.std.specs.Str.{bytes_eq}
+use Rattle.std.specs.List.{list_any}
+use Rattle.ocr_body.specs.Tree.{Expression, Arguments, Statement, Statements, FunctionTree}
+use Rattle.ocr_body.specs.Tree as tree
+use Rattle.ocr_body.specs.declared.tree.CallName.{CallName}
+use Rattle.ocr_body.specs.declared.tree.CallName.TheVariants as name
+use Rattle.ocr_check.specs.declared.scope.ListKind.{ListKind}
+use Rattle.ocr_check.specs.declared.scope.ListKind.TheVariants.{Parameters, Dependences}
+
+-- whether a name is among others
+abbrev pub is_among : List ℕ → List (List ℕ) → Bool
+is_among x names = list_any (λ y. bytes_eq y x) names
+
+-- the names of functions
+abbrev pub names_of : List FunctionTree → List (List ℕ)
+names_of functions = map (λ f. f.name) functions
+
+-- the name of the function that the first EDT runs: mainEdt
+abbrev pub main_name : List ℕ
+main_name = 109 ∷ 97 ∷ 105 ∷ 110 ∷ 69 ∷ 100 ∷ 116 ∷ []
+
+-- the most names that a function lets
+abbrev pub most_lets : ℕ
+most_lets = 64
+
+-- the most members of a list of a call, which are its parameters and then its dependences
+abbrev pub most_members : ListKind → ℕ
+most_members Parameters = 16
+most_members Dependences = 32
+
+-- what stands in the text of a function
+pub data Event : Type 0 where
+  -- a `let` begins
+  LetBegins : (name : List ℕ) → Event
+  -- the expression of a `let` is over: from here on there is the variable
+  Declared : (name : List ℕ) → Event
+  -- a variable is read, assigned, or written after `&`
+  Used : (name : List ℕ) → Event
+  -- the name of a call stands before its arguments
+  Called : (call : CallName) (arguments : Arguments) → Event
+  -- a function is named as the code of a template
+  FunctionNamed : (name : List ℕ) → Event
+  -- a list is closed
+  ListClosed : (kind : ListKind) (members : ℕ) → Event
+  BlockOpened : Event
+  BlockClosed : Event
+
+-- a name among the arguments of a call: a function in ocrEdtTemplateCreate, else a variable after `&`
+abbrev pub naming : CallName → List ℕ → Event
+naming name.DbCreate x = Used x
+naming name.DbRelease x = Used x
+naming name.DbDestroy x = Used x
+naming name.EventCreate x = Used x
+naming name.EventCreateParams x = Used x
+naming name.EventDestroy x = Used x
+naming name.Satisfy x = Used x
+naming name.SatisfySlot x = Used x
+naming name.AddDependence x = Used x
+naming name.TemplateCreate x = FunctionNamed x
+naming name.TemplateDestroy x = Used x
+naming name.EdtCreate x = Used x
+naming name.Shutdown x = Used x
+naming name.Abort x = Used x
+naming name.Load x = Used x
+naming name.Store x = Used x
+
+-- how many members a list has
+abbrev pub count_of : Arguments → ℕ
+count_of tree.empty = 0
+count_of (tree.value e rest) = suc (count_of rest)
+count_of (tree.list members rest) = suc (count_of rest)
+count_of (tree.named x rest) = suc (count_of rest)
+
+abbrev mutual
+  pub events_of_expression : Expression → List Event
+  events_of_expression (tree.Number n) = []
+  events_of_expression (tree.Named c) = []
+  events_of_expression (tree.Var x) = Used x ∷ []
+  events_of_expression tree.Paramc = []
+  events_of_expression tree.Depc = []
+  events_of_expression tree.LastCode = []
+  events_of_expression (tree.Paramv e) = events_of_expression e
+  events_of_expression (tree.Depv e) = events_of_expression e
+  events_of_expression (tree.Unary op e) = events_of_expression e
+  events_of_expression (tree.Binary op a b) = events_of_expression a ++ events_of_expression b
+  events_of_expression (tree.Invoked call arguments) = Called call arguments ∷ events_of_arguments call Parameters arguments
+
+  -- the events of the arguments of a call; `kind` is what the next list holds
+  pub events_of_arguments : CallName → ListKind → Arguments → List Event
+  events_of_arguments call kind tree.empty = []
+  events_of_arguments call kind (tree.value e rest) = events_of_expression e ++ events_of_arguments call kind rest
+  events_of_arguments call kind (tree.list members rest) =
+      events_of_arguments call kind members ++ (ListClosed kind (count_of members) ∷ events_of_arguments call Dependences rest)
+  events_of_arguments call kind (tree.named x rest) = naming call x ∷ events_of_arguments call kind rest
+
+abbrev mutual
+  pub events_of_statement : Statement → List Event
+  events_of_statement (tree.Let x e) = LetBegins x ∷ (events_of_expression e ++ (Declared x ∷ []))
+  events_of_statement (tree.Assign x e) = Used x ∷ events_of_expression e
+  events_of_statement (tree.If e first second) =
+      events_of_expression e
+      ++ ((BlockOpened ∷ (events_of_statements first ++ (BlockClosed ∷ []))) ++ (BlockOpened ∷ (events_of_statements second ++ (BlockClosed ∷ []))))
+  events_of_statement (tree.While e body) = events_of_expression e ++ (BlockOpened ∷ (events_of_statements body ++ (BlockClosed ∷ [])))
+  events_of_statement (tree.Print e) = events_of_expression e
+  events_of_statement (tree.Return e) = events_of_expression e
+  events_of_statement (tree.Do call arguments) = Called call arguments ∷ events_of_arguments call Parameters arguments
+
+  pub events_of_statements : Statements → List Event
+  events_of_statements tree.nothing = []
+  events_of_statements (tree.statement s rest) = events_of_statement s ++ events_of_statements rest
+
+-- the events of a function
+abbrev pub events_of : FunctionTree → List Event
+events_of f = events_of_statements f.body
+
+-- the names that were let, newest first
+abbrev pub let_names : List Event → List (List ℕ)
+let_names [] = []
+let_names (LetBegins x ∷ past) = x ∷ let_names past
+let_names (Declared x ∷ past) = let_names past
+let_names (Used x ∷ past) = let_names past
+let_names (Called call arguments ∷ past) = let_names past
+let_names (FunctionNamed x ∷ past) = let_names past
+let_names (ListClosed kind n ∷ past) = let_names past
+let_names (BlockOpened ∷ past) = let_names past
+let_names (BlockClosed ∷ past) = let_names past
+
+-- whether a variable was declared in the same block or in an enclosing one. The events come newest first, and `left`
+-- is how many of the blocks that hold the oldest event in sight were left since
+abbrev pub is_declared : (left : ℕ) → List ℕ → List Event → Bool
+is_declared left x [] = false
+is_declared left x (LetBegins y ∷ past) = is_declared left x past
+is_declared zero x (Declared y ∷ past) = bytes_eq y x || is_declared zero x past
+is_declared (suc left) x (Declared y ∷ past) = is_declared (suc left) x past
+is_declared left x (Used y ∷ past) = is_declared left x past
+is_declared left x (Called call arguments ∷ past) = is_declared left x past
+is_declared left x (FunctionNamed y ∷ past) = is_declared left x past
+is_declared left x (ListClosed kind n ∷ past) = is_declared left x past
+is_declared zero x (BlockOpened ∷ past) = is_declared zero x past
+is_declared (suc left) x (BlockOpened ∷ past) = is_declared left x past
+is_declared left x (BlockClosed ∷ past) = is_declared (suc left) x past
+
+-- whether a call with these arguments is built: one line a call
+abbrev pub is_built : CallName → Arguments → Bool
+is_built name.DbCreate arguments = false
+is_built name.DbRelease arguments = false
+is_built name.DbDestroy arguments = false
+is_built name.EventCreate arguments = false
+is_built name.EventCreateParams arguments = false
+is_built name.EventDestroy arguments = false
+is_built name.Satisfy arguments = false
+is_built name.SatisfySlot arguments = false
+is_built name.AddDependence arguments = false
+is_built name.TemplateCreate arguments = false
+is_built name.TemplateDestroy arguments = false
+is_built name.EdtCreate arguments = false
+is_built name.Shutdown arguments = true
+is_built name.Abort arguments = true
+is_built name.Load arguments = false
+is_built name.Store arguments = false
+
+-- the rule that an event breaks after the events of its function before it, newest first. `names` are the functions' names
+abbrev pub rule_broken : (names : List (List ℕ)) (past : List Event) → Event → Option ℕ
+rule_broken names past (LetBegins x) = cond (is_among x (let_names past)) (Some 3) (cond (nat_lt (length (let_names past)) most_lets) None (Some 7))
+rule_broken names past (Declared x) = None
+rule_broken names past (Used x) = cond (is_declared 0 x past) None (Some 4)
+rule_broken names past (Called call arguments) = cond (is_built call arguments) None (Some 8)
+rule_broken names past (FunctionNamed f) = cond (is_among f names) None (Some 5)
+rule_broken names past (ListClosed kind n) = cond (nat_le n (most_members kind)) None (Some 6)
+rule_broken names past BlockOpened = None
+rule_broken names past BlockClosed = None
+
+-- none of the items fails, given the items before it
+abbrev pub FailsNowhere : {X : Type 0} → (List X → X → Type 0) → List X → Type 0
+FailsNowhere {X} Fails items = (before after : List X) (item : X) → items ≡ before ++ (item ∷ after) → Fails before item → ⊥
+
+-- `here` is the first of the items that fails, given the items `before` it
+pub record IsFirst {X : Type 0} (Fails : List X → X → Type 0) (items before : List X) (here : X) : Type 0 where
+  pub after : List X
+  pub whole : items ≡ before ++ (here ∷ after)
+  pub fails : Fails before here
+  pub earlier : FailsNowhere Fails before
+
+-- an event breaks a rule
+abbrev pub BreaksRule : List (List ℕ) → List Event → Event → Type 0
+BreaksRule names before event = IsSome (rule_broken names (reverse before) event)
+
+-- the first event of a function that breaks a rule breaks this one
+pub record Breaks (names : List (List ℕ)) (f : FunctionTree) (rule : ℕ) : Type 0 where
+  pub before : List Event
+  pub event : Event
+  pub first : IsFirst (BreaksRule names) (events_of f) before event
+  pub broken : rule_broken names (reverse before) event ≡ Some rule
+
+-- some event of a function breaks a rule
+abbrev pub BreaksSome : List (List ℕ) → List FunctionTree → FunctionTree → Type 0
+BreaksSome names before f = (rule : ℕ) × Breaks names f rule
+
+-- a function has the name of one before it
+abbrev pub HasNamesake : List FunctionTree → FunctionTree → Type 0
+HasNamesake before f = is_among f.name (names_of before) ≡ true
+
+-- the rule that a program breaks first, and the number of the function in which it does
+pub data IsBreach (program : List FunctionTree) (rule function : ℕ) : Type 0 where
+  -- the later of two functions of one name
+  same_name : (before : List FunctionTree) (f : FunctionTree)
+      → IsFirst HasNamesake program before f
+      → rule ≡ 1 → function ≡ length before + 1
+      → IsBreach program rule function
+  -- no function that the first EDT runs
+  no_main : FailsNowhere HasNamesake program
+      → is_among main_name (names_of program) ≡ false
+      → rule ≡ 2 → function ≡ 0
+      → IsBreach program rule function
+  -- an event of the body of the first function that has one
+  in_body : (before : List FunctionTree) (f : FunctionTree)
+      → FailsNowhere HasNamesake program
+      → is_among main_name (names_of program) ≡ true
+      → IsFirst (BreaksSome (names_of program)) program before f
+      → Breaks (names_of program) f rule → function ≡ length before + 1
+      → IsBreach program rule function
+
+-- the program breaks no rule
+abbrev pub BreaksNoRule : List FunctionTree → Type 0
+BreaksNoRule program = (rule function : ℕ) → IsBreach program rule function → ⊥
+
+-- a program has at most one first breach
+abbrev pub BreachLaw : Type 0
+BreachLaw = (program : List FunctionTree) (rule function other_rule other_function : ℕ)
+    → IsBreach program rule function → IsBreach program other_rule other_function
+    → (rule ≡ other_rule) × (function ≡ other_function)

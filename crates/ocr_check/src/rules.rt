@@ -1,0 +1,111 @@
+// The rules that a task program keeps.
+ghost use Rattle.std.specs.Prelude.{◌≡◌, ◌<◌, ◌^◌, ℕ, List, length, IfOk, IfErr, OnOk};
+ghost use Rattle.ocr_check.specs.Check.{FailsNowhere, HasNamesake, BreaksNoRule, BreachLaw, is_among};
+ghost use Rattle.ocr_check.specs.Check.{names_of as names_in};
+ghost use Rattle.ocr_check.specs.Checked.{checked_tree};
+ghost use Rattle.ocr_check.specs.Scope.{knows, IsStopOf};
+ghost use Rattle.ocr_body.specs.View.{functions_of, tree_of};
+
+use crate::scope::walk_function;
+use crate::sound::Checked;
+use ocr_body::{Function, Program};
+use std::alloc::{AllocFailed, Global};
+use std::collections::BTreeSet;
+
+/// The rule that a program breaks first, and the number of the function in which it does, from 1 in the order of the
+/// text; 0 where there is no function `mainEdt`.
+#[derive(Clone, Copy, PartialEq, Eq, Debug)]
+pub struct CheckFault {
+    pub rule: u32,
+    pub function: u32,
+}
+
+/// Why a program was not taken.
+#[derive(Clone, Copy, PartialEq, Eq, Debug)]
+pub enum CheckStop {
+    /// It breaks a rule.
+    Fault(CheckFault),
+    /// Memory was refused.
+    NoMemory,
+}
+
+impl From<CheckFault> for CheckStop {
+    ghost use Rattle.ocr_check.specs.declared.rules.CheckStop.TheVariants.{Fault};
+
+    ghost from_gives = { λ fault stop. stop ≡ Fault fault };
+
+    fn from(fault: CheckFault) -> Self {
+        CheckStop::Fault(fault)
+    }
+}
+
+impl<T: Drop> From<AllocFailed<T>> for CheckStop {
+    ghost use Rattle.ocr_check.specs.declared.rules.CheckStop.TheVariants.{NoMemory};
+
+    ghost from_gives = { λ _ stop. stop ≡ NoMemory };
+
+    fn from(_failed: AllocFailed<T>) -> Self {
+        CheckStop::NoMemory
+    }
+}
+
+// The names of the functions, no two of which are alike.
+fn names_of(alloc: Global, functions: &[Function]) -> Result<BTreeSet<&[u8]>, CheckStop>
+    requires { length functions.now < 2 ^ 32 }
+    ensures distinct { OnOk result (FailsNowhere HasNamesake (functions_of functions.now)) }
+    ensures names { IfOk result (λ names. (x : List ℕ) → knows names x ≡ is_among x (names_in (functions_of functions.now))) }
+    ensures err { IfErr result (IsStopOf (functions_of functions.now)) }
+{
+    let mut names = BTreeSet::new(alloc);
+    for (i, function) in functions.iter().enumerate() {
+        if !names.insert(function.name.as_bytes())? {
+            return Err(CheckStop::Fault(CheckFault {
+                rule: 1,
+                function: i as u32 + 1,
+            }));
+        }
+    }
+    Ok(names)
+}
+
+// Looks for the first breach of the rules.
+fn judge(alloc: Global, functions: &[Function]) -> Result<(), CheckStop>
+    requires { length functions.now < 2 ^ 32 }
+    ensures ok { OnOk result (BreaksNoRule (functions_of functions.now)) }
+    ensures err { IfErr result (IsStopOf (functions_of functions.now)) }
+{
+    let names = names_of(alloc, functions)?;
+    if !names.contains(b"mainEdt".as_slice()) {
+        return Err(CheckStop::Fault(CheckFault {
+            rule: 2,
+            function: 0,
+        }));
+    }
+    for (i, function) in functions.iter().enumerate() {
+        walk_function(alloc, &names, i as u32 + 1, function)?;
+    }
+    Ok(())
+}
+
+/// Takes a program that breaks no rule. The fault is the rule that is broken first: it is looked for whether two
+/// functions have one name, then whether there is `mainEdt`, then in each function in the order of the text.
+/// A program with more functions than can be numbered has no room.
+pub fn check(alloc: Global, program: Program) -> Result<Checked, CheckStop>
+    ensures tree { IfOk result (λ checked. checked_tree checked ≡ tree_of program) }
+    ensures ok { OnOk result (BreaksNoRule (tree_of program)) }
+    ensures fault { IfErr result (IsStopOf (tree_of program)) }
+{
+    if program.functions.len() > u32::MAX as usize {
+        return Err(CheckStop::NoMemory);
+    }
+    judge(alloc, &program.functions)?;
+    Ok(Checked::new(program))
+}
+
+/// A program has at most one first breach.
+pub fn breach_law()
+    ensures { BreachLaw }
+{}
+
+#[cfg(test)]
+mod tests;

@@ -1,0 +1,412 @@
+// The walk of a function in the order of its text, with the names that were let.
+ghost use Rattle.std.specs.Prelude.{◌≡◌, ℕ, List, None, IfErr, OnOk};
+ghost use Rattle.ocr_check.specs.Check.{Used, FunctionNamed};
+ghost use Rattle.ocr_check.specs.declared.scope.ListKind.TheVariants.{Parameters, Dependences};
+ghost use Rattle.ocr_body.specs.declared.tree.CallName.TheVariants.{EdtCreate};
+ghost use Rattle.ocr_check.specs.Check.{is_among as among, is_built as built};
+ghost use Rattle.ocr_check.specs.Checking.{event_rule, expression_rule, arguments_rule, call_rule, let_rule, with_name, nothing_kept, Passed, leaving, statement_outcome, statements_outcome, function_rule};
+ghost use Rattle.ocr_check.specs.Scope.{texts, known_in, declared_in, kept_in, knows, members_rule, assign_rule, IsFaultIn, IsStopIn, IsStopAt, IsSameFunction};
+ghost use Rattle.ocr_body.specs.Tree.{Let};
+ghost use Rattle.ocr_body.specs.View.{expression_of, name_of, arguments_of, output_of, statement_of, statements_of, function_of};
+
+use crate::rules::{CheckFault, CheckStop};
+use ocr_body::{Expr, Function, Invoke, Name, Stmt};
+use std::alloc::Global;
+use std::collections::BTreeSet;
+
+/// The most names that a function lets.
+const MOST_LETS: usize = 64;
+
+/// A list of a call.
+#[derive(Clone, Copy)]
+pub enum ListKind {
+    Parameters,
+    Dependences,
+}
+
+impl ListKind {
+    ghost use Rattle.ocr_check.specs.Check.{most_members};
+
+    // The most members of such a list.
+    fn most_members(self) -> usize
+        ensures { result ≡ most_members self }
+    {
+        match self {
+            ListKind::Parameters => 16,
+            ListKind::Dependences => 32,
+        }
+    }
+}
+
+// The values of a call, one after the other.
+macro_rules! values {
+    ($scope:expr; $($value:expr),*) => {{
+        $($scope.expression($value)?;)*
+        Ok(())
+    }};
+}
+
+/// Where the walk of a function stands: the functions that there are, the number of this one, its names that were
+/// let, and those of them that are declared here.
+#[derive(Drop)]
+pub struct Scope<'n, 'a> {
+    names: &'n BTreeSet<&'a [u8]>,
+    function: u32,
+    lets: Vec<&'a [u8]>,
+    declared: Vec<&'a [u8]>,
+}
+
+// Whether a name is among others.
+#[tactic(auto, using(crate::proofs::Names::list_any_texts))]
+fn is_among(name: &[u8], others: &[&[u8]]) -> bool
+    ensures { result ≡ among name.now (texts others.now) }
+{
+    others.contains(&name)
+}
+
+// Whether a call can be made already.
+fn is_built(call: &Invoke) -> bool
+    ensures { result ≡ built (name_of call.now) (arguments_of call.now) }
+{
+    match call {
+        Invoke::DbCreate { .. } => false,
+        Invoke::DbRelease { .. } => false,
+        Invoke::DbDestroy { .. } => false,
+        Invoke::EventCreate { .. } => false,
+        Invoke::EventCreateParams { .. } => false,
+        Invoke::EventDestroy { .. } => false,
+        Invoke::Satisfy { .. } => false,
+        Invoke::SatisfySlot { .. } => false,
+        Invoke::AddDependence { .. } => false,
+        Invoke::TemplateCreate { .. } => false,
+        Invoke::TemplateDestroy { .. } => false,
+        Invoke::EdtCreate { .. } => false,
+        Invoke::Shutdown => true,
+        Invoke::Abort { .. } => true,
+        Invoke::Load { .. } => false,
+        Invoke::Store { .. } => false,
+    }
+}
+
+impl<'n, 'a> Scope<'n, 'a> {
+    // The start of a function.
+    fn new(alloc: Global, names: &'n BTreeSet<&'a [u8]>, function: u32) -> Self
+        ensures names { result.names.now ≡ names.now }
+        ensures function { result.function ≡ function }
+        ensures kept { kept_in result ≡ nothing_kept }
+    {
+        Scope {
+            names,
+            function,
+            lets: Vec::new(alloc),
+            declared: Vec::new(alloc),
+        }
+    }
+
+    // The fault of a rule in this function.
+    fn fault(&self, rule: u32) -> CheckFault
+        ensures rule { result.rule ≡ rule }
+        ensures function { result.function ≡ self.now.function }
+    {
+        CheckFault {
+            rule,
+            function: self.function,
+        }
+    }
+
+    // A variable is read, assigned or written.
+    fn used(&self, name: &Name) -> Result<(), CheckFault>
+        ensures ok { OnOk result (event_rule (known_in self.now) (declared_in self.now) (Used name.now) ≡ None) }
+        ensures err { IfErr result (IsFaultIn self.now
+            (event_rule (known_in self.now) (declared_in self.now) (Used name.now))) }
+    {
+        if !is_among(name.as_bytes(), &self.declared) {
+            return Err(self.fault(4));
+        }
+        Ok(())
+    }
+
+    // A function is named.
+    fn function_named(&self, name: &Name) -> Result<(), CheckFault>
+        ensures ok { OnOk result (event_rule (known_in self.now) (declared_in self.now) (FunctionNamed name.now) ≡ None) }
+        ensures err { IfErr result (IsFaultIn self.now
+            (event_rule (known_in self.now) (declared_in self.now) (FunctionNamed name.now))) }
+    {
+        if !self.names.contains(name.as_bytes()) {
+            return Err(self.fault(5));
+        }
+        Ok(())
+    }
+
+    // The variable after `&`, where one stands.
+    #[tactic(auto, using(crate::proofs::Parts::or_end))]
+    fn output(&self, output: &Option<Name>) -> Result<(), CheckFault>
+        ensures ok { OnOk result (arguments_rule (known_in self.now) (declared_in self.now) EdtCreate Dependences (output_of output.now) ≡ None) }
+        ensures err { IfErr result (IsFaultIn self.now
+            (arguments_rule (known_in self.now) (declared_in self.now) EdtCreate Dependences (output_of output.now))) }
+    {
+        match output {
+            Some(name) => self.used(name),
+            None => Ok(()),
+        }
+    }
+
+    // An expression.
+    #[cycle(expression)]
+    #[tactic(auto, using(crate::proofs::Parts::or_both, crate::proofs::Parts::or_first, crate::proofs::Parts::or_second))]
+    fn expression(&self, expr: &Expr) -> Result<(), CheckFault>
+        ensures ok { OnOk result (expression_rule (known_in self.now) (declared_in self.now) (expression_of expr.now) ≡ None) }
+        ensures err { IfErr result (IsFaultIn self.now
+            (expression_rule (known_in self.now) (declared_in self.now) (expression_of expr.now))) }
+    {
+        match expr {
+            Expr::Number(_) => Ok(()),
+            Expr::Constant(_) => Ok(()),
+            Expr::Var(name) => self.used(name),
+            Expr::Paramc => Ok(()),
+            Expr::Depc => Ok(()),
+            Expr::Code => Ok(()),
+            Expr::Paramv(index) => self.expression(index),
+            Expr::Depv(index) => self.expression(index),
+            Expr::Unary(_, operand) => self.expression(operand),
+            Expr::Binary(_, left, right) => values!(self; left, right),
+            Expr::Invoke(call) => self.call(call),
+        }
+    }
+
+    // A call: its name, then its arguments.
+    #[cycle(expression)]
+    #[tactic(auto, using(crate::proofs::Parts::or_both, crate::proofs::Parts::or_first, crate::proofs::Parts::or_second))]
+    fn call(&self, call: &Invoke) -> Result<(), CheckFault>
+        ensures ok { OnOk result (call_rule (known_in self.now) (declared_in self.now) (name_of call.now) (arguments_of call.now) ≡ None) }
+        ensures err { IfErr result (IsFaultIn self.now
+            (call_rule (known_in self.now) (declared_in self.now) (name_of call.now) (arguments_of call.now))) }
+    {
+        if !is_built(call) {
+            return Err(self.fault(8));
+        }
+        self.arguments(call)
+    }
+
+    // The arguments of a call.
+    #[cycle(expression)]
+    #[tactic(auto, using(crate::proofs::Parts::or_both, crate::proofs::Parts::or_first, crate::proofs::Parts::or_second, crate::proofs::Rows::edt_params, crate::proofs::Rows::edt_depc, crate::proofs::Rows::edt_deps, crate::proofs::Rows::edt_flags, crate::proofs::Rows::edt_output))]
+    fn arguments(&self, call: &Invoke) -> Result<(), CheckFault>
+        ensures ok { OnOk result (arguments_rule (known_in self.now) (declared_in self.now) (name_of call.now) Parameters (arguments_of call.now) ≡ None) }
+        ensures err { IfErr result (IsFaultIn self.now
+            (arguments_rule (known_in self.now) (declared_in self.now) (name_of call.now) Parameters (arguments_of call.now))) }
+    {
+        match call {
+            Invoke::DbCreate { length, flags } => values!(self; length, flags),
+            Invoke::DbRelease { block } => values!(self; block),
+            Invoke::DbDestroy { block } => values!(self; block),
+            Invoke::EventCreate { kind, flags } => values!(self; kind, flags),
+            Invoke::EventCreateParams {
+                kind,
+                flags,
+                max_gen,
+                nb_sat,
+                nb_deps,
+            } => values!(self; kind, flags, max_gen, nb_sat, nb_deps),
+            Invoke::EventDestroy { event } => values!(self; event),
+            Invoke::Satisfy { event, payload } => values!(self; event, payload),
+            Invoke::SatisfySlot {
+                event,
+                payload,
+                slot,
+            } => values!(self; event, payload, slot),
+            Invoke::AddDependence {
+                source,
+                target,
+                slot,
+                mode,
+            } => values!(self; source, target, slot, mode),
+            Invoke::TemplateCreate {
+                function,
+                paramc,
+                depc,
+            } => {
+                self.function_named(function)?;
+                values!(self; paramc, depc)
+            }
+            Invoke::TemplateDestroy { template } => values!(self; template),
+            Invoke::EdtCreate {
+                template,
+                paramc,
+                params,
+                depc,
+                deps,
+                flags,
+                output,
+            } => {
+                self.expression(template)?;
+                self.expression(paramc)?;
+                self.members(ListKind::Parameters, params)?;
+                self.expression(depc)?;
+                self.members(ListKind::Dependences, deps)?;
+                self.expression(flags)?;
+                self.output(output)
+            }
+            Invoke::Shutdown => Ok(()),
+            Invoke::Abort { code } => values!(self; code),
+            Invoke::Load { block, word } => values!(self; block, word),
+            Invoke::Store { block, word, value } => values!(self; block, word, value),
+        }
+    }
+
+    // A list of values, and the bracket that closes it.
+    #[cycle(expression)]
+    #[tactic(auto, using(crate::proofs::Parts::or_both, crate::proofs::Parts::or_first, crate::proofs::Parts::or_second))]
+    fn members(&self, kind: ListKind, members: &[Expr]) -> Result<(), CheckFault>
+        ensures ok { OnOk result (members_rule self.now kind members.now ≡ None) }
+        ensures err { IfErr result (IsFaultIn self.now (members_rule self.now kind members.now)) }
+    {
+        for member in members {
+            self.expression(member)?;
+        }
+        if members.len() > kind.most_members() {
+            return Err(self.fault(6));
+        }
+        Ok(())
+    }
+
+    // A `let` begins.
+    fn let_begins(&self, name: &Name) -> Result<(), CheckFault>
+        ensures ok { OnOk result (let_rule (kept_in self.now) name.now ≡ None) }
+        ensures err { IfErr result (IsFaultIn self.now (let_rule (kept_in self.now) name.now)) }
+    {
+        if is_among(name.as_bytes(), &self.lets) {
+            return Err(self.fault(3));
+        }
+        if self.lets.len() >= MOST_LETS {
+            return Err(self.fault(7));
+        }
+        Ok(())
+    }
+
+    // The name of a `let` is declared.
+    #[tactic(auto, using(crate::proofs::Names::texts_push))]
+    fn declare(&mut self, name: &'a Name) -> Result<(), CheckStop>
+        ensures same { IsSameFunction self.old self.new }
+        ensures ok { OnOk result (kept_in self.new ≡ with_name (kept_in self.old) name.now) }
+        ensures err { IfErr result (λ stop. stop ≡ CheckStop.NoMemory) }
+    {
+        self.lets.push(name.as_bytes())?;
+        self.declared.push(name.as_bytes())?;
+        Ok(())
+    }
+
+    // A `let`: its name, its expression, and then the name is declared.
+    #[tactic(auto, using(crate::proofs::Outcomes::let_passes, crate::proofs::Outcomes::let_name_breaks, crate::proofs::Outcomes::let_value_breaks))]
+    fn let_statement(&mut self, name: &'a Name, value: &Expr) -> Result<(), CheckStop>
+        ensures same { IsSameFunction self.old self.new }
+        ensures ok { OnOk result (statement_outcome (known_in self.old) (Let name.now (expression_of value.now)) (kept_in self.old)
+            ≡ Passed (kept_in self.new)) }
+        ensures err { IfErr result (IsStopIn self.old
+            (statement_outcome (known_in self.old) (Let name.now (expression_of value.now)) (kept_in self.old))) }
+    {
+        self.let_begins(name)?;
+        self.expression(value)?;
+        self.declare(name)
+    }
+
+    // An assignment: the name of its variable, then its expression.
+    #[tactic(auto, using(crate::proofs::Parts::or_both, crate::proofs::Parts::or_first, crate::proofs::Parts::or_second))]
+    fn assignment(&self, name: &Name, value: &Expr) -> Result<(), CheckFault>
+        ensures ok { OnOk result (assign_rule self.now name.now (expression_of value.now) ≡ None) }
+        ensures err { IfErr result (IsFaultIn self.now (assign_rule self.now name.now (expression_of value.now))) }
+    {
+        self.used(name)?;
+        self.expression(value)
+    }
+
+    // A statement.
+    #[cycle(statement)]
+    #[tactic(auto, using(crate::proofs::Outcomes::told_none, crate::proofs::Outcomes::told_some, crate::proofs::Outcomes::if_test_breaks, crate::proofs::Outcomes::if_first_breaks, crate::proofs::Outcomes::while_test_breaks))]
+    fn statement(&mut self, stmt: &'a Stmt) -> Result<(), CheckStop>
+        ensures same { IsSameFunction self.old self.new }
+        ensures ok { OnOk result (statement_outcome (known_in self.old) (statement_of stmt.now) (kept_in self.old)
+            ≡ Passed (kept_in self.new)) }
+        ensures err { IfErr result (IsStopIn self.old
+            (statement_outcome (known_in self.old) (statement_of stmt.now) (kept_in self.old))) }
+    {
+        match stmt {
+            Stmt::Let { name, value } => self.let_statement(name, value),
+            Stmt::Assign { name, value } => {
+                self.assignment(name, value)?;
+                Ok(())
+            }
+            Stmt::If { test, yes, no } => {
+                self.expression(test)?;
+                self.block(yes)?;
+                self.block(no)
+            }
+            Stmt::While { test, body } => {
+                self.expression(test)?;
+                self.block(body)
+            }
+            Stmt::Print { value } => {
+                self.expression(value)?;
+                Ok(())
+            }
+            Stmt::Return { value } => {
+                self.expression(value)?;
+                Ok(())
+            }
+            Stmt::Invoke(call) => {
+                self.call(call)?;
+                Ok(())
+            }
+        }
+    }
+
+    // A block: what is declared in it is not seen after it.
+    #[cycle(statement)]
+    #[tactic(auto, using(crate::proofs::Outcomes::block_passes, crate::proofs::Outcomes::block_breaks))]
+    fn block(&mut self, stmts: &'a [Stmt]) -> Result<(), CheckStop>
+        ensures same { IsSameFunction self.old self.new }
+        ensures ok { OnOk result (leaving (kept_in self.old)
+            (statements_outcome (known_in self.old) (statements_of stmts.now) (kept_in self.old))
+            ≡ Passed (kept_in self.new)) }
+        ensures err { IfErr result (IsStopIn self.old (leaving (kept_in self.old)
+            (statements_outcome (known_in self.old) (statements_of stmts.now) (kept_in self.old)))) }
+    {
+        let before = self.declared.len();
+        self.statements(stmts)?;
+        self.declared.truncate(before);
+        Ok(())
+    }
+
+    // Statements one after the other.
+    #[cycle(statement)]
+    fn statements(&mut self, stmts: &'a [Stmt]) -> Result<(), CheckStop>
+        ensures same { IsSameFunction self.old self.new }
+        ensures ok { OnOk result (statements_outcome (known_in self.old) (statements_of stmts.now) (kept_in self.old)
+            ≡ Passed (kept_in self.new)) }
+        ensures err { IfErr result (IsStopIn self.old
+            (statements_outcome (known_in self.old) (statements_of stmts.now) (kept_in self.old))) }
+    {
+        for stmt in stmts {
+            self.statement(stmt)?;
+        }
+        Ok(())
+    }
+}
+
+/// Walks the body of a function, whose number is `number`, where these are the names of all functions.
+#[tactic(auto, using(crate::proofs::Outcomes::rule_passed, crate::proofs::Outcomes::rule_broke))]
+pub fn walk_function<'a>(
+    alloc: Global,
+    names: &BTreeSet<&'a [u8]>,
+    number: u32,
+    function: &'a Function,
+) -> Result<(), CheckStop>
+    ensures ok { OnOk result (function_rule (knows names.now) (function_of function.now) ≡ None) }
+    ensures err { IfErr result (IsStopAt number (function_rule (knows names.now) (function_of function.now))) }
+{
+    let mut scope = Scope::new(alloc, names, number);
+    scope.statements(&function.body)
+}
+
+#[cfg(test)]
+mod tests;
