@@ -106,6 +106,3 @@ pub fn check(alloc: Global, program: Program) -> Result<Checked, CheckStop>
 pub fn breach_law()
     ensures { BreachLaw }
 {}
-
-#[cfg(test)]
-mod tests;
