@@ -19,11 +19,12 @@ abbrev mutual
   is_built (tree.Invoked made xs) = is_call_built made && are_arguments_built xs
   is_built other = true
 
+  -- no call that is built takes a list or a name
   pub are_arguments_built : Arguments → Bool
   are_arguments_built tree.empty = true
   are_arguments_built (tree.value e rest) = is_built e && are_arguments_built rest
-  are_arguments_built (tree.list es rest) = are_arguments_built es && are_arguments_built rest
-  are_arguments_built (tree.named x rest) = are_arguments_built rest
+  are_arguments_built (tree.list es rest) = false
+  are_arguments_built (tree.named x rest) = false
 
 abbrev mutual
   pub is_statement_built : Statement → Bool

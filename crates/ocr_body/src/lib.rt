@@ -2,6 +2,7 @@
 #![tactic(auto)]
 
 mod api;
+mod bodies;
 mod call;
 mod checked;
 mod code;
@@ -13,6 +14,7 @@ mod tree;
 mod walker;
 
 pub use api::Api;
+pub use bodies::body_laws;
 pub use call::{Answer, BodyStop, Call};
 pub use checked::Checked;
 pub use code::{FunctionCode, Invocation, Node, Step};
