@@ -5,9 +5,12 @@ use Rattle.ocr_body.specs.Behaviour.{Behaviour, Ends, Stops, IsNext}
 use Rattle.ocr_body.specs.declared.call.Call as body
 use Rattle.ocr_body.specs.declared.call.Call.TheVariants as call
 use Rattle.ocr_body.specs.declared.call.Answer.{Answer}
+use Rattle.ocr_body.specs.declared.call.BodyStop.{BodyStop}
 use Rattle.ocr_body.specs.declared.call.BodyStop.TheVariants as stop
 use Rattle.ocr_machine.specs.declared.entry.Entry.{Entry}
 use Rattle.ocr_machine.specs.declared.entry.Entry.TheVariants.{Call, Acquire, Wait, StaleAcquire, Start, Free, End, Stop}
+use Rattle.ocr_machine.specs.declared.entry.Fault.{Fault}
+use Rattle.ocr_machine.specs.declared.entry.Fault.TheVariants as kind
 use Rattle.ocr_machine.specs.declared.entry.Stop as run
 use Rattle.ocr_machine.specs.declared.entry.Stop.TheVariants as by
 use Rattle.ocr_machine.specs.History.{History, Setting, is_stopped, pending}
@@ -35,8 +38,18 @@ pub record IsLeastHeld (past : History) (t d : ℕ) : Type 0 where
   pub held : is_holder past t d ≡ true
   pub least : (e : ℕ) → e < d → is_holder past t e ≡ false
 
+-- a fault, as its body says it
+abbrev pub faulted : Fault → BodyStop
+faulted kind.ZeroDivisor = stop.ZeroDivisor
+faulted kind.BadIndex = stop.BadIndex
+faulted kind.NotHeld = stop.NotHeld
+faulted kind.NotWritable = stop.NotWritable
+faulted kind.Fuel = stop.Fuel
+
 abbrev pub IsStop : Setting → History → run.Stop → Type 0
 IsStop s past (by.Shutdown t) = IsRunning past t × (says_next s past t ≡ Stops stop.Shutdown)
+IsStop s past (by.Abort t code) = IsRunning past t × (says_next s past t ≡ Stops (stop.Abort code))
+IsStop s past (by.Fault t why) = IsRunning past t × (says_next s past t ≡ Stops (faulted why))
 IsStop s past by.Memory = Unit {0}
 -- no other stop is built
 IsStop s past other = ⊥
