@@ -7,7 +7,14 @@ use Rattle.ocr_machine.specs.declared.part.Part.TheVariants as part
 use Rattle.ocr_machine.specs.Parts.{Parts}
 use Rattle.ocr_machine.specs.Table.{look, has, put, keys, as_face, as_core, is_within, face_in, core_in, parts_in}
 use Rattle.std.proofs.lemmas.Bool.{eqb-true}
-use Rattle.ocr_machine.specs.Effects.{with_face, with_core}
+use Rattle.ocr_datablock.specs.Block.{State}
+use Rattle.ocr_edt.specs.declared.Edt.{Edt}
+use Rattle.ocr_machine.specs.declared.part.Core.{Core}
+use Rattle.std.specs.Prelude.{Result, Ok, Err, IfOk, Option, Some, None}
+use Rattle.ocr_edt.specs.declared.Edt.TheVariants as phase
+use Rattle.ocr_edt.specs.Phases.{Progress, advanced, started}
+use Rattle.ocr_machine.specs.New.{HasFace, HasCore}
+use Rattle.ocr_machine.specs.Effects.{with_face, with_core, with_block, with_edt, progress_in, acquired_edt, started_edt}
 use Rattle.ocr_machine.specs.Footprint.{is_in}
 
 pub placed : (ps : List (ℕ × Part)) (i n : ℕ) (x : Part) (p : ℕ × Part) → i < length ps → p ≡ slice_index_or ps i p → p.0 ≡ n
@@ -113,3 +120,58 @@ face_put limit ps g x here within = λ i. record { face = λ m. face_at limit ps
 pub core_put : (limit : ℕ) (ps : List (ℕ × Part)) (t : ℕ) (x : Part) → has ps (limit + t) ≡ true → is_within limit t ≡ true
     → parts_in limit (put ps (limit + t) x) ≡ with_core (parts_in limit ps) t (as_core x)
 core_put limit ps t x here within = λ i. record { face = λ m. face_kept limit ps t x here within m i; core = λ u. core_at limit ps t x here within u i }
+
+-- what holds of a part that is there, and of no vacant one, holds within the limit
+pub within_core : (limit : ℕ) (ps : List (ℕ × Part)) (t : ℕ) (test : Part → Bool) → test part.Vacant ≡ false → test (core_in limit ps t) ≡ true → is_within limit t ≡ true
+within_core limit ps t test off on = elim (is_within limit t) as (λ b. test (if b then as_core (look ps (limit + t)) else part.Vacant) ≡ true → b ≡ true) [
+  | true ↦ λ _. refl
+  | false ↦ λ on. cc (off, on)
+] on
+
+pub within_face : (limit : ℕ) (ps : List (ℕ × Part)) (g : ℕ) (test : Part → Bool) → test part.Vacant ≡ false → test (face_in limit ps g) ≡ true → is_within limit g ≡ true
+within_face limit ps g test off on = elim (is_within limit g) as (λ b. test (if b then as_face (look ps g) else part.Vacant) ≡ true → b ≡ true) [
+  | true ↦ λ _. refl
+  | false ↦ λ on. cc (off, on)
+] on
+
+-- a core, or a block, after a step
+pub core_step : (limit : ℕ) (ps : List (ℕ × Part)) (t : ℕ) (c : Core) (step : Edt → Edt) → look ps (limit + t) ≡ part.Core c → is_within limit t ≡ true
+    → parts_in limit (put (put ps (limit + t) part.Vacant) (limit + t) (part.Core (record { function = c.function; params = c.params; edt = step c.edt })))
+    ≡ with_core (parts_in limit ps) t (with_edt (core_in limit ps t) step)
+core_step limit ps t c step is within =
+    rw (put_put ps (limit + t) part.Vacant (part.Core (record { function = c.function; params = c.params; edt = step c.edt })), within, is)
+    (core_put limit ps t (part.Core (record { function = c.function; params = c.params; edt = step c.edt })) (has_look ps (limit + t) (rw is refl)) within)
+
+pub block_step : (limit : ℕ) (ps : List (ℕ × Part)) (g : ℕ) (st : State) (step : State → State) → look ps g ≡ part.Block st → is_within limit g ≡ true
+    → parts_in limit (put (put ps g part.Vacant) g (part.Block (step st))) ≡ with_face (parts_in limit ps) g (with_block (face_in limit ps g) step)
+block_step limit ps g st step is within =
+    rw (put_put ps g part.Vacant (part.Block (step st)), within, is) (face_put limit ps g (part.Block (step st)) (has_look ps g (rw is refl)) within)
+
+-- both parts of an EDT that is made
+pub edt_put : (limit : ℕ) (ps : List (ℕ × Part)) (g : ℕ) (x y : Part) → HasFace limit ps g → HasCore limit ps g
+    → parts_in limit (put (put ps g x) (limit + g) y) ≡ with_core (with_face (parts_in limit ps) g (as_face x)) g (as_core y)
+edt_put limit ps g x y face core =
+    core_put limit (put ps g x) g y (has_keys (put ps g x) (limit + g) ∙ ap (is_in (limit + g)) (keys_put ps g x) ∙ sym (has_keys ps (limit + g)) ∙ core.here) core.within
+    ∙ ap (λ (f : Parts). with_core f g (as_core y)) (face_put limit ps g x face.here face.within)
+
+-- an EDT that acquires goes on
+pub acquires : (e : Edt) (s : Progress) → progress_in e ≡ Some s → acquired_edt e ≡ phase.Acquiring (advanced s false)
+acquires (phase.Filling i) s is = cc
+acquires (phase.Acquiring p) s is = cc
+acquires (phase.Waiting p) s is = cc
+acquires (phase.Running p) s is = cc
+acquires (phase.Ended i) s is = cc
+
+pub starts : (e : Edt) (s : Progress) → progress_in e ≡ Some s → started_edt e ≡ phase.Running (started s)
+starts (phase.Filling i) s is = cc
+starts (phase.Acquiring p) s is = cc
+starts (phase.Waiting p) s is = cc
+starts (phase.Running p) s is = cc
+starts (phase.Ended i) s is = cc
+
+pub ok_map : {T E P Q : Type 0} (r : Result T E) → IfOk r (λ _. P) → (P → Q) → IfOk r (λ _. Q)
+ok_map (Ok x) p f = f p
+ok_map (Err e) p f = tt
+
+pub face_is : (limit : ℕ) (ps : List (ℕ × Part)) (g : ℕ) (x : Part) → is_within limit g ≡ true → look ps g ≡ x → face_in limit ps g ≡ as_face x
+face_is limit ps g x within is = rw (within, is) refl

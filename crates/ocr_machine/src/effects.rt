@@ -1,13 +1,14 @@
 // What an entry does to the parts that it names.
-ghost use Rattle.std.specs.Prelude.{◌≡◌, ◌≤◌, ◌+◌, ℕ, List, [], true, is_some, Some, IfOk};
+ghost use Rattle.std.specs.Prelude.{◌≡◌, ◌≤◌, ◌+◌, ℕ, List, [], true, false, is_some, Some, IfOk};
 ghost use Rattle.ocr_acquire.specs.Plan.{IsWellFormed};
 ghost use Rattle.ocr_datablock.specs.Block.{asked_by, released};
-ghost use Rattle.ocr_machine.specs.Made.{is_done};
+ghost use Rattle.ocr_edt.specs.declared.Edt.TheVariants as phase;
+ghost use Rattle.ocr_template.specs.Template.{meant};
 ghost use Rattle.ocr_machine.specs.Parts.{Parts, identity_of};
 ghost use Rattle.ocr_machine.specs.Calls.{asks_in};
 ghost use Rattle.ocr_machine.specs.Codes.{code_of};
 ghost use Rattle.ocr_machine.specs.Table.{look, has, keys, as_face, as_core, face_in, core_in, parts_in};
-ghost use Rattle.ocr_machine.specs.Effects.{with_face, with_core, with_block, with_edt, plan_in, made_ready, progress_in, progress_on, next_on, mode_next, acquired_edt, started_edt, dropped_edt, ended_edt, called, acquired, freed, changed};
+ghost use Rattle.ocr_machine.specs.Effects.{with_face, with_core, with_block, with_edt, plan_in, new_face, new_core, made_ready, progress_in, progress_on, next_on, mode_next, acquired_edt, started_edt, dropped_edt, ended_edt, called, acquired, freed, changed};
 ghost use Rattle.ocr_machine.specs.LegalOn.{IsLegalOn, IsAnswered, is_running, is_held_by, is_lent, grants, IsAcquireOn, IsStartOn, IsFreeOn, IsEndOn};
 ghost use Rattle.ocr_machine.specs.New.{HasNew, HasFace, HasCore, is_template, meant_slots};
 ghost use Rattle.ocr_guid.specs.declared.Code.TheVariants as code;
@@ -164,23 +165,33 @@ fn create_edt(
         unreachable!()
     };
     let template = *template;
-    let count = if depc == EDT_PARAM_DEF {
-        template.depc
-    } else {
-        depc
-    };
-    let slots = Slots::new(alloc, count as u32)?;
-    let Ok(params) = params.clone() else {
-        return Err(NoMemory);
-    };
-    let core = Core {
-        function: template.function,
-        params,
-        edt: Edt::Filling(Filling::new(Guid(edt), Guid::NULL, Guid::NULL, false)),
-    };
+    let slots = Slots::new(alloc, meant_count(template.depc, depc) as u32)?;
+    let core = made_core(alloc, template.function, params, edt)?;
     replace(parts, edt, Part::Edt(slots));
     replace(parts, limit + edt, Part::Core(core));
     Ok(())
+}
+
+/// The count that a creation means.
+fn meant_count(own: u64, given: u64) -> u64
+    ensures { result ≡ meant own given }
+{
+    if given == EDT_PARAM_DEF { own } else { given }
+}
+
+/// The core of a new EDT.
+fn made_core(alloc: Global, function: u32, params: &Seq<u64>, edt: u64) -> Result<Core, NoMemory>
+    ensures { IfOk result
+        (λ core. core ≡ record { function = function; params = params.now; edt = phase.Filling (identity_of edt) }) }
+{
+    let Ok(params) = Vec::from_slice(alloc, params.as_slice()) else {
+        return Err(NoMemory);
+    };
+    Ok(Core {
+        function,
+        params: Seq::from_vec(params),
+        edt: Edt::Filling(Filling::new(Guid(edt), Guid::NULL, Guid::NULL, false)),
+    })
 }
 
 // EDTS THAT ACQUIRE.
