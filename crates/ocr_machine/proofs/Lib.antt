@@ -1,3 +1,4 @@
 pub mod After
 pub mod Footprints
+pub mod Local
 pub mod Places
