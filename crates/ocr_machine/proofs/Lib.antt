@@ -1,1 +1,4 @@
-pub mod Starts
+pub mod After
+pub mod Footprints
+pub mod Local
+pub mod Places
