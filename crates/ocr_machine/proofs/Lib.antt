@@ -1,4 +1,5 @@
 pub mod After
+pub mod Arguments
 pub mod Footprints
 pub mod Local
 pub mod Places
