@@ -3,3 +3,4 @@ pub mod Arguments
 pub mod Footprints
 pub mod Local
 pub mod Places
+pub mod Told
