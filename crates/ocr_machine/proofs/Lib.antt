@@ -3,4 +3,5 @@ pub mod Arguments
 pub mod Footprints
 pub mod Local
 pub mod Places
+pub mod Present
 pub mod Told

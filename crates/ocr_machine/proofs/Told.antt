@@ -317,3 +317,62 @@ told_law s past t run =
         λ is. runs (f t) ∙ rw (sym k.started_is ∙ is.started, sym k.ended_is ∙ is.not_ended) refl,
       );
     }
+
+-- STARTS
+counted : (b c : Bool) (n : ℕ) → (b || c) ≡ false → (c ≡ false → n ≡ 0) → (if b then 1 else 0) + n ≡ 0
+counted true c n is rest = cc is
+counted false c n is rest = omega (arith, rest is)
+
+-- an EDT that has not started has no start
+no_start : (past : History) (t : ℕ) → is_started past t ≡ false → start_count past t ≡ 0
+no_start [] t is = refl
+no_start (Start edt ∷ past) t is = counted (edt == t) (is_started past t) (start_count past t) is (no_start past t)
+no_start (e ∷ past) t is = no_start past t is
+
+one_more : (b : Bool) (n : ℕ) → (b ≡ true → n ≡ 0) → n ≤ 1 → (if b then 1 else 0) + n ≤ 1
+one_more true n none most = omega (arith, none refl)
+one_more false n none most = omega (arith, most)
+
+pub start_law : StartLaw
+start_law s [] run t = omega arith
+start_law s (Start u ∷ past) run t =
+    one_more (u == t) (start_count past t) (λ same. no_start past t (subst (λ (k : ℕ). is_started past k ≡ false) (eqb-true u t same)
+    ((known s past u run.0).started_is ∙ (begins (plan_in ((parts_of s past).face u)) ((parts_of s past).core u) run.1.on_parts.acquiring).0))) (start_law s past run.0 t)
+start_law s (e ∷ past) run t = start_law s past run.0 t
+
+later_or : (b c : Bool) → (b || c) ≡ false → c ≡ false
+later_or true c is = cc
+later_or false c is = is
+
+-- BODIES. Before it starts, an EDT has made no call
+pub fresh_law : FreshLaw
+fresh_law s [] t run off = refl
+fresh_law s (Call u home c a w ∷ past) t run off = elim (u == t) as (λ b. (u == t) ≡ b → (if b then (record { call = c; answer = a }) ∷ own past t else own past t) ≡ []) [
+  | true ↦ λ same.
+      let started : is_started past u ≡ true = ((told_law s past u run.0).running.0 run.1.on_parts.running).started in
+      let here : is_started past t ≡ true = subst (λ (k : ℕ). is_started past k ≡ true) (eqb-true u t same) started in
+      cc (here, off)
+  | false ↦ λ _. fresh_law s past t run.0 off
+] refl
+fresh_law s (Start u ∷ past) t run off = fresh_law s past t run.0 (later_or (u == t) (is_started past t) off)
+fresh_law s (e ∷ past) t run off = fresh_law s past t run.0 off
+
+not_remade : (s : Setting) (past : History) (a : Answer) (t : ℕ) → IsNamed s.limit (parts_of s past) a → is_core ((parts_of s past).core t) ≡ true → makes a t ≡ false
+not_remade s past a t named there = elim (is_done a.code) as (λ b. is_done a.code ≡ b → (b && (a.value == t)) ≡ false) [
+  | true ↦ λ on. elim (a.value == t) as (λ b. (a.value == t) ≡ b → b ≡ false) [
+    | true ↦ λ same.
+        let vacant : (parts_of s past).core t ≡ part.Vacant = subst (λ (k : ℕ). (parts_of s past).core k ≡ part.Vacant) (eqb-true a.value t same) (fresh_core s past a on named) in
+        let none : is_core ((parts_of s past).core t) ≡ false = ap is_core vacant in
+        cc (none, there)
+    | false ↦ λ _. refl
+  ] refl
+  | false ↦ λ _. refl
+] refl
+
+-- an entry changes no body
+pub body_law : BodyLaw
+body_law s past (Call u home (call.TemplateCreate f pc dc) a w) t run made =
+    rw (not_remade s past a t run.1.on_parts.value ((known s past t run.0).made ∙ made)) refl
+body_law s past (Call u home (call.EdtCreate from pc ps dc ds fl o) a w) t run made =
+    rw (not_remade s past a t run.1.on_parts.value.0 ((known s past t run.0).made ∙ made)) refl
+body_law s past other t run made = refl
