@@ -1,5 +1,6 @@
 use Rattle.std.proofs.Common.{◌≡◌}
 use Rattle.ocr_machine.proofs.Told.{told_law, fresh_law, body_law}
+use Rattle.ocr_machine.proofs.Present.{IsPresent}
 use Rattle.ocr_machine.proofs.laws.going_laws.Goals as goal
 
 pub returns-clause-told : goal.returns-clause-told
