@@ -1,4 +1,7 @@
 pub mod After
+pub mod Arguments
 pub mod Footprints
 pub mod Local
 pub mod Places
+pub mod Present
+pub mod Told
