@@ -1,4 +1,8 @@
+pub mod Going
 pub mod Headline
+pub mod Limits
 pub mod Lines
 pub mod ProgramText
+pub mod Serving
 pub mod UnderWay
+pub mod Whole

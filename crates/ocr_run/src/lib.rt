@@ -4,9 +4,11 @@
 mod desk;
 mod ending;
 mod execute;
+mod going;
 mod lines;
 mod log;
 mod output;
+mod table;
 mod text;
 mod top;
 mod worker;

@@ -1,0 +1,74 @@
+-- A run by one worker that goes on: it runs each EDT to its end, in the order in which they were made.
+use Rattle.std.specs.Prelude.{◌≡◌, ◌≤◌, ◌<◌, ℕ, List, [], ◌∷◌, length, Bool, true, false, ◌==◌, Option, Some, None, is_some}
+use Rattle.ocr_acquire.specs.declared.Mode.TheVariants as mode
+use Rattle.ocr_body.specs.Tree.{FunctionTree}
+use Rattle.ocr_body.specs.declared.call.Call as body
+use Rattle.ocr_body.specs.declared.call.Call.TheVariants as call
+use Rattle.ocr_body.specs.declared.call.Answer.{Answer}
+use Rattle.ocr_machine.specs.declared.entry.Entry.{Entry}
+use Rattle.ocr_machine.specs.declared.entry.Entry.TheVariants.{Stop}
+use Rattle.ocr_machine.specs.declared.entry.Stop as run
+use Rattle.ocr_machine.specs.declared.part.Part.{Part}
+use Rattle.ocr_machine.specs.History.{History, Setting, is_stopped, own}
+use Rattle.ocr_machine.specs.Made.{Made, MadeBlock, MadeTemplate, MadeEdt, made, is_edt}
+use Rattle.ocr_machine.specs.Edts.{is_started, is_ended, IsRunning}
+use Rattle.ocr_machine.specs.Parts.{parts_of}
+use Rattle.ocr_machine.specs.Table.{is_within}
+use Rattle.ocr_machine.specs.LegalOn.{holds_in}
+use Rattle.ocr_machine.specs.Legal.{IsRun, IsLegal}
+use Rattle.ocr_machine.specs.Output.{status_of}
+use Rattle.ocr_machine.specs.Footprint.{weight}
+use Rattle.ocr_run.specs.UnderWay.{setting_of, IsRunnable, IsMet}
+use Rattle.ocr_run.specs.Limits.{share, IsLimitCause}
+use Rattle.ocr_run.specs.Whole.{whole}
+
+-- a call that is built, of a program with so many functions
+abbrev pub IsServed : ℕ → body.Call → Type 0
+IsServed functions (call.Print v) = Unit {0}
+IsServed functions (call.TemplateCreate function paramc depc) = (0 < function) × (function ≤ functions)
+IsServed functions (call.EdtCreate template paramc params depc deps flags output) = (length params ≤ 16) × ((deps ≡ []) × (output ≡ false))
+IsServed functions other = ⊥
+
+-- what is made is of a function that the program has
+abbrev pub IsOfProgram : ℕ → Option Made → Type 0
+IsOfProgram functions None = Unit {0}
+IsOfProgram functions (Some (MadeBlock n)) = Unit {0}
+IsOfProgram functions (Some (MadeTemplate f pc dc)) = (0 < f) × (f ≤ functions)
+IsOfProgram functions (Some (MadeEdt f ps n)) = (0 < f) × (f ≤ functions)
+
+-- a run of a program that goes on, whose objects have the numbers from 1 on
+pub record IsGoing (program : List FunctionTree) (past : History) (count : ℕ) : Type 0 where
+  pub runnable : IsRunnable program
+  pub run : IsRun (setting_of program) past
+  pub open_run : is_stopped past ≡ false
+  pub dense : (n : ℕ) → is_some (made (setting_of program) past n) ≡ is_within count n
+  pub some : 2 ≤ count
+  pub limit : count ≤ 4096
+  pub functions : (n : ℕ) → IsOfProgram (length program) (made (setting_of program) past n)
+
+-- what is known of its entries and parts
+pub record IsHeld (program : List FunctionTree) (past : History) (parts : List Part) (sum : ℕ) : Type 0 where
+  pub parts : whole 4096 parts ≡ parts_of (setting_of program) past
+  pub sum : sum ≡ weight past
+  pub within : sum ≤ share
+
+-- it may be stopped so
+pub record IsStoppable (s : Setting) (past : History) (why : run.Stop) : Type 0 where
+  pub run : IsRun s past
+  pub legal : IsLegal s past (Stop why)
+  pub within : weight past ≤ share
+  pub cause : IsLimitCause s past why
+  pub met : IsMet (status_of why)
+
+-- the EDTs before this one have ended, and it and those after it have not started
+pub record IsBefore (past : History) (t : ℕ) : Type 0 where
+  pub ended : (u : ℕ) → u < t → is_edt past u ≡ true → is_ended past u ≡ true
+  pub later : (u : ℕ) → t ≤ u → is_started past u ≡ false
+  pub first : t ≡ 2 → past ≡ []
+
+-- the EDTs before this one have ended, this one runs, and those after it have not started
+pub record IsServing (s : Setting) (past : History) (t : ℕ) : Type 0 where
+  pub running : IsRunning past t
+  pub ended : (u : ℕ) → u < t → is_edt past u ≡ true → is_ended past u ≡ true
+  pub later : (u : ℕ) → t < u → is_started past u ≡ false
+  pub holds : t ≡ 2 → holds_in ((parts_of s past).core 2) ≡ (1, mode.Rw) ∷ []
