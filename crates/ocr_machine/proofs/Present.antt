@@ -49,7 +49,7 @@ held_by (phase.Running w) = w.holds
 held_by (phase.Ended i) = []
 
 -- the argument block, as the first EDT holds it
-abbrev one_hold : List (ℕ × Mode)
+abbrev pub one_hold : List (ℕ × Mode)
 one_hold = (1, mode.Rw) ∷ []
 
 -- how far the first EDT may have come
@@ -105,7 +105,7 @@ pub record IsPresent (f : Parts) : Type 0 where
 first_plan : plan_in (part.Edt first_slots) ≡ one_hold
 first_plan = refl
 
-abbrev FirstAcquires : Edt → block.State → ℕ → Mode → Type 0
+abbrev pub FirstAcquires : Edt → block.State → ℕ → Mode → Type 0
 FirstAcquires e b d m = (d ≡ 1) × IsCalm (block.asked_by b 2 m) (acquired_edt (made_ready one_hold e)) × IsOnItsWay (acquired_edt (made_ready one_hold e))
     × (is_some (block.mode_in 2 b.holders) ≡ false) × ((not (is_null m) && block.is_grantable b m) ≡ true)
 
@@ -121,7 +121,7 @@ asked_calm b i calm = (
 some_same : {A : Type 0} {x y : A} → Some x ≡ Some y → x ≡ y
 some_same is = cc
 
-first_acquires : (e : Edt) (b : block.State) (d : ℕ) (m : Mode) → IsCalm b e → IsOnItsWay e → next_in (progress_in (made_ready one_hold e)) ≡ Some (d, m) → FirstAcquires e b d m
+pub first_acquires : (e : Edt) (b : block.State) (d : ℕ) (m : Mode) → IsCalm b e → IsOnItsWay e → next_in (progress_in (made_ready one_hold e)) ≡ Some (d, m) → FirstAcquires e b d m
 first_acquires (phase.Filling i) b d m calm way next =
     let is_d : 1 ≡ d = ap (λ (p : ℕ × Mode). p.0) (some_same next) in
     let is_m : mode.Rw ≡ m = ap (λ (p : ℕ × Mode). p.1) (some_same next) in
@@ -155,7 +155,7 @@ first_frees_work w b d calm (inr one) least =
       rw (calm.holders, one) refl,
     )
 
-first_frees : (e : Edt) (b : block.State) (d : ℕ) → IsCalm b e → IsOnItsWay e → least_of (edt_holds e) ≡ Some d
+pub first_frees : (e : Edt) (b : block.State) (d : ℕ) → IsCalm b e → IsOnItsWay e → least_of (edt_holds e) ≡ Some d
     → (d ≡ 1) × IsCalm (block.released b 2) (dropped_edt 1 e) × IsOnItsWay (dropped_edt 1 e) × (is_some (block.mode_in 2 b.holders) ≡ true)
 first_frees (phase.Filling i) b d calm way least = cc
 first_frees (phase.Acquiring s) b d calm way least = cc
@@ -227,7 +227,7 @@ plain_ended (part.Block st) plain = plain
 plain_ended (part.Template t) plain = plain
 plain_ended (part.Core c) plain = plain_ended_edt c.edt plain
 
-plain_holds : (x : Part) → IsPlain x → holds_in x ≡ []
+pub plain_holds : (x : Part) → IsPlain x → holds_in x ≡ []
 plain_holds part.Vacant plain = refl
 plain_holds (part.Edt slots) plain = refl
 plain_holds (part.Block st) plain = refl
@@ -331,7 +331,7 @@ present_first_core f p b e y g one same is calm way = record {
 }
 
 -- THE FIRST EDT goes on
-first_next : (f : Parts) (p : IsPresent f) → next_on f 2 ≡ next_in (progress_in (made_ready one_hold p.first.edt))
+pub first_next : (f : Parts) (p : IsPresent f) → next_on f 2 ≡ next_in (progress_in (made_ready one_hold p.first.edt))
 first_next f p = rw (p.two, p.core) refl
 
 first_stepped : (f : Parts) (p : IsPresent f) (step : List (ℕ × Mode) → Edt → Edt)
@@ -375,7 +375,7 @@ other_plan f t p apart = elim (1 == t) as (λ b. (1 == t) ≡ b → plan_in (f.f
   | false ↦ λ one. bare_plan (f.face t) (p.bare t one apart)
 ] refl
 
-other_next : (f : Parts) (t : ℕ) → IsPresent f → (2 == t) ≡ false → next_on f t ≡ None
+pub other_next : (f : Parts) (t : ℕ) → IsPresent f → (2 == t) ≡ false → next_on f t ≡ None
 other_next f t p apart = ap (λ (members : List (ℕ × Mode)). next_in (core_progress members (f.core t))) (other_plan f t p apart) ∙ plain_next (f.core t) (p.others t apart)
 
 called_present : (limit : ℕ) (f : Parts) (t home : ℕ) (c : body.Call) (a : Answer) (w : List (ℕ × ℕ)) → IsPresent f → is_done a.code ≡ true → IsCallOn limit f t home c a w → IsPresent (called c a f)
