@@ -6,3 +6,4 @@ pub mod Local
 pub mod Places
 pub mod Present
 pub mod Told
+pub mod Wholes

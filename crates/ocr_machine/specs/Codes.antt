@@ -44,3 +44,8 @@ code_of f (call.TemplateCreate function pc dc) = template_code pc dc
 code_of f (call.EdtCreate from pc params dc deps flags output) = creation_code (f from) pc params dc deps flags
 -- no other call is built
 code_of f other = code.Einval
+
+-- the object that a call wants as a template; 0 where it wants none
+abbrev pub template_of : body.Call → ℕ
+template_of (call.EdtCreate from pc params dc deps flags output) = from
+template_of other = 0
