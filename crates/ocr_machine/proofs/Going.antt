@@ -8,26 +8,27 @@ use Rattle.ocr_acquire.specs.declared.Mode.TheVariants as mode
 use Rattle.ocr_acquire.specs.Mode.{is_null}
 use Rattle.ocr_slots.specs.declared.Slot.{Slot}
 use Rattle.ocr_slots.specs.Slots as slot
-use Rattle.ocr_slots.proofs.Laws.{open_law}
+use Rattle.ocr_slots.proofs.Laws.{open_law as slots_open, size_law}
 use Rattle.ocr_datablock.specs.Block as block
 use Rattle.ocr_edt.specs.declared.Edt.{Edt}
 use Rattle.ocr_edt.specs.declared.Edt.TheVariants as phase
 use Rattle.ocr_edt.specs.Edt as edt
-use Rattle.ocr_edt.specs.Phases.{Work, least_of}
+use Rattle.ocr_edt.specs.Phases.{Progress, least_of}
 use Rattle.ocr_machine.specs.declared.entry.Entry.{Entry}
-use Rattle.ocr_machine.specs.declared.entry.Entry.TheVariants.{Acquire, Start, Free}
+use Rattle.ocr_machine.specs.declared.entry.Entry.TheVariants.{Call, Deliver, Acquire, Wait, StaleAcquire, Start, Free, End, Stop}
 use Rattle.ocr_machine.specs.declared.part.Part.{Part}
 use Rattle.ocr_machine.specs.declared.part.Part.TheVariants as part
 use Rattle.ocr_machine.specs.History.{History, Setting, is_stopped}
 use Rattle.ocr_machine.specs.Made.{Made, MadeBlock, MadeTemplate, MadeEdt, made, is_edt, depc_in}
-use Rattle.ocr_machine.specs.Calls.{slot_calls, block_calls, edt_calls, open_slots}
-use Rattle.ocr_machine.specs.Edts.{is_started}
+use Rattle.ocr_machine.specs.Calls.{depc_of, slot_calls, block_calls, edt_calls, open_slots}
+use Rattle.ocr_machine.specs.Edts.{is_started, is_ended}
 use Rattle.ocr_machine.specs.Parts.{Parts, parts_of, face, core}
 use Rattle.ocr_machine.specs.Effects.{plan_in, made_ready, progress_in, core_progress, progress_on, next_in, next_on, mode_next}
 use Rattle.ocr_machine.specs.LegalOn.{is_set, is_running, is_running_edt, edt_holds, holds_in, is_held_by, is_lent, grants, IsAcquireOn, IsStartOn}
-use Rattle.ocr_machine.specs.Legal.{IsRun, IsLegal, IsQuiet}
+use Rattle.ocr_machine.specs.Legal.{IsRun, IsLegal, IsQuiet, IsWaking}
 use Rattle.ocr_machine.specs.Laws.{is_core, CanWake, WakeLaw, FreeLaw, QuietLaw, LeavesOpen}
-use Rattle.ocr_machine.proofs.Told.{known, has_started, has_started_edt}
+use Rattle.ocr_machine.proofs.Told.{known, told_law, has_started, has_started_edt, has_ended, has_ended_edt}
+use Rattle.ocr_machine.proofs.Local.{silent_law}
 use Rattle.ocr_machine.proofs.Present.{IsPresent, IsPlain, IsPlainEdt, IsBare, IsCalm, IsOnItsWay, present, first_next, FirstAcquires, first_acquires, first_frees, other_next, plain_holds}
 
 -- what has a core has slots
@@ -154,11 +155,11 @@ zero_open : (m : Option Made) (slots : List slot.SlotCall) (blocks : List block.
 zero_open None slots blocks is = cc
 zero_open (Some (MadeBlock n)) slots blocks is = cc
 zero_open (Some (MadeTemplate f pc dc)) slots blocks is = cc
-zero_open (Some (MadeEdt f ps n)) slots blocks is = nil_from_length (slot.open_slots n slots) (sym (open_law n slots) ∙ eqb-true (slot.unset_in (slot.state_of n slots)) 0 is)
+zero_open (Some (MadeEdt f ps n)) slots blocks is = nil_from_length (slot.open_slots n slots) (sym (slots_open n slots) ∙ eqb-true (slot.unset_in (slot.state_of n slots)) 0 is)
 
 -- no EDT has an open slot
-pub all_filled : (s : Setting) (past : History) (t : ℕ) → IsRun s past → is_edt past t ≡ true → open_slots s past t ≡ []
-all_filled s past t run is =
+pub open_law : (s : Setting) (past : History) (t : ℕ) → IsRun s past → is_edt past t ≡ true → open_slots s past t ≡ []
+open_law s past t run is =
     zero_open (made s past t) (slot_calls past t) (block_calls s past t) (all_set s past t (present s past run) ((known s past t run).made ∙ is))
 
 never_asleep : (s : Setting) (past : History) (t : ℕ) → IsQuiet s past → CanWake s past t → (next : Option (ℕ × Mode)) → next_on (parts_of s past) t ≡ next → ⊥
@@ -167,5 +168,90 @@ never_asleep s past t quiet can (Some member) is = quiet.asleep (Acquire t membe
 
 pub quiet_law : QuietLaw
 quiet_law s past quiet run t made =
-    let filled : open_slots s past t ≡ [] = all_filled s past t run made in
+    let filled : open_slots s past t ≡ [] = open_law s past t run made in
     (λ off. absurd (never_asleep s past t quiet (wake_law s past t run quiet.open_run made off filled) (next_on (parts_of s past) t) refl), λ some. absurd (some filled))
+
+-- no EDT but the first has a slot
+abbrev is_edt_made : Option Made → Bool
+is_edt_made None = false
+is_edt_made (Some (MadeBlock n)) = false
+is_edt_made (Some (MadeTemplate f pc dc)) = false
+is_edt_made (Some (MadeEdt f ps n)) = true
+
+bare_depc : (m : Option Made) (slots : List slot.SlotCall) (blocks : List block.BlockCall) → IsBare (face m slots blocks) → is_edt_made m ≡ true → depc_in m ≡ 0
+bare_depc None slots blocks bare is = cc
+bare_depc (Some (MadeBlock n)) slots blocks bare is = cc
+bare_depc (Some (MadeTemplate f pc dc)) slots blocks bare is = cc
+bare_depc (Some (MadeEdt f ps n)) slots blocks bare is = sym (size_law n slots) ∙ ap length bare
+
+made_core : (m : Option Made) (t : ℕ) (calls : List edt.EdtCall) → is_core (core m t calls) ≡ is_edt_made m
+made_core None t calls = refl
+made_core (Some (MadeBlock n)) t calls = refl
+made_core (Some (MadeTemplate f pc dc)) t calls = refl
+made_core (Some (MadeEdt f ps n)) t calls = refl
+
+pub unlinked_law : (s : Setting) (past : History) (t : ℕ) → IsRun s past → is_edt past t ≡ true → (t == 2) ≡ false → depc_of s past t ≡ 0
+unlinked_law s past t run is two =
+    let p : IsPresent (parts_of s past) = present s past run in
+    let there : is_core ((parts_of s past).core t) ≡ true = (known s past t run).made ∙ is in
+    let edt_made : is_edt_made (made s past t) ≡ true = sym (made_core (made s past t) t (edt_calls s past t)) ∙ there in
+    let not_two : (2 == t) ≡ false = grind (arith, common_steps) in
+    elim (1 == t) as (λ b. (1 == t) ≡ b → depc_of s past t ≡ 0) [
+      | true ↦ λ same.
+          let slots : (parts_of s past).face t ≡ part.Edt (slot.state_of (depc_in (made s past t)) (slot_calls past t)) =
+          with_slots (made s past t) t (slot_calls past t) (block_calls s past t) (edt_calls s past t) there in
+          let one : (parts_of s past).face t ≡ part.Block p.block = subst (λ (k : ℕ). (parts_of s past).face k ≡ part.Block p.block) (eqb-true 1 t same) p.one in
+          absurd (edt_block (sym slots ∙ one))
+      | false ↦ λ one. bare_depc (made s past t) (slot_calls past t) (block_calls s past t) (p.bare t one not_two) edt_made
+    ] refl
+
+-- A RUN IN WHICH EVERY EDT HAS ENDED is quiet
+ended_if : (s : Setting) (past : History) (t : ℕ) → IsRun s past → ((u : ℕ) → is_edt past u ≡ true → is_ended past u ≡ true) → (b : Bool) → is_edt past t ≡ b → is_started past t ≡ true → is_ended past t ≡ true
+ended_if s past t run all true is started = all t is
+ended_if s past t run all false is started = let not_started : is_started past t ≡ false = (told_law s past t run).started is in cc (not_started, started)
+
+-- an EDT that acquires or starts has not ended
+progress_open_edt : (members : List (ℕ × Mode)) (e : Edt) → is_some (progress_in (made_ready members e)) ≡ true → has_ended_edt e ≡ false
+progress_open_edt members (phase.Filling i) is = refl
+progress_open_edt members (phase.Acquiring s) is = refl
+progress_open_edt members (phase.Waiting s) is = refl
+progress_open_edt members (phase.Running w) is = refl
+progress_open_edt members (phase.Ended i) is = cc
+
+progress_open : (members : List (ℕ × Mode)) (x : Part) → is_some (core_progress members x) ≡ true → (is_core x ≡ true) × (has_ended x ≡ false)
+progress_open members part.Vacant is = cc
+progress_open members (part.Edt slots) is = cc
+progress_open members (part.Block st) is = cc
+progress_open members (part.Template t) is = cc
+progress_open members (part.Core c) is = (refl, progress_open_edt members c.edt is)
+
+no_progress : (s : Setting) (past : History) (t : ℕ) → IsRun s past → ((u : ℕ) → is_edt past u ≡ true → is_ended past u ≡ true) → is_some (progress_on (parts_of s past) t) ≡ true → ⊥
+no_progress s past t run all is =
+    let told = progress_open (plan_in ((parts_of s past).face t)) ((parts_of s past).core t) is in
+    let k = known s past t run in
+    let ended : is_ended past t ≡ true = all t (sym k.made ∙ told.0) in
+    let open_still : is_ended past t ≡ false = k.ended_is ∙ told.1 in
+    cc (ended, open_still)
+
+some_next : (o : Option Progress) (x : ℕ × Mode) → next_in o ≡ Some x → is_some o ≡ true
+some_next None x is = cc
+some_next (Some p) x is = refl
+
+awake : (s : Setting) (past : History) → IsRun s past → ((u : ℕ) → is_edt past u ≡ true → is_ended past u ≡ true) → (e : Entry) → IsWaking e → IsLegal s past e → ⊥
+awake s past run all (Acquire t d) waking legal = no_progress s past t run all (some_next (progress_on (parts_of s past) t) _ legal.on_parts.next)
+awake s past run all (Start t) waking legal = no_progress s past t run all legal.on_parts.acquiring
+awake s past run all (Wait t d) waking legal = absurd legal.on_parts
+awake s past run all (StaleAcquire t d) waking legal = absurd legal.on_parts
+awake s past run all (Call t home c a w) waking legal = absurd waking
+awake s past run all (Deliver m c) waking legal = absurd waking
+awake s past run all (Free t d w) waking legal = absurd waking
+awake s past run all (End t g) waking legal = absurd waking
+awake s past run all (Stop why) waking legal = absurd waking
+
+pub quiet_of : (s : Setting) (past : History) → IsRun s past → is_stopped past ≡ false → ((t : ℕ) → is_edt past t ≡ true → is_ended past t ≡ true) → IsQuiet s past
+quiet_of s past run going all = record {
+  open_run = going;
+  delivered = silent_law s past;
+  ended = λ t started. ended_if s past t run all (is_edt past t) refl started;
+  asleep = λ e waking legal. awake s past run all e waking legal;
+}

@@ -2,6 +2,7 @@ pub mod After
 pub mod Arguments
 pub mod Footprints
 pub mod Going
+pub mod Keeping
 pub mod Local
 pub mod Places
 pub mod Present
