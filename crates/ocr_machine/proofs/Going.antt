@@ -1,11 +1,9 @@
 -- By which entries an EDT goes on.
-use Rattle.std.proofs.Common.{◌≡◌, ◌≢◌, ◌⊎◌, ◌↔◌, inl, inr, ℕ, List, [], ◌∷◌, length, Bool, true, false, not, ◌==◌, ◌&&◌, Option, Some, None, is_some, arith, refl, sym, ◌∙◌, ap, subst, rules}
+use Rattle.std.proofs.Common.{◌≡◌, ℕ, List, [], ◌∷◌, length, Bool, true, false, ◌==◌, Option, Some, None, is_some, arith, refl, sym, ◌∙◌, ap, subst}
 use Rattle.std.proofs.lemmas.Grind.{common_steps}
 use Rattle.std.proofs.lemmas.Bool.{eqb-true}
 use Rattle.std.proofs.lemmas.List.{nil_from_length}
 use Rattle.ocr_acquire.specs.declared.Mode.{Mode}
-use Rattle.ocr_acquire.specs.declared.Mode.TheVariants as mode
-use Rattle.ocr_acquire.specs.Mode.{is_null}
 use Rattle.ocr_slots.specs.declared.Slot.{Slot}
 use Rattle.ocr_slots.specs.Slots as slot
 use Rattle.ocr_slots.proofs.Laws.{open_law as slots_open, size_law}
@@ -24,12 +22,12 @@ use Rattle.ocr_machine.specs.Calls.{depc_of, slot_calls, block_calls, edt_calls,
 use Rattle.ocr_machine.specs.Edts.{is_started, is_ended}
 use Rattle.ocr_machine.specs.Parts.{Parts, parts_of, face, core}
 use Rattle.ocr_machine.specs.Effects.{plan_in, made_ready, progress_in, core_progress, progress_on, next_in, next_on, mode_next}
-use Rattle.ocr_machine.specs.LegalOn.{is_set, is_running, is_running_edt, edt_holds, holds_in, is_held_by, is_lent, grants, IsAcquireOn, IsStartOn}
+use Rattle.ocr_machine.specs.LegalOn.{is_set, is_running, edt_holds, holds_in, is_held_by, is_lent, grants, IsAcquireOn}
 use Rattle.ocr_machine.specs.Legal.{IsRun, IsLegal, IsQuiet, IsWaking}
-use Rattle.ocr_machine.specs.Laws.{is_core, CanWake, WakeLaw, FreeLaw, QuietLaw, LeavesOpen}
+use Rattle.ocr_machine.specs.Laws.{is_core, CanWake, WakeLaw, FreeLaw, QuietLaw}
 use Rattle.ocr_machine.proofs.Told.{known, told_law, has_started, has_started_edt, has_ended, has_ended_edt}
 use Rattle.ocr_machine.proofs.Local.{silent_law}
-use Rattle.ocr_machine.proofs.Present.{IsPresent, IsPlain, IsPlainEdt, IsBare, IsCalm, IsOnItsWay, present, first_next, FirstAcquires, first_acquires, first_frees, other_next, plain_holds}
+use Rattle.ocr_machine.proofs.Present.{IsPresent, IsPlain, IsPlainEdt, IsBare, IsOnItsWay, present, first_next, FirstAcquires, first_acquires, first_frees, other_next, plain_holds}
 
 -- what has a core has slots
 with_slots : (m : Option Made) (t : ℕ) (slots : List slot.SlotCall) (blocks : List block.BlockCall) (calls : List edt.EdtCall) → is_core (core m t calls) ≡ true

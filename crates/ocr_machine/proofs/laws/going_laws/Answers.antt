@@ -1,4 +1,3 @@
-use Rattle.std.proofs.Common.{◌≡◌}
 use Rattle.ocr_machine.proofs.Told.{told_law, fresh_law, body_law}
 use Rattle.ocr_machine.proofs.Going.{wake_law, free_law}
 use Rattle.ocr_machine.proofs.laws.going_laws.Goals as goal

@@ -1,11 +1,7 @@
-use Rattle.std.proofs.Common.{◌≡◌, ◌+◌, ◌≤◌, ℕ, List, refl, ap, sym, ◌∙◌, subst, true, arith, rules}
-use Rattle.std.specs.List.{All}
-use Rattle.ocr_machine.specs.declared.part.Part.{Part}
-use Rattle.ocr_machine.specs.Parts.{Parts}
-use Rattle.ocr_machine.specs.Footprint.{is_in, footprint_of, IsAlike}
+use Rattle.std.proofs.Common.{◌≡◌, ◌+◌, ℕ, List, ◌∙◌, subst, true}
+use Rattle.ocr_machine.specs.Footprint.{is_in, footprint_of}
 use Rattle.ocr_machine.specs.Table.{keys, parts_in}
 use Rattle.ocr_machine.specs.Whole.{all_parts}
-use Rattle.ocr_machine.proofs.Local.{effect_law}
 use Rattle.ocr_machine.proofs.Wholes.{small, all_small, all_keys, alike_taken, IsTakenFor, put_back, after_all}
 use Rattle.ocr_machine.proofs.whole.Table.enter.Goals as goal
 
