@@ -1,5 +1,5 @@
 -- The parts after a legal entry are what the entry makes of the parts before it.
-use Rattle.std.proofs.Common.{◌≡◌, ◌⊎◌, inl, inr, ℕ, ◌<◌, List, [], ◌∷◌, Bool, true, false, Option, Some, None, ◌==◌, ◌&&◌, if◌then◌else◌, arith, refl, sym, ◌∙◌, ap, subst, is_some, rules}
+use Rattle.std.proofs.Common.{◌≡◌, ◌⊎◌, inl, inr, ℕ, ◌<◌, List, [], ◌∷◌, Bool, true, false, Option, Some, None, ◌==◌, if◌then◌else◌, arith, refl, sym, ◌∙◌, ap, subst, is_some, rules}
 use Rattle.std.proofs.lemmas.Grind.{common_steps}
 use Rattle.std.proofs.lemmas.Bool.{eqb-true}
 use Rattle.std.specs.List.{filter}
@@ -13,21 +13,21 @@ use Rattle.ocr_edt.specs.declared.Edt.{Edt}
 use Rattle.ocr_edt.specs.declared.Edt.TheVariants as phase
 use Rattle.ocr_edt.specs.declared.Identity.{Identity}
 use Rattle.ocr_edt.specs.Edt as edt
-use Rattle.ocr_edt.specs.Phases.{Progress, Work, next_of, first_of, mode_held, readied, advanced, started, dropping}
+use Rattle.ocr_edt.specs.Phases.{Progress, Work, next_of, first_of, mode_held}
 use Rattle.ocr_edt.proofs.Laws.{ready_law, acquired_law, start_law, drop_law, end_law}
 use Rattle.ocr_body.specs.declared.call.Call as body
 use Rattle.ocr_body.specs.declared.call.Call.TheVariants as call
 use Rattle.ocr_body.specs.declared.call.Answer.{Answer}
 use Rattle.ocr_machine.specs.declared.entry.Entry.{Entry}
-use Rattle.ocr_machine.specs.declared.entry.Entry.TheVariants.{Call, Deliver, Acquire, Wait, StaleAcquire, Start, Free, End, Stop}
+use Rattle.ocr_machine.specs.declared.entry.Entry.TheVariants.{Call, Acquire, Start, Free, End}
 use Rattle.ocr_machine.specs.declared.part.Part.{Part}
 use Rattle.ocr_machine.specs.declared.part.Part.TheVariants as part
 use Rattle.ocr_machine.specs.History.{History, Setting}
 use Rattle.ocr_machine.specs.Made.{Made, MadeBlock, MadeTemplate, MadeEdt, made, makes, edt_from, is_done, depc_in}
 use Rattle.ocr_machine.specs.Calls.{slot_calls, block_calls, edt_calls, with_plan, plan_of, planned_mode, mode_or_null, asks_in}
-use Rattle.ocr_machine.specs.Parts.{Parts, identity_of, face, core, parts_of}
-use Rattle.ocr_machine.specs.Effects.{with_face, with_core, with_block, with_edt, plan_in, made_ready, progress_in, core_progress, progress_on, next_in, next_on, mode_next, acquired_edt, started_edt, dropped_edt, ended_edt, new_face, new_core, called, acquired, freed, changed}
-use Rattle.ocr_machine.specs.LegalOn.{is_running, is_running_edt, IsFresh, IsNamed, IsAnswered, IsCallOn, IsAcquireOn, IsStartOn, IsFreeOn, IsEndOn, IsLegalOn}
+use Rattle.ocr_machine.specs.Parts.{identity_of, face, core, parts_of}
+use Rattle.ocr_machine.specs.Effects.{with_block, with_edt, plan_in, made_ready, progress_in, core_progress, next_in, next_on, mode_next, acquired_edt, started_edt, dropped_edt, ended_edt, new_face, new_core, called, acquired, freed, changed}
+use Rattle.ocr_machine.specs.LegalOn.{is_running, is_running_edt, IsNamed, IsAnswered, IsAcquireOn, IsLegalOn}
 use Rattle.ocr_machine.proofs.Places.{acquires, starts}
 
 -- THE PLAN. What an EDT was given as its plan is nothing, or the plan of its slots.

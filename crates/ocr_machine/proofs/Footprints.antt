@@ -1,20 +1,18 @@
 -- What an entry names is in its footprint.
-use Rattle.std.proofs.Common.{◌≡◌, ℕ, ◌+◌, ◌<◌, ◌≤◌, List, [], ◌∷◌, Bool, true, false, ◌==◌, ◌||◌, ◌&&◌, nat_lt, nat_le, if◌then◌else◌, arith, refl, sym, ◌∙◌, ap, rules}
+use Rattle.std.proofs.Common.{◌≡◌, ℕ, ◌+◌, ◌≤◌, List, [], ◌∷◌, Bool, true, false, ◌==◌, ◌||◌, nat_lt, if◌then◌else◌, arith, refl, ◌∙◌, ap, rules}
 use Rattle.std.proofs.lemmas.Grind.{common_steps}
 use Rattle.std.proofs.lemmas.Bool.{eqb-true}
 use Rattle.ocr_body.specs.declared.call.Call as body
 use Rattle.ocr_body.specs.declared.call.Call.TheVariants as call
 use Rattle.ocr_body.specs.declared.call.Answer.{Answer}
-use Rattle.ocr_machine.specs.declared.entry.Entry.{Entry}
-use Rattle.ocr_machine.specs.declared.entry.Entry.TheVariants.{Call, Deliver, Acquire, Wait, StaleAcquire, Start, Free, End, Stop}
+use Rattle.ocr_machine.specs.declared.entry.Entry.TheVariants.{Call}
 use Rattle.ocr_machine.specs.declared.part.Part.{Part}
 use Rattle.ocr_machine.specs.Made.{is_done}
 use Rattle.ocr_machine.specs.Parts.{Parts}
-use Rattle.ocr_machine.specs.Table.{has, keys, is_within}
+use Rattle.ocr_machine.specs.Table.{keys, is_within}
 use Rattle.ocr_machine.specs.New.{HasNew}
 use Rattle.ocr_machine.specs.LegalOn.{IsAnswered, IsFresh}
-use Rattle.ocr_machine.specs.Footprint.{is_in, placed, and_face, and_core, call_footprint, footprint_of, on_face, on_core}
-use Rattle.ocr_machine.specs.Laws.{FootprintLaw}
+use Rattle.ocr_machine.specs.Footprint.{is_in, placed, and_face, and_core, footprint_of}
 use Rattle.ocr_machine.proofs.Places.{has_keys}
 
 or_swap : (a b c : Bool) → (a || (b || c)) ≡ (b || (a || c))

@@ -1,7 +1,10 @@
 pub mod After
 pub mod Arguments
 pub mod Footprints
+pub mod Going
+pub mod Keeping
 pub mod Local
 pub mod Places
 pub mod Present
 pub mod Told
+pub mod Wholes

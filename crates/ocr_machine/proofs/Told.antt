@@ -1,30 +1,29 @@
 -- The core of an EDT tells whether it was made, has started and has ended.
-use Rattle.std.proofs.Common.{◌≡◌, ◌⊎◌, ◌↔◌, inl, inr, ℕ, ◌+◌, ◌<◌, ◌≤◌, List, [], ◌∷◌, Bool, true, false, not, ◌==◌, ◌||◌, ◌&&◌, if◌then◌else◌, Option, Some, None, is_some, arith, refl, sym, ◌∙◌, ap, subst, rules}
+use Rattle.std.proofs.Common.{◌≡◌, ℕ, ◌+◌, ◌≤◌, List, [], ◌∷◌, Bool, true, false, not, ◌==◌, ◌||◌, ◌&&◌, if◌then◌else◌, is_some, arith, refl, sym, ◌∙◌, ap, subst}
 use Rattle.std.proofs.lemmas.Grind.{common_steps}
 use Rattle.std.proofs.lemmas.Bool.{eqb-true}
 use Rattle.ocr_acquire.specs.declared.Mode.{Mode}
 use Rattle.ocr_guid.specs.declared.Code.TheVariants as code
 use Rattle.ocr_edt.specs.declared.Edt.{Edt}
 use Rattle.ocr_edt.specs.declared.Edt.TheVariants as phase
-use Rattle.ocr_body.specs.Behaviour.{Asked}
 use Rattle.ocr_body.specs.declared.call.Call as body
 use Rattle.ocr_body.specs.declared.call.Call.TheVariants as call
 use Rattle.ocr_body.specs.declared.call.Answer.{Answer}
 use Rattle.ocr_machine.specs.declared.entry.Entry.{Entry}
-use Rattle.ocr_machine.specs.declared.entry.Entry.TheVariants.{Call, Deliver, Acquire, Wait, StaleAcquire, Start, Free, End, Stop}
+use Rattle.ocr_machine.specs.declared.entry.Entry.TheVariants.{Call, Acquire, Start, Free, End, Stop}
 use Rattle.ocr_machine.specs.declared.part.Part.{Part}
 use Rattle.ocr_machine.specs.declared.part.Part.TheVariants as part
 use Rattle.ocr_machine.specs.History.{History, Setting, own}
-use Rattle.ocr_machine.specs.Made.{made, is_edt, is_done, makes, MadeBlock, MadeTemplate, MadeEdt}
-use Rattle.ocr_machine.specs.Edts.{is_started, is_ended, start_count, IsRunning, body_of}
-use Rattle.ocr_machine.specs.Calls.{payloads_of, slot_calls, block_calls, edt_calls}
-use Rattle.ocr_machine.specs.Parts.{Parts, parts_of, face, core}
-use Rattle.ocr_machine.specs.Codes.{code_of, creation_code}
-use Rattle.ocr_machine.specs.Effects.{with_edt, plan_in, made_ready, progress_in, core_progress, progress_on, acquired_edt, started_edt, dropped_edt, ended_edt, new_core, called, changed}
+use Rattle.ocr_machine.specs.Made.{made, is_edt, is_done, makes}
+use Rattle.ocr_machine.specs.Edts.{is_started, is_ended, start_count}
+use Rattle.ocr_machine.specs.Calls.{slot_calls, block_calls, edt_calls}
+use Rattle.ocr_machine.specs.Parts.{Parts, parts_of}
+use Rattle.ocr_machine.specs.Codes.{creation_code}
+use Rattle.ocr_machine.specs.Effects.{with_edt, plan_in, made_ready, progress_in, core_progress, acquired_edt, started_edt, dropped_edt, ended_edt, new_core, called, changed}
 use Rattle.ocr_machine.specs.New.{is_template}
-use Rattle.ocr_machine.specs.LegalOn.{is_running, is_running_edt, IsNamed, IsAnswered, IsCallOn, IsLegalOn}
-use Rattle.ocr_machine.specs.Legal.{IsRun, IsLegal}
-use Rattle.ocr_machine.specs.Laws.{is_core, IsTold, ToldLaw, StartLaw, FreshLaw, BodyLaw}
+use Rattle.ocr_machine.specs.LegalOn.{is_running, is_running_edt, IsNamed, IsCallOn, IsLegalOn}
+use Rattle.ocr_machine.specs.Legal.{IsRun}
+use Rattle.ocr_machine.specs.Laws.{is_core, ToldLaw, StartLaw, FreshLaw, BodyLaw}
 use Rattle.ocr_machine.proofs.After.{after, no_face_no_core}
 
 abbrev pub has_started_edt : Edt → Bool

@@ -1,5 +1,5 @@
 -- Which entry may come after a history, what a run is, and when it is quiet.
-use Rattle.std.specs.Prelude.{◌≡◌, ◌≢◌, ◌⊎◌, ℕ, List, [], ◌∷◌, Bool, true, false}
+use Rattle.std.specs.Prelude.{◌≡◌, ℕ, [], ◌∷◌, Bool, true, false}
 use Rattle.std.specs.List.{Contains}
 use Rattle.ocr_guid.specs.declared.Code.TheVariants.{Done}
 use Rattle.ocr_body.specs.Behaviour.{Behaviour, Ends, Stops, IsNext}

@@ -14,3 +14,4 @@ pub mod New
 pub mod Output
 pub mod Parts
 pub mod Table
+pub mod Whole

@@ -10,6 +10,7 @@ mod naming;
 mod opened;
 mod part;
 mod table;
+mod whole;
 mod writes;
 
 pub use codes::decide;
@@ -20,4 +21,5 @@ pub use laws::{going_laws, machine_laws, run_laws};
 pub use naming::{footprint, weight};
 pub use opened::{ARGUMENTS, MAIN_EDT, opening};
 pub use part::{Core, Part, Stepped};
+pub use whole::{Entered, Table};
 pub use writes::Writes;

@@ -1,4 +1,4 @@
-use Rattle.std.proofs.Common.{◌≡◌, refl, ap, sym, ◌∙◌, true, rules}
+use Rattle.std.proofs.Common.{◌≡◌, ap, sym, ◌∙◌, rules}
 use denote.Enum.Bare.{same_true}
 use Rattle.ocr_guid.specs.contracts.Code.{the_type}
 use Rattle.ocr_guid.specs.declared.Code.TheVariants as code
