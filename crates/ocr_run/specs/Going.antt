@@ -7,7 +7,11 @@ use Rattle.ocr_body.specs.declared.call.Call.TheVariants as call
 use Rattle.ocr_body.specs.declared.call.Answer.{Answer}
 use Rattle.ocr_machine.specs.declared.entry.Entry.{Entry}
 use Rattle.ocr_machine.specs.declared.entry.Entry.TheVariants.{Stop}
+use Rattle.ocr_body.specs.declared.call.BodyStop.{BodyStop}
+use Rattle.ocr_body.specs.declared.call.BodyStop.TheVariants as stop
+use Rattle.ocr_machine.specs.declared.entry.Fault.TheVariants as kind
 use Rattle.ocr_machine.specs.declared.entry.Stop as run
+use Rattle.ocr_machine.specs.declared.entry.Stop.TheVariants as by
 use Rattle.ocr_machine.specs.declared.part.Part.{Part}
 use Rattle.ocr_machine.specs.History.{History, Setting, is_stopped, own}
 use Rattle.ocr_machine.specs.Made.{Made, MadeBlock, MadeTemplate, MadeEdt, made, is_edt}
@@ -20,7 +24,7 @@ use Rattle.ocr_machine.specs.Output.{status_of}
 use Rattle.ocr_machine.specs.Footprint.{weight}
 use Rattle.ocr_run.specs.UnderWay.{setting_of, IsRunnable, IsMet}
 use Rattle.ocr_run.specs.Limits.{share, IsLimitCause}
-use Rattle.ocr_run.specs.Whole.{whole}
+use Rattle.ocr_machine.specs.Whole.{all_parts}
 
 -- a call that is built, of a program with so many functions
 abbrev pub IsServed : ℕ → body.Call → Type 0
@@ -47,10 +51,11 @@ pub record IsGoing (program : List FunctionTree) (past : History) (count : ℕ) 
   pub functions : (n : ℕ) → IsOfProgram (length program) (made (setting_of program) past n)
 
 -- what is known of its entries and parts
-pub record IsHeld (program : List FunctionTree) (past : History) (parts : List Part) (sum : ℕ) : Type 0 where
-  pub parts : whole 4096 parts ≡ parts_of (setting_of program) past
-  pub sum : sum ≡ weight past
-  pub within : sum ≤ share
+pub record IsHeld (program : List FunctionTree) (past : History) (limit : ℕ) (places : List Part) (total : ℕ) : Type 0 where
+  pub same_limit : limit ≡ 4096
+  pub parts : all_parts limit places ≡ parts_of (setting_of program) past
+  pub sum : total ≡ weight past
+  pub within : total ≤ share
 
 -- it may be stopped so
 pub record IsStoppable (s : Setting) (past : History) (why : run.Stop) : Type 0 where
@@ -62,13 +67,27 @@ pub record IsStoppable (s : Setting) (past : History) (why : run.Stop) : Type 0 
 
 -- the EDTs before this one have ended, and it and those after it have not started
 pub record IsBefore (past : History) (t : ℕ) : Type 0 where
+  pub from_two : 2 ≤ t
   pub ended : (u : ℕ) → u < t → is_edt past u ≡ true → is_ended past u ≡ true
   pub later : (u : ℕ) → t ≤ u → is_started past u ≡ false
   pub first : t ≡ 2 → past ≡ []
 
 -- the EDTs before this one have ended, this one runs, and those after it have not started
 pub record IsServing (s : Setting) (past : History) (t : ℕ) : Type 0 where
+  pub from_two : 2 ≤ t
   pub running : IsRunning past t
   pub ended : (u : ℕ) → u < t → is_edt past u ≡ true → is_ended past u ≡ true
   pub later : (u : ℕ) → t < u → is_started past u ≡ false
   pub holds : t ≡ 2 → holds_in ((parts_of s past).core 2) ≡ (1, mode.Rw) ∷ []
+
+-- the stop of a run where the EDT's body stopped so
+abbrev pub stop_for : ℕ → BodyStop → run.Stop
+stop_for t stop.Shutdown = by.Shutdown t
+stop_for t (stop.Abort code) = by.Abort t code
+stop_for t stop.ZeroDivisor = by.Fault t kind.ZeroDivisor
+stop_for t stop.BadIndex = by.Fault t kind.BadIndex
+stop_for t stop.NotHeld = by.Fault t kind.NotHeld
+stop_for t stop.NotWritable = by.Fault t kind.NotWritable
+stop_for t stop.Fuel = by.Fault t kind.Fuel
+stop_for t stop.Closed = by.Memory
+stop_for t stop.NoMemory = by.Memory

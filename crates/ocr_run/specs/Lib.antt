@@ -5,4 +5,3 @@ pub mod Lines
 pub mod ProgramText
 pub mod Serving
 pub mod UnderWay
-pub mod Whole

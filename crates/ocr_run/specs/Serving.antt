@@ -11,7 +11,7 @@ use Rattle.ocr_run.specs.Going.{IsGoing, IsHeld, IsServing, IsStoppable}
 -- the run goes on
 abbrev pub GoesOn : state.Going → Type 0
 GoesOn g = IsGoing (checked_tree g.program.now) (history_of g.log.entries.items) g.made
-    × IsHeld (checked_tree g.program.now) (history_of g.log.entries.items) g.table.parts.items g.weight
+    × IsHeld (checked_tree g.program.now) (history_of g.log.entries.items) g.table.limit g.table.parts.items g.weight
 
 -- it may be stopped so
 abbrev pub MayStop : state.Going → run.Stop → Type 0

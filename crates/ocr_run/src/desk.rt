@@ -1,5 +1,5 @@
 // The desk at which the bodies of a run make their calls.
-ghost use Rattle.std.specs.Prelude.{◌≡◌, IfOk};
+ghost use Rattle.std.specs.Prelude.{◌≡◌, ◌+◌, ◌-◌, ◌^◌, min};
 
 use crate::going::Going;
 use ocr_body::{Answer, Api, BodyStop, Call, Checked};
@@ -37,17 +37,31 @@ impl<'a> Api for Desk<'a> {
     ghost closed = { λ d. d.closings };
 
     fn call(&mut self, call: &Call) -> Result<Answer, BodyStop> {
-        if self.stop.is_none() {
-            match self.going.answer(self.alloc, self.edt, call) {
-                Ok(answer) => return Ok(answer),
-                Err(stop) => self.stop = Some(stop),
+        if let Some(_) = self.stop {
+            self.closings = raised(self.closings);
+            return Err(BodyStop::Closed);
+        }
+        match self.going.answer(self.alloc, self.edt, call) {
+            Ok(answer) => Ok(answer),
+            Err(stop) => {
+                self.stop = Some(stop);
+                self.closings = raised(self.closings);
+                Err(BodyStop::Closed)
             }
         }
-        self.closings = self.closings.saturating_add(1);
-        Err(BodyStop::Closed)
     }
 
     fn closings(&self) -> u64 {
         self.closings
     }
+}
+
+// One more, up to the last number.
+fn raised(count: u64) -> u64
+    ensures { result ≡ min (count + 1) (2 ^ 64 - 1) }
+{
+    if count == u64::MAX {
+        return count;
+    }
+    count + 1
 }

@@ -1,22 +1,25 @@
 // A run that goes on.
-ghost use Rattle.std.specs.Prelude.{◌≡◌, ◌∷◌, [], length, false, true, IfOk, IfErr, OnOk, OnErr};
-ghost use Rattle.ocr_guid.specs.declared.Code.TheVariants.{Done};
-ghost use Rattle.ocr_body.specs.Behaviour.{IsNext};
+ghost use Rattle.std.specs.Prelude.{◌≡◌, ◌+◌, ◌∷◌, [], ℕ, false, true, IfOk, IfErr, OnOk, OnErr};
+ghost use Rattle.ocr_body.specs.Behaviour.{IsNext, Ends};
 ghost use Rattle.ocr_body.specs.Checked.{checked_tree};
-ghost use Rattle.ocr_machine.specs.declared.entry.Entry.TheVariants as entry_kind;
-ghost use Rattle.ocr_machine.specs.History.{history_of};
-ghost use Rattle.ocr_machine.specs.Edts.{says_next};
+ghost use Rattle.ocr_machine.specs.declared.entry.Entry.TheVariants as an;
+ghost use Rattle.ocr_machine.specs.History.{history_of, own};
+ghost use Rattle.ocr_machine.specs.Made.{made, is_edt, is_done, function_in, params_in};
+ghost use Rattle.ocr_machine.specs.Edts.{is_started, says_next};
 ghost use Rattle.ocr_machine.specs.Legal.{IsLegal, IsRun, is_stop, is_creation};
 ghost use Rattle.ocr_run.specs.UnderWay.{setting_of, IsRunnable};
-ghost use Rattle.ocr_run.specs.Going.{IsGoing, IsHeld, IsSound, IsServing, IsServed, IsStoppable};
+ghost use Rattle.ocr_run.specs.Going.{IsHeld, IsBefore, IsServing, IsServed};
+ghost use Rattle.ocr_run.specs.Serving.{GoesOn, MayStop};
 
 use crate::log::Log;
-use crate::table::{LIMIT, Table};
 use ocr_body::{Answer, Call, Checked};
 use ocr_guid::{Code, Guid, NoMemory};
 use ocr_list::Seq;
-use ocr_machine::{Entry, Stop, Writes, weight};
+use ocr_machine::{Entry, Part, Stop, Table, Writes, opening, weight};
 use std::alloc::Global;
+
+/// How many objects a run may make.
+pub const LIMIT: u64 = 4096;
 
 /// How much the entries of the one worker may weigh.
 const SHARE: u64 = 200_000;
@@ -40,18 +43,61 @@ pub struct Going<'a> {
 
 impl<'a> Going<'a> {
     /// The run before its first entry.
-    pub fn opened(alloc: Global, program: &'a Checked) -> Result<Self, NoMemory> {
+    pub fn opened(alloc: Global, program: &'a Checked) -> Result<Self, NoMemory>
+        requires { IsRunnable (checked_tree program.now) }
+        ensures program { IfOk result (λ g. g.program.now ≡ program.now) }
+        ensures going { IfOk result (λ g. GoesOn g) }
+        ensures first { IfOk result (λ g. g.log.entries.items ≡ []) }
+    {
+        let log = Log::new(alloc)?;
+        let mut table = Table::new(alloc, LIMIT)?;
+        table.give(opening(alloc, program.main_function(), &[], LIMIT)?);
         Ok(Going {
             program,
-            log: Log::new(alloc)?,
+            log,
             weight: 0,
-            table: Table::opened(alloc, program)?,
+            table,
             made: 2,
         })
     }
 
+    /// Whether the number names an EDT.
+    pub fn is_edt(&self, edt: Guid) -> bool
+        requires { GoesOn self.now }
+        ensures { result ≡ is_edt (history_of self.now.log.entries.items) edt }
+    {
+        matches!(self.table.core(edt.0), Some(Part::Core(_)))
+    }
+
+    /// The function of an EDT, and its parameters.
+    pub fn body(&self, alloc: Global, edt: Guid) -> Result<(u32, Vec<u64>), NoMemory>
+        requires going { GoesOn self.now }
+        requires made { is_edt (history_of self.now.log.entries.items) edt ≡ true }
+        ensures function { IfOk result (λ b. b.0 ≡ function_in (made (setting_of (checked_tree self.now.program.now)) (history_of self.now.log.entries.items) edt)) }
+        ensures params { IfOk result (λ b. b.1.items ≡ params_in (made (setting_of (checked_tree self.now.program.now)) (history_of self.now.log.entries.items) edt)) }
+    {
+        let Some(Part::Core(core)) = self.table.core(edt.0) else {
+            unreachable!()
+        };
+        match Vec::from_slice(alloc, core.params.as_slice()) {
+            Ok(params) => Ok((core.function, params)),
+            Err(_) => Err(NoMemory),
+        }
+    }
+
     // Enters an entry. Where the run is stopped in its place, the entries are as they were.
-    fn enter(&mut self, alloc: Global, entry: Entry) -> Result<(), Stop> {
+    fn enter(&mut self, alloc: Global, entry: Entry) -> Result<(), Stop>
+        requires run { IsRun (setting_of (checked_tree self.old.program.now)) (history_of self.old.log.entries.items) }
+        requires held { IsHeld (checked_tree self.old.program.now) (history_of self.old.log.entries.items) self.old.table.limit self.old.table.parts.items self.old.weight }
+        requires legal { IsLegal (setting_of (checked_tree self.old.program.now)) (history_of self.old.log.entries.items) entry }
+        requires no_stop { is_stop entry ≡ false }
+        ensures program { self.new.program.now ≡ self.old.program.now }
+        ensures made { self.new.made ≡ self.old.made }
+        ensures entered { OnOk result (history_of self.new.log.entries.items ≡ entry ∷ history_of self.old.log.entries.items) }
+        ensures held { OnOk result (IsHeld (checked_tree self.new.program.now) (history_of self.new.log.entries.items) self.new.table.limit self.new.table.parts.items self.new.weight) }
+        ensures same { OnErr result (history_of self.new.log.entries.items ≡ history_of self.old.log.entries.items) }
+        ensures stop { IfErr result (MayStop self.new) }
+    {
         let weight = weight(&entry);
         if weight > SHARE - self.weight {
             return Err(Stop::Events { worker: 1, weight });
@@ -59,18 +105,28 @@ impl<'a> Going<'a> {
         if self.log.reserve().is_err() {
             return Err(Stop::Memory);
         }
-        if self.table.change(alloc, &entry).is_err() {
-            return Err(Stop::Memory);
-        }
+        let Ok(_) = self.table.enter(alloc, &entry) else {
+            return Err(Stop::Memory)
+        };
         self.log.enter(entry);
         self.weight += weight;
         Ok(())
     }
 
     /// Answers the call that the running EDT makes next.
-    pub fn answer(&mut self, alloc: Global, edt: Guid, call: &Call) -> Result<Answer, Stop> {
-        let code = self.table.code(edt, call);
-        let makes = is_creation(call) && code == Code::Done;
+    pub fn answer(&mut self, alloc: Global, edt: Guid, call: &Call) -> Result<Answer, Stop>
+        requires going { GoesOn self.old }
+        requires serving { IsServing (setting_of (checked_tree self.old.program.now)) (history_of self.old.log.entries.items) edt }
+        requires next { IsNext call.now (says_next (setting_of (checked_tree self.old.program.now)) (history_of self.old.log.entries.items) edt) }
+        ensures program { self.new.program.now ≡ self.old.program.now }
+        ensures entered { IfOk result (λ a. history_of self.new.log.entries.items ≡ an.Call edt 0 call.now a [] ∷ history_of self.old.log.entries.items) }
+        ensures going { OnOk result (GoesOn self.new) }
+        ensures serving { OnOk result (IsServing (setting_of (checked_tree self.new.program.now)) (history_of self.new.log.entries.items) edt) }
+        ensures same { OnErr result (history_of self.new.log.entries.items ≡ history_of self.old.log.entries.items) }
+        ensures stop { IfErr result (MayStop self.new) }
+    {
+        let code = self.table.decide(edt, call);
+        let makes = is_creation(call) && is_done(code);
         if makes && self.made >= LIMIT {
             return Err(Stop::Objects);
         }
@@ -100,7 +156,16 @@ impl<'a> Going<'a> {
     }
 
     /// An EDT acquires what it needs and starts. The first one needs the argument block.
-    pub fn wake(&mut self, alloc: Global, edt: Guid) -> Result<(), Stop> {
+    pub fn wake(&mut self, alloc: Global, edt: Guid) -> Result<(), Stop>
+        requires going { GoesOn self.old }
+        requires made { is_edt (history_of self.old.log.entries.items) edt ≡ true }
+        requires before { IsBefore (history_of self.old.log.entries.items) edt }
+        ensures program { self.new.program.now ≡ self.old.program.now }
+        ensures going { OnOk result (GoesOn self.new) }
+        ensures serving { OnOk result (IsServing (setting_of (checked_tree self.new.program.now)) (history_of self.new.log.entries.items) edt) }
+        ensures fresh { OnOk result (own (history_of self.new.log.entries.items) edt ≡ []) }
+        ensures stop { IfErr result (MayStop self.new) }
+    {
         if edt == MAIN_EDT {
             self.enter(
                 alloc,
@@ -109,12 +174,21 @@ impl<'a> Going<'a> {
                     block: ARGUMENTS,
                 },
             )?;
+            return self.enter(alloc, Entry::Start { edt });
         }
         self.enter(alloc, Entry::Start { edt })
     }
 
     /// An EDT whose body has ended gives back what it holds, and ends.
-    pub fn finish(&mut self, alloc: Global, edt: Guid, returned: Guid) -> Result<(), Stop> {
+    pub fn finish(&mut self, alloc: Global, edt: Guid, returned: Guid) -> Result<(), Stop>
+        requires going { GoesOn self.old }
+        requires serving { IsServing (setting_of (checked_tree self.old.program.now)) (history_of self.old.log.entries.items) edt }
+        requires ended { says_next (setting_of (checked_tree self.old.program.now)) (history_of self.old.log.entries.items) edt ≡ Ends returned }
+        ensures program { self.new.program.now ≡ self.old.program.now }
+        ensures going { OnOk result (GoesOn self.new) }
+        ensures before { OnOk result (IsBefore (history_of self.new.log.entries.items) (edt + 1)) }
+        ensures stop { IfErr result (MayStop self.new) }
+    {
         if edt == MAIN_EDT {
             self.enter(
                 alloc,
@@ -124,6 +198,7 @@ impl<'a> Going<'a> {
                     writes: Writes::none(alloc),
                 },
             )?;
+            return self.enter(alloc, Entry::End { edt, returned });
         }
         self.enter(alloc, Entry::End { edt, returned })
     }
@@ -153,8 +228,21 @@ fn is_creation(call: &Call) -> bool
     }
 }
 
+// Whether a call was accepted.
+fn is_done(code: Code) -> bool
+    ensures { result ≡ is_done code }
+{
+    match code {
+        Code::Done => true,
+        Code::Eperm | Code::Enoent | Code::Ebusy | Code::Einval | Code::Stale => false,
+    }
+}
+
 // A copy of a call that is built.
-fn copied(alloc: Global, call: &Call) -> Result<Call, NoMemory> {
+fn copied(alloc: Global, call: &Call) -> Result<Call, NoMemory>
+    requires { (functions : ℕ) × IsServed functions call.now }
+    ensures { IfOk result (λ copy. copy ≡ call.now) }
+{
     match call {
         Call::Print { value } => Ok(Call::Print { value: *value }),
         Call::TemplateCreate {

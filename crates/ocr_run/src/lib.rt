@@ -8,7 +8,6 @@ mod going;
 mod lines;
 mod log;
 mod output;
-mod table;
 mod text;
 mod top;
 mod worker;

@@ -1,20 +1,25 @@
 // The one worker.
-ghost use Rattle.std.specs.Prelude.{◌≡◌, ◌⊎◌, ◌++◌, ◌∷◌, [], OnOk, OnErr, IfOk};
+ghost use Rattle.std.specs.Prelude.{◌≡◌, ◌⊎◌, ◌+◌, ◌++◌, ◌∷◌, [], true, None, OnOk, IfErr, IfOk};
+ghost use Rattle.ocr_body.specs.Behaviour.{Ends, Stops};
 ghost use Rattle.ocr_body.specs.Checked.{checked_tree};
-ghost use Rattle.ocr_machine.specs.History.{history_of};
+ghost use Rattle.ocr_body.specs.Laws.{IsSaid};
+ghost use Rattle.ocr_machine.specs.History.{history_of, own};
+ghost use Rattle.ocr_machine.specs.Edts.{says_next};
+ghost use Rattle.ocr_machine.specs.Made.{is_edt};
 ghost use Rattle.ocr_machine.specs.Legal.{IsRun};
+ghost use Rattle.ocr_run.specs.Going.{IsBefore, IsServing, stop_for};
 ghost use Rattle.ocr_run.specs.Lines.{end_of, end_status};
 ghost use Rattle.ocr_run.specs.Limits.{IsLimited};
+ghost use Rattle.ocr_run.specs.Serving.{GoesOn, MayStop};
 ghost use Rattle.ocr_run.specs.UnderWay.{setting_of, IsMet, IsRunnable, IsFinished};
 
 use crate::desk::Desk;
 use crate::ending::Ending;
-use crate::going::{ARGUMENTS, Going, MAIN_EDT};
+use crate::going::{ARGUMENTS, Going, LIMIT, MAIN_EDT};
 use crate::log::Log;
-use crate::table::LIMIT;
 use ocr_body::{BodyStop, Checked, walk};
 use ocr_guid::{Guid, NoMemory};
-use ocr_machine::{Fault, Journal, Stop};
+use ocr_machine::{Entry, Fault, Journal, Stop};
 use std::alloc::Global;
 
 const FUEL: u64 = 1_000_000;
@@ -68,17 +73,30 @@ pub fn run(alloc: Global, program: &Checked) -> Result<Done, NoMemory>
 }
 
 // The run ends by a Stop.
-fn stopped(log: Log, stop: Stop) -> Done {
+fn stopped(log: Log, stop: Stop) -> Done
+    ensures journal { result.journal ≡ log.entries.items ++ Entry.Stop stop ∷ [] }
+    ensures ending { result.ending ≡ Ending.Stopped stop }
+{
+    let journal = log.stopped(stop);
     Done {
-        journal: log.stopped(stop),
+        journal,
         ending: Ending::Stopped(stop),
     }
 }
 
 // Runs every EDT: one that is made later has a greater number.
-fn run_all(desk: &mut Desk) -> Result<(), Stop> {
+fn run_all(desk: &mut Desk) -> Result<(), Stop>
+    requires going { GoesOn desk.old.going }
+    requires first { desk.old.going.log.entries.items ≡ [] }
+    requires open_run { desk.old.stop ≡ None }
+    requires unclosed { desk.old.closings ≡ 0 }
+    ensures program { desk.new.going.program.now ≡ desk.old.going.program.now }
+    ensures going { OnOk result (GoesOn desk.new.going) }
+    ensures before { OnOk result (IsBefore (history_of desk.new.going.log.entries.items) 4097) }
+    ensures stop { IfErr result (MayStop desk.new.going) }
+{
     for edt in 2..LIMIT + 1 {
-        if desk.going.table.core(edt).is_some() {
+        if desk.going.is_edt(Guid(edt)) {
             run_edt(desk, Guid(edt))?;
         }
     }
@@ -86,19 +104,40 @@ fn run_all(desk: &mut Desk) -> Result<(), Stop> {
 }
 
 // Runs one EDT, from its waking to its end.
-fn run_edt(desk: &mut Desk, edt: Guid) -> Result<(), Stop> {
+fn run_edt(desk: &mut Desk, edt: Guid) -> Result<(), Stop>
+    requires going { GoesOn desk.old.going }
+    requires made { is_edt (history_of desk.old.going.log.entries.items) edt ≡ true }
+    requires before { IsBefore (history_of desk.old.going.log.entries.items) edt }
+    requires open_run { desk.old.stop ≡ None }
+    requires unclosed { desk.old.closings ≡ 0 }
+    ensures program { desk.new.going.program.now ≡ desk.old.going.program.now }
+    ensures going { OnOk result (GoesOn desk.new.going) }
+    ensures before { OnOk result (IsBefore (history_of desk.new.going.log.entries.items) (edt + 1)) }
+    ensures open_run { OnOk result (desk.new.stop ≡ None) }
+    ensures unclosed { OnOk result (desk.new.closings ≡ 0) }
+    ensures stop { IfErr result (MayStop desk.new.going) }
+{
     desk.going.wake(desk.alloc, edt)?;
     let returned = run_body(desk, edt)?;
     desk.going.finish(desk.alloc, edt, returned)
 }
 
 // Runs the body of an EDT.
-fn run_body(desk: &mut Desk, edt: Guid) -> Result<Guid, Stop> {
-    let Some(core) = desk.going.table.core(edt.0) else {
-        unreachable!()
-    };
-    let function = core.function;
-    let Ok(params) = Vec::from_slice(desk.alloc, core.params.as_slice()) else {
+fn run_body(desk: &mut Desk, edt: Guid) -> Result<Guid, Stop>
+    requires going { GoesOn desk.old.going }
+    requires serving { IsServing (setting_of (checked_tree desk.old.going.program.now)) (history_of desk.old.going.log.entries.items) edt }
+    requires fresh { own (history_of desk.old.going.log.entries.items) edt ≡ [] }
+    requires open_run { desk.old.stop ≡ None }
+    requires unclosed { desk.old.closings ≡ 0 }
+    ensures program { desk.new.going.program.now ≡ desk.old.going.program.now }
+    ensures going { OnOk result (GoesOn desk.new.going) }
+    ensures serving { OnOk result (IsServing (setting_of (checked_tree desk.new.going.program.now)) (history_of desk.new.going.log.entries.items) edt) }
+    ensures ended { IfOk result (λ g. says_next (setting_of (checked_tree desk.new.going.program.now)) (history_of desk.new.going.log.entries.items) edt ≡ Ends g) }
+    ensures open_run { OnOk result (desk.new.stop ≡ None) }
+    ensures unclosed { OnOk result (desk.new.closings ≡ 0) }
+    ensures stop { IfErr result (MayStop desk.new.going) }
+{
+    let Ok((function, params)) = desk.going.body(desk.alloc, edt) else {
         return Err(Stop::Memory)
     };
     desk.edt = edt;
@@ -125,7 +164,10 @@ fn run_body(desk: &mut Desk, edt: Guid) -> Result<Guid, Stop> {
 }
 
 // The stop of a run where the body of the EDT stopped so.
-fn stop_of(edt: Guid, stop: BodyStop) -> Stop {
+fn stop_of(edt: Guid, stop: BodyStop) -> Stop
+    requires { (stop ≡ BodyStop.NoMemory) ⊎ IsSaid stop }
+    ensures { result ≡ stop_for edt stop }
+{
     match stop {
         BodyStop::Shutdown => Stop::Shutdown { edt },
         BodyStop::Abort(code) => Stop::Abort { edt, code },
