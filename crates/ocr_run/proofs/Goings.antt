@@ -48,7 +48,7 @@ use Rattle.ocr_run.specs.declared.ending.Ending.TheVariants as ending
 use Rattle.ocr_run.specs.Lines.{end_of}
 use Rattle.ocr_run.specs.UnderWay.{setting_of, IsRunnable, IsMet, shut_down, aborted, faulted, out_of_memory, limited}
 use Rattle.ocr_run.specs.Limits.{share, object_count, free_numbers, IsLimited}
-use Rattle.ocr_run.specs.Going.{IsServed, IsOfProgram, IsGoing, IsHeld, IsStoppable, IsBefore, IsServing, stop_for}
+use Rattle.ocr_run.specs.Going.{IsServed, IsOfProgram, IsGoing, IsHeld, IsStoppable, IsBefore, IsServing, IsMove, stop_for}
 
 -- an entry at the end of a journal is the newest of its history
 pub history_more : (journal : List Entry) (e : Entry) (later : List Entry) → later ≡ journal ++ e ∷ [] → history_of later ≡ e ∷ history_of journal
@@ -143,13 +143,6 @@ said_stop s past t stop.Closed said run goes_on within running says = absurd sai
 said_stop s past t stop.NoMemory said run goes_on within running says = absurd said
 
 -- ENTRIES that are no calls
-abbrev pub IsMove : Entry → Type 0
-IsMove (Acquire t d) = Unit {0}
-IsMove (Start t) = Unit {0}
-IsMove (Free t d w) = Unit {0}
-IsMove (End t g) = Unit {0}
-IsMove other = ⊥
-
 pub going_move : (program : List FunctionTree) (past : History) (count : ℕ) (e : Entry) → IsMove e → IsGoing program past count → IsLegal (setting_of program) past e → IsGoing program (e ∷ past) count
 going_move program past count (Acquire t d) move g legal = record { runnable = g.runnable; run = (g.run, legal); open_run = g.open_run; dense = g.dense; some = g.some; limit = g.limit; functions = g.functions }
 going_move program past count (Start t) move g legal = record { runnable = g.runnable; run = (g.run, legal); open_run = g.open_run; dense = g.dense; some = g.some; limit = g.limit; functions = g.functions }
@@ -438,3 +431,18 @@ pub held_entered : (program : List FunctionTree) (journal kept now : List Entry)
 held_entered program journal kept now e limit same parts later sum k is more is_limit held legal done weighs within =
     let past : history_of now ≡ e ∷ history_of journal = history_more kept e now more ∙ ap (λ (j : List Entry). e ∷ history_of j) is in
     rw (past, is_limit) (held_next program (history_of journal) e limit parts later sum k held legal done weighs within)
+
+pub move_no_stop : (e : Entry) → IsMove e → is_stop e ≡ false
+move_no_stop (Acquire t d) move = refl
+move_no_stop (Start t) move = refl
+move_no_stop (Free t d w) move = refl
+move_no_stop (End t g) move = refl
+move_no_stop (Call a b c d e) move = absurd move
+move_no_stop (Deliver a b) move = absurd move
+move_no_stop (Wait a b) move = absurd move
+move_no_stop (StaleAcquire a b) move = absurd move
+move_no_stop (Stop a) move = absurd move
+
+-- the same run, by the same program, entries and count
+pub going_at : (program same : List FunctionTree) (past now : History) (count number : ℕ) → same ≡ program → now ≡ past → number ≡ count → IsGoing program past count → IsGoing same now number
+going_at program same past now count number is_program is_past is_count g = rw (is_program, is_past, is_count) g

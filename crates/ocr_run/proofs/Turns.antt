@@ -3,7 +3,7 @@ use Rattle.std.proofs.Common.{◌≡◌, ◌≢◌, ◌⊎◌, inl, inr, ℕ, ze
 use Rattle.std.specs.List.{filter, range_with_len}
 use Rattle.std.proofs.lemmas.Grind.{common_steps}
 use Rattle.std.proofs.lemmas.Bool.{eqb-true}
-use Rattle.std.proofs.lemmas.List.{filter-append}
+use Rattle.std.proofs.lemmas.List.Elements.{filter-append}
 use Rattle.ocr_acquire.specs.declared.Mode.{Mode}
 use Rattle.ocr_acquire.specs.declared.Mode.TheVariants as mode
 use Rattle.ocr_slots.specs.declared.Slot.{Slot}
@@ -183,6 +183,76 @@ no_turn past t none before = record {
   later = λ u high. before.later u (omega (arith, high));
   first = λ is. let two = before.from_two in absurd (omega (arith, two, is));
 }
+
+-- THE TURN, by the entries that it enters
+flipped : (t : ℕ) → (t == 2) ≡ false → (2 == t) ≡ false
+flipped t is = grind (arith, common_steps)
+
+pub acquire_legal : (program : List FunctionTree) (past : History) (t : ℕ) → (t == 2) ≡ true → IsBefore past t → IsLegal (setting_of program) past (Acquire t 1)
+acquire_legal program past t test before =
+    let two : t ≡ 2 = eqb-true t 2 test in
+    let none : past ≡ [] = before.first two in
+    subst (λ (k : ℕ). IsLegal (setting_of program) past (Acquire k 1)) (sym two) (subst (λ (h : History). IsLegal (setting_of program) h (Acquire 2 1)) (sym none) (first_acquire (setting_of program)))
+
+pub start_legal : (program : List FunctionTree) (past now : History) (t : ℕ) → (t == 2) ≡ true → IsBefore past t → now ≡ Acquire t 1 ∷ past → IsLegal (setting_of program) now (Start t)
+start_legal program past now t test before is =
+    let two : t ≡ 2 = eqb-true t 2 test in
+    let now_is : now ≡ Acquire 2 1 ∷ [] = is ∙ ap (λ (h : History). Acquire t 1 ∷ h) (before.first two) ∙ ap (λ (k : ℕ). Acquire k 1 ∷ []) two in
+    subst (λ (k : ℕ). IsLegal (setting_of program) now (Start k)) (sym two) (subst (λ (h : History). IsLegal (setting_of program) h (Start 2)) (sym now_is) (first_start (setting_of program)))
+
+begun_is : (past one two : History) (t : ℕ) → (t == 2) ≡ true → IsBefore past t → one ≡ Acquire t 1 ∷ past → two ≡ Start t ∷ one → two ≡ Start 2 ∷ Acquire 2 1 ∷ []
+begun_is past one two t test before first second =
+    let same : t ≡ 2 = eqb-true t 2 test in
+    second ∙ ap (λ (h : History). Start t ∷ h) (first ∙ ap (λ (h : History). Acquire t 1 ∷ h) (before.first same)) ∙ ap (λ (k : ℕ). Start k ∷ Acquire k 1 ∷ []) same
+
+pub first_woken : (program : List FunctionTree) (past one two : History) (t : ℕ) → (t == 2) ≡ true → IsBefore past t → one ≡ Acquire t 1 ∷ past → two ≡ Start t ∷ one
+    → IsServing (setting_of program) two t × (own two t ≡ [])
+first_woken program past one two t test before first second =
+    let same : t ≡ 2 = eqb-true t 2 test in
+    let is = begun_is past one two t test before first second in (
+      subst (λ (k : ℕ). IsServing (setting_of program) two k) (sym same) (subst (λ (h : History). IsServing (setting_of program) h 2) (sym is) (first_serving (setting_of program))),
+      ap (λ (h : History). own h t) is,
+    )
+
+pub other_legal : (program : List FunctionTree) (past : History) (count t : ℕ) → (t == 2) ≡ false → IsGoing program past count → is_edt past t ≡ true → IsBefore past t → IsLegal (setting_of program) past (Start t)
+other_legal program past count t test g there before =
+    other_start (setting_of program) past t g.run g.open_run there (before.later t (omega arith)) (flipped t test)
+
+pub other_woken : (program : List FunctionTree) (past one : History) (count t : ℕ) → (t == 2) ≡ false → IsGoing program past count → IsBefore past t → one ≡ Start t ∷ past
+    → IsServing (setting_of program) one t × (own one t ≡ [])
+other_woken program past one count t test g before is = (
+  subst (λ (h : History). IsServing (setting_of program) h t) (sym is) (other_serving (setting_of program) past t g.run (flipped t test) before),
+  ap (λ (h : History). own h t) is ∙ fresh_law (setting_of program) past t g.run (before.later t (omega arith)),
+)
+
+pub free_legal : (program : List FunctionTree) (past : History) (count t g : ℕ) (w : List (ℕ × ℕ)) → (t == 2) ≡ true → w ≡ [] → IsGoing program past count → IsServing (setting_of program) past t
+    → says_next (setting_of program) past t ≡ Ends g → IsLegal (setting_of program) past (Free t 1 w)
+free_legal program past count t g w test none going serving says =
+    let s = setting_of program in
+    subst (λ (k : ℕ). IsServing s past k → says_next s past k ≡ Ends g → IsLegal s past (Free k 1 w)) (sym (eqb-true t 2 test))
+    (λ serving says. subst (λ (v : List (ℕ × ℕ)). IsLegal s past (Free 2 1 v)) (sym none) (first_free s past g going.run going.open_run serving says)) serving says
+
+pub end_legal : (program : List FunctionTree) (past one : History) (count t g : ℕ) (w : List (ℕ × ℕ)) → (t == 2) ≡ true → w ≡ [] → IsGoing program past count → IsServing (setting_of program) past t
+    → says_next (setting_of program) past t ≡ Ends g → one ≡ Free t 1 w ∷ past → IsLegal (setting_of program) one (End t g)
+end_legal program past one count t g w test none going serving says is =
+    let s = setting_of program in
+    subst (λ (h : History). IsLegal s h (End t g)) (sym (is ∙ ap (λ (v : List (ℕ × ℕ)). Free t 1 v ∷ past) none))
+    (subst (λ (k : ℕ). IsServing s past k → says_next s past k ≡ Ends g → IsLegal s (Free k 1 [] ∷ past) (End k g)) (sym (eqb-true t 2 test))
+    (λ serving says. first_end s past g going.run (first_free s past g going.run going.open_run serving says) serving says) serving says)
+
+pub first_over : (s : Setting) (past one two : History) (t g : ℕ) (w : List (ℕ × ℕ)) → IsServing s past t → one ≡ Free t 1 w ∷ past → two ≡ End t g ∷ one → IsBefore two (t + 1)
+first_over s past one two t g w serving first second =
+    subst (λ (h : History). IsBefore h (t + 1)) (sym (second ∙ ap (λ (h : History). End t g ∷ h) first))
+    (next_turn s past (Free t 1 w ∷ past) t g serving (λ u. refl) (λ u. refl) (λ u. refl))
+
+pub other_over : (s : Setting) (past one : History) (t g : ℕ) → IsServing s past t → one ≡ End t g ∷ past → IsBefore one (t + 1)
+other_over s past one t g serving is =
+    subst (λ (h : History). IsBefore h (t + 1)) (sym is) (next_turn s past past t g serving (λ u. refl) (λ u. refl) (λ u. refl))
+
+pub other_end_legal : (program : List FunctionTree) (past : History) (count t g : ℕ) → (t == 2) ≡ false → IsGoing program past count → IsServing (setting_of program) past t
+    → says_next (setting_of program) past t ≡ Ends g → IsLegal (setting_of program) past (End t g)
+other_end_legal program past count t g test going serving says =
+    other_end (setting_of program) past t g going.run going.open_run (flipped t test) serving says
 
 -- WHEN ALL TURNS ARE OVER
 within_high : (count t : ℕ) → is_within count t ≡ true → t ≤ count

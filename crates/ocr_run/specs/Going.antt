@@ -6,7 +6,7 @@ use Rattle.ocr_body.specs.declared.call.Call as body
 use Rattle.ocr_body.specs.declared.call.Call.TheVariants as call
 use Rattle.ocr_body.specs.declared.call.Answer.{Answer}
 use Rattle.ocr_machine.specs.declared.entry.Entry.{Entry}
-use Rattle.ocr_machine.specs.declared.entry.Entry.TheVariants.{Stop}
+use Rattle.ocr_machine.specs.declared.entry.Entry.TheVariants.{Acquire, Start, Free, End, Stop}
 use Rattle.ocr_body.specs.declared.call.BodyStop.{BodyStop}
 use Rattle.ocr_body.specs.declared.call.BodyStop.TheVariants as stop
 use Rattle.ocr_machine.specs.declared.entry.Fault.TheVariants as kind
@@ -56,6 +56,14 @@ pub record IsHeld (program : List FunctionTree) (past : History) (limit : ℕ) (
   pub parts : all_parts limit places ≡ parts_of (setting_of program) past
   pub sum : total ≡ weight past
   pub within : total ≤ share
+
+-- an entry that makes nothing, of the one worker
+abbrev pub IsMove : Entry → Type 0
+IsMove (Acquire t d) = Unit {0}
+IsMove (Start t) = Unit {0}
+IsMove (Free t d w) = Unit {0}
+IsMove (End t g) = Unit {0}
+IsMove other = ⊥
 
 -- it may be stopped so
 pub record IsStoppable (s : Setting) (past : History) (why : run.Stop) : Type 0 where

@@ -8,7 +8,7 @@ ghost use Rattle.ocr_machine.specs.Made.{made, is_edt, is_done, function_in, par
 ghost use Rattle.ocr_machine.specs.Edts.{is_started, says_next};
 ghost use Rattle.ocr_machine.specs.Legal.{IsLegal, IsRun, is_stop, is_creation};
 ghost use Rattle.ocr_run.specs.UnderWay.{setting_of, IsRunnable};
-ghost use Rattle.ocr_run.specs.Going.{IsHeld, IsBefore, IsServing, IsServed};
+ghost use Rattle.ocr_run.specs.Going.{IsHeld, IsMove, IsBefore, IsServing, IsServed};
 ghost use Rattle.ocr_run.specs.Serving.{GoesOn, MayStop};
 
 use crate::log::Log;
@@ -113,6 +113,20 @@ impl<'a> Going<'a> {
         Ok(())
     }
 
+    // Enters an entry that makes nothing.
+    fn pass(&mut self, alloc: Global, entry: Entry) -> Result<(), Stop>
+        requires going { GoesOn self.old }
+        requires legal { IsLegal (setting_of (checked_tree self.old.program.now)) (history_of self.old.log.entries.items) entry }
+        requires moves { IsMove entry }
+        ensures program { self.new.program.now ≡ self.old.program.now }
+        ensures going { OnOk result (GoesOn self.new) }
+        ensures entered { OnOk result (history_of self.new.log.entries.items ≡ entry ∷ history_of self.old.log.entries.items) }
+        ensures stop { IfErr result (MayStop self.new) }
+    {
+        self.enter(alloc, entry)?;
+        Ok(())
+    }
+
     /// Answers the call that the running EDT makes next.
     pub fn answer(&mut self, alloc: Global, edt: Guid, call: &Call) -> Result<Answer, Stop>
         requires going { GoesOn self.old }
@@ -167,16 +181,18 @@ impl<'a> Going<'a> {
         ensures stop { IfErr result (MayStop self.new) }
     {
         if edt == MAIN_EDT {
-            self.enter(
+            self.pass(
                 alloc,
                 Entry::Acquire {
                     edt,
                     block: ARGUMENTS,
                 },
             )?;
-            return self.enter(alloc, Entry::Start { edt });
+            self.pass(alloc, Entry::Start { edt })?;
+            return Ok(());
         }
-        self.enter(alloc, Entry::Start { edt })
+        self.pass(alloc, Entry::Start { edt })?;
+        Ok(())
     }
 
     /// An EDT whose body has ended gives back what it holds, and ends.
@@ -190,7 +206,7 @@ impl<'a> Going<'a> {
         ensures stop { IfErr result (MayStop self.new) }
     {
         if edt == MAIN_EDT {
-            self.enter(
+            self.pass(
                 alloc,
                 Entry::Free {
                     edt,
@@ -198,9 +214,11 @@ impl<'a> Going<'a> {
                     writes: Writes::none(alloc),
                 },
             )?;
-            return self.enter(alloc, Entry::End { edt, returned });
+            self.pass(alloc, Entry::End { edt, returned })?;
+            return Ok(());
         }
-        self.enter(alloc, Entry::End { edt, returned })
+        self.pass(alloc, Entry::End { edt, returned })?;
+        Ok(())
     }
 }
 
