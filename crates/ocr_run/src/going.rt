@@ -1,5 +1,5 @@
 // A run that goes on.
-ghost use Rattle.std.specs.Prelude.{◌≡◌, ◌+◌, ◌∷◌, [], ℕ, false, true, IfOk, IfErr, OnOk, OnErr};
+ghost use Rattle.std.specs.Prelude.{◌≡◌, ◌≤◌, ◌<◌, ◌+◌, ◌∷◌, [], ℕ, ◌&&◌, if◌then◌else◌, false, true, IfOk, IfErr, OnOk, OnErr};
 ghost use Rattle.ocr_body.specs.Behaviour.{IsNext, Ends};
 ghost use Rattle.ocr_body.specs.Checked.{checked_tree};
 ghost use Rattle.ocr_machine.specs.declared.entry.Entry.TheVariants as an;
@@ -140,8 +140,8 @@ impl<'a> Going<'a> {
         ensures stop { IfErr result (MayStop self.new) }
     {
         let code = self.table.decide(edt, call);
-        let makes = is_creation(call) && is_done(code);
-        if makes && self.made >= LIMIT {
+        let makes = makes_object(call, code);
+        if is_full(makes, self.made) {
             return Err(Stop::Objects);
         }
         let Ok(call) = copied(alloc, call) else {
@@ -149,7 +149,7 @@ impl<'a> Going<'a> {
         };
         let answer = Answer {
             code,
-            value: if makes { self.made + 1 } else { 0 },
+            value: number_of_new(makes, self.made),
             scope: Guid::NULL,
             output: Guid::NULL,
         };
@@ -163,9 +163,7 @@ impl<'a> Going<'a> {
                 writes: Writes::none(alloc),
             },
         )?;
-        if makes {
-            self.made += 1;
-        }
+        self.made = count_after(makes, self.made);
         Ok(answer)
     }
 
@@ -246,14 +244,41 @@ fn is_creation(call: &Call) -> bool
     }
 }
 
-// Whether a call was accepted.
-fn is_done(code: Code) -> bool
-    ensures { result ≡ is_done code }
+// Whether a call with this code makes an object.
+fn makes_object(call: &Call, code: Code) -> bool
+    ensures { result ≡ (is_creation call.now && is_done code) }
 {
+    if !is_creation(call) {
+        return false;
+    }
     match code {
         Code::Done => true,
         Code::Eperm | Code::Enoent | Code::Ebusy | Code::Einval | Code::Stale => false,
     }
+}
+
+// Whether no number is left for an object that is to be made.
+fn is_full(makes: bool, made: u64) -> bool
+    ensures full { result ≡ true → (makes ≡ true) × (4096 ≤ made) }
+    ensures room { result ≡ false → makes ≡ true → made < 4096 }
+{
+    makes && made >= LIMIT
+}
+
+// The number of what is made, and 0 where nothing is.
+fn number_of_new(makes: bool, made: u64) -> u64
+    requires { makes ≡ true → made < 4096 }
+    ensures { result ≡ (if makes then made + 1 else 0) }
+{
+    if makes { made + 1 } else { 0 }
+}
+
+// How many objects are made then.
+fn count_after(makes: bool, made: u64) -> u64
+    requires { makes ≡ true → made < 4096 }
+    ensures { result ≡ (if makes then made + 1 else made) }
+{
+    if makes { made + 1 } else { made }
 }
 
 // A copy of a call that is built.
