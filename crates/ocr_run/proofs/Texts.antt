@@ -38,7 +38,7 @@ no_fault bytes program tokens sound are tree found (breaks_rule others other bre
     sound breach.rule breach.function (subst (λ (p : List FunctionTree). IsBreach p breach.rule breach.function) (sym (same_program bytes tokens others program other are those tree another)) is)
 
 same_breach : (a b : CheckFault) → (a.rule ≡ b.rule) × (a.function ≡ b.function) → a ≡ b
-same_breach a b same = cc (same.0, same.1)
+same_breach a b same = λ i. record { rule = same.0 i; function = same.1 i }
 
 same_fault : (bytes : List ℕ) (found other : TextFault) → IsNoProgram bytes found → IsNoProgram bytes other → found ≡ other
 same_fault bytes found other (no_tokens place is) (no_tokens place2 is2) = ap fault.Lexical (tokens_law.one_fault bytes place place2 is is2)

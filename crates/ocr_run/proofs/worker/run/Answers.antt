@@ -1,9 +1,10 @@
-use Rattle.std.proofs.Common.{inl, inr, refl, subst}
+use Rattle.std.proofs.Common.{◌<◌, ◌≤◌, ℕ, length, inl, inr, refl, sym, subst}
 use Rattle.ocr_body.specs.Checked.{checked_tree}
 use Rattle.ocr_body.specs.declared.checked.Checked.{Checked}
 use Rattle.ocr_machine.specs.History.{history_of}
 use Rattle.ocr_machine.specs.Edts.{says_next}
-use Rattle.ocr_run.specs.UnderWay.{setting_of, IsUnderWay}
+use Rattle.ocr_run.specs.UnderWay.{setting_of, IsUnderWay, shut_down}
+use Rattle.ocr_run.proofs.Mains.{some_main}
 use Rattle.ocr_run.proofs.Steps.{of_built, said_stop, said_next, ending_open, open_of}
 use Rattle.ocr_run.proofs.worker.run.Goals as goal
 
@@ -36,3 +37,11 @@ returns-in-Err-ending-clause-run c =
       | inl memory ↦ c.stopped-in-Err-ending.ensures.memory s memory (open_of s past under_way)
       | inr said ↦ c.stopped-in-Err-ending.ensures.said s said under_way (said_next (says_next s past 2) c.in-Err-ending.stop c.in-Err-ending.ensures.err said)
     ]
+
+pub walk-ending-requires-clause-exists : goal.walk-ending-requires-clause-exists
+walk-ending-requires-clause-exists c =
+    let program = checked_tree c.args.program.now in
+    (subst (λ (n : ℕ). 0 < n) (sym c.main_function-main.ensures) (some_main program), subst (λ (n : ℕ). n ≤ length program) (sym c.main_function-main.ensures) c.requires.has_main)
+
+pub returns-in_default-end-clause-met : goal.returns-in_default-end-clause-met
+returns-in_default-end-clause-met c = shut_down
