@@ -1,6 +1,6 @@
 -- Bytes are at most one program, have at most one fault, and never both.
-use Rattle.std.proofs.Common.{◌≡◌, ℕ, List, refl, sym, ap, ◌∙◌, subst}
-use Rattle.ocr_text.specs.Tokens.{AreTokens, IsFault}
+use Rattle.std.proofs.Common.{◌≡◌, ℕ, List, sym, ap, subst}
+use Rattle.ocr_text.specs.Tokens.{AreTokens}
 use Rattle.ocr_text.proofs.Laws.{tokens_law}
 use Rattle.ocr_text.specs.declared.token.Token.{Token}
 use Rattle.ocr_body.specs.Tree.{FunctionTree}
@@ -11,7 +11,7 @@ use Rattle.ocr_check.proofs.First.{breach_is_one}
 use Rattle.ocr_check.specs.declared.rules.CheckFault.{CheckFault}
 use Rattle.ocr_run.specs.declared.text.TextFault.{TextFault}
 use Rattle.ocr_run.specs.declared.text.TextFault.TheVariants as fault
-use Rattle.ocr_run.specs.ProgramText.{IsProgramText, IsNoProgram, no_tokens, no_tree, breaks_rule, TextLaw}
+use Rattle.ocr_run.specs.ProgramText.{IsNoProgram, no_tokens, no_tree, breaks_rule, TextLaw}
 
 -- a tree of other tokens of the same bytes is a tree of these
 tree_here : (bytes : List ℕ) (tokens others : List Token) (program : List FunctionTree) → AreTokens bytes tokens → AreTokens bytes others

@@ -1,5 +1,4 @@
-use Rattle.std.proofs.Common.{◌≡◌, Err, ap, inl, inr, sym, ◌∙◌, codes, subst, ℕ, List}
-use Rattle.ocr_body.specs.Tree.{FunctionTree}
+use Rattle.std.proofs.Common.{◌≡◌, Err, ap, inr, sym, ◌∙◌, codes, subst, ℕ, List}
 use Rattle.ocr_run.specs.ProgramText.{IsNoProgram, IsProgramText}
 use Rattle.ocr_run.specs.Headline.{IsAllOf, words_refused, text_too_big, read_fault, want_of_memory}
 use Rattle.ocr_run.proofs.Told.{weaker_line, line_at, all_of, told_bytes}
@@ -35,12 +34,14 @@ returns-in-Err-Failed-clause-told g c =
     (codes "read fault\n", (c.refuse-in-Err-Failed.ensures.told, line_at _ _ c.refuse-in-Err-Failed.result.journal 7 c.refuse-in-Err-Failed.result.status _ c.refuse-in-Err-Failed.ensures.status read_fault))
 
 pub returns-in-Err-TooBig-clause-told : goal.returns-in-Err-TooBig-clause-told
-returns-in-Err-TooBig-clause-told g c =
-    (codes "text too big\n", (
-      c.refuse-in-Err-TooBig.ensures.told,
-      line_at _ _ c.refuse-in-Err-TooBig.result.journal 3 c.refuse-in-Err-TooBig.result.status _ c.refuse-in-Err-TooBig.ensures.status
-      (text_too_big (c.in-Err-TooBig.ensures.too_big (ap Err c.in-Err-TooBig.field-0-is))),
-    ))
+returns-in-Err-TooBig-clause-told g c = (
+  codes "text too big\n",
+  (
+    c.refuse-in-Err-TooBig.ensures.told,
+    line_at _ _ c.refuse-in-Err-TooBig.result.journal 3 c.refuse-in-Err-TooBig.result.status _ c.refuse-in-Err-TooBig.ensures.status
+        (text_too_big (c.in-Err-TooBig.ensures.too_big (ap Err c.in-Err-TooBig.field-0-is))),
+  ),
+)
 
 pub returns-in-Err-NoMemory-clause-told : goal.returns-in-Err-NoMemory-clause-told
 returns-in-Err-NoMemory-clause-told g c =
