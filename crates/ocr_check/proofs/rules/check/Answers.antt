@@ -1,11 +1,12 @@
-use Rattle.std.proofs.Common.{List, subst}
+use Rattle.std.proofs.Common.{◌≡◌, true, List, subst}
 use Rattle.ocr_check.specs.Check.{BreaksNoRule}
+use Rattle.ocr_body.specs.Built.{are_built}
 use Rattle.ocr_body.specs.View.{functions_of}
 use Rattle.ocr_body.specs.declared.tree.Function.{Function}
 use Rattle.ocr_check.proofs.rules.check.Goals as goal
 
 pub new-requires : goal.new-requires
-new-requires c = subst (λ (fs : List Function). BreaksNoRule (functions_of fs)) c.deref.ensures.value c.in_ok-judge.ensures.ok
+new-requires c = subst (λ (fs : List Function). are_built (functions_of fs) ≡ true) c.deref.ensures.value c.in_ok-judge.ensures.built
 
 pub returns-clause-ok : goal.returns-clause-ok
 returns-clause-ok c = subst (λ (fs : List Function). BreaksNoRule (functions_of fs)) c.deref.ensures.value c.in_ok-judge.ensures.ok
