@@ -1,6 +1,6 @@
 // The rules that a task program keeps.
 ghost use Rattle.std.specs.Prelude.{◌≡◌, ◌<◌, ◌^◌, ℕ, true, List, length, IfOk, IfErr, OnOk};
-ghost use Rattle.ocr_check.specs.Check.{FailsNowhere, HasNamesake, BreaksNoRule, BreachLaw, is_among};
+ghost use Rattle.ocr_check.specs.Check.{FailsNowhere, HasNamesake, BreaksNoRule, BreachLaw, is_among, main_name};
 ghost use Rattle.ocr_check.specs.Check.{names_of as names_in};
 ghost use Rattle.ocr_check.specs.Scope.{knows, IsStopOf};
 ghost use Rattle.ocr_body.specs.Built.{are_built};
@@ -84,6 +84,7 @@ fn judge(alloc: Global, functions: &[Function]) -> Result<(), CheckStop>
     requires { length functions.now < 2 ^ 32 }
     ensures ok { OnOk result (BreaksNoRule (functions_of functions.now)) }
     ensures built { OnOk result (are_built (functions_of functions.now) ≡ true) }
+    ensures main { OnOk result (is_among main_name (names_in (functions_of functions.now)) ≡ true) }
     ensures err { IfErr result (IsStopOf (functions_of functions.now)) }
 {
     let names = names_of(alloc, functions)?;
@@ -105,6 +106,8 @@ fn judge(alloc: Global, functions: &[Function]) -> Result<(), CheckStop>
 pub fn check(alloc: Global, program: Program) -> Result<Checked, CheckStop>
     ensures tree { IfOk result (λ checked. checked_tree checked ≡ tree_of program) }
     ensures ok { OnOk result (BreaksNoRule (tree_of program)) }
+    ensures built { OnOk result (are_built (tree_of program) ≡ true) }
+    ensures main { OnOk result (is_among main_name (names_in (tree_of program)) ≡ true) }
     ensures fault { IfErr result (IsStopOf (tree_of program)) }
 {
     if program.functions.len() > u32::MAX as usize {

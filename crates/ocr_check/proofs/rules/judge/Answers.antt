@@ -39,3 +39,7 @@ returns-clause-built c =
     let outside : length fs ≤ c.loop-i.i = omega (arith, c.loop-i-test.false) in
     keeps_built (names_of (functions_of fs)) (functions_of fs)
     (subst (λ (gs : List Function). FailsNowhere (BreaksSome (names_of (functions_of fs))) (functions_of gs)) (take_all c.loop-i.i fs outside) c.loop-i.invariant)
+
+pub returns-clause-main : goal.returns-clause-main
+returns-clause-main c =
+    sym (c.in_ok-names.ensures.names main_name) ∙ ap (λ (x : List ℕ). knows c.in_ok-names.names x) (sym c.as_slice.ensures) ∙ sym c.contains.ensures ∙ c.if-not-contains.false
