@@ -46,8 +46,8 @@ mutual
       (expression_keeps known declared b (right_none (expression_rule known declared a) (expression_rule known declared b) h))
   expression_keeps known declared (tree.Invoked call xs) h =
       let called : Option ℕ = event_rule known declared (check.Called call xs) in
-      both_true (is_call_built call) (are_arguments_built xs)
-      (call_keeps (is_call_built call) (left_none called (arguments_rule known declared call Parameters xs) h))
+      both_true (is_call_built call xs) (are_arguments_built xs)
+      (call_keeps (is_call_built call xs) (left_none called (arguments_rule known declared call Parameters xs) h))
       (arguments_keep known declared call Parameters xs (right_none called (arguments_rule known declared call Parameters xs) h))
 
   arguments_keep : (known declared : List ℕ → Bool) (call : CallName) (kind : ListKind) (xs : Arguments) → arguments_rule known declared call kind xs ≡ None → are_arguments_built xs ≡ true

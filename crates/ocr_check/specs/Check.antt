@@ -147,7 +147,7 @@ is_declared left x (BlockClosed ∷ past) = is_declared (suc left) x past
 
 -- whether a call with these arguments is built
 abbrev pub is_built : CallName → Arguments → Bool
-is_built call arguments = is_call_built call
+is_built call arguments = is_call_built call arguments
 
 -- the rule that an event breaks after the events of its function before it, newest first. `names` are the functions' names
 abbrev pub rule_broken : (names : List (List ℕ)) (past : List Event) → Event → Option ℕ
