@@ -114,8 +114,7 @@ pub fn check(alloc: Global, program: Program) -> Result<Checked, CheckStop>
         return Err(CheckStop::NoMemory);
     }
     judge(alloc, &program.functions)?;
-    let checked = Checked::new(alloc, program)?;
-    Ok(checked)
+    Ok(Checked::new(alloc, program)?)
 }
 
 /// A program has at most one first breach.
