@@ -1,5 +1,5 @@
 -- A function that breaks no rule has all its calls built.
-use Rattle.std.proofs.Common.{◌≡◌, ℕ, Bool, true, false, ◌&&◌, cond, List, [], ◌∷◌, ◌++◌, Option, None, Some, refl, sym, ap, ◌∙◌}
+use Rattle.std.proofs.Common.{◌≡◌, ℕ, Bool, true, false, ◌&&◌, cond, List, [], ◌∷◌, Option, None, Some, refl}
 use Rattle.std.specs.Option.{option_or}
 use Rattle.ocr_body.specs.Tree.{Expression, Arguments, Statement, Statements, FunctionTree}
 use Rattle.ocr_body.specs.Tree as tree
@@ -7,7 +7,7 @@ use Rattle.ocr_body.specs.Built.{is_built, are_arguments_built, is_call_built, i
 use Rattle.ocr_body.specs.declared.tree.CallName.{CallName}
 use Rattle.ocr_check.specs.Check.{FailsNowhere, Breaks, BreaksSome}
 use Rattle.ocr_check.specs.Check as check
-use Rattle.ocr_check.specs.Checking.{Kept, Outcome, Passed, Broken, told, and_then, leaving, let_rule, value_rule, with_name, event_rule, expression_rule, arguments_rule, call_rule, statement_outcome, statements_outcome, rule_of, function_rule, nothing_kept}
+use Rattle.ocr_check.specs.Checking.{Kept, Outcome, Passed, Broken, told, and_then, leaving, let_rule, value_rule, with_name, event_rule, expression_rule, arguments_rule, statement_outcome, statements_outcome, rule_of, function_rule, nothing_kept}
 use Rattle.ocr_check.specs.declared.scope.ListKind.{ListKind}
 use Rattle.ocr_check.specs.declared.scope.ListKind.TheVariants.{Parameters, Dependences}
 use Rattle.ocr_check.proofs.Events.{known_of}

@@ -7,7 +7,7 @@ use Rattle.ocr_body.specs.View.{function_of, functions_of}
 use Rattle.ocr_body.specs.declared.tree.Function.{Function}
 use Rattle.ocr_check.proofs.Built.{keeps_built}
 use Rattle.ocr_check.proofs.First.{FailsNowhere-nil}
-use Rattle.ocr_check.proofs.Programs.{none_more, no_breach, function_sound, walk_stops}
+use Rattle.ocr_check.proofs.Programs.{none_more, function_sound, walk_stops}
 use Rattle.ocr_check.proofs.rules.judge.Goals as goal
 
 pub returns-then-not-contains-clause-err : goal.returns-then-not-contains-clause-err
