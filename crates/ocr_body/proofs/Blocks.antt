@@ -1,5 +1,5 @@
 -- The code of statements, one after another.
-use Rattle.std.proofs.Common.{◌≡◌, ◌<◌, ◌≤◌, ◌+◌, ℕ, zero, suc, List, [], ◌∷◌, ◌++◌, Bool, true, false, ◌&&◌, length, take, drop, get_or, map, take_all, refl, sym, ◌∙◌, ap, arith, Vec, Global}
+use Rattle.std.proofs.Common.{◌≡◌, ◌<◌, ◌≤◌, ◌+◌, ℕ, zero, suc, List, [], ◌∷◌, ◌++◌, true, length, take, drop, get_or, take_all, refl, sym, ◌∙◌, ap, arith, Vec, Global}
 use Rattle.ocr_body.specs.Tree as tree
 use Rattle.ocr_body.specs.Code.{is_step_placed, are_placed, statement_at, statements_in}
 use Rattle.ocr_body.specs.Built.{is_statement_built, are_statements_built}

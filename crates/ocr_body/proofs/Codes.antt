@@ -1,6 +1,6 @@
 -- The code of functions, one after another.
 use Rattle.std.proofs.Common.{◌≡◌, ◌<◌, ◌≤◌, ◌+◌, ℕ, zero, suc, List, [], ◌∷◌, ◌++◌, true, length, take, drop, get_or, map, take_all, refl, sym, ◌∙◌, ap, arith}
-use Rattle.ocr_body.specs.Tree.{FunctionTree, Statements}
+use Rattle.ocr_body.specs.Tree.{Statements}
 use Rattle.ocr_body.specs.Built.{are_statements_built, are_built}
 use Rattle.ocr_body.specs.Code.{body_in, bodies_in, is_sound, are_sound}
 use Rattle.ocr_body.specs.View.{statements_of, functions_of}

@@ -1,6 +1,6 @@
 -- The functions of a program by their numbers.
-use Rattle.std.proofs.Common.{◌≡◌, ◌<◌, ◌+◌, ◌-◌, ℕ, zero, suc, List, [], ◌∷◌, length, get_or, map, refl, ap, sym, ◌∙◌, arith, true}
-use Rattle.ocr_body.specs.Tree.{FunctionTree, Statements}
+use Rattle.std.proofs.Common.{◌≡◌, ◌<◌, ◌+◌, ℕ, zero, suc, List, [], ◌∷◌, length, get_or, map, refl, ap, sym, ◌∙◌, arith, true}
+use Rattle.ocr_body.specs.Tree.{FunctionTree}
 use Rattle.ocr_body.specs.Code.{body_in, bodies_in, is_sound, are_sound}
 use Rattle.ocr_body.specs.Serving.{statements_at}
 use Rattle.ocr_body.specs.declared.code.FunctionCode.{FunctionCode}

@@ -2,7 +2,7 @@
 use Rattle.std.proofs.Common.{◌≡◌, ◌≤◌, ◌+◌, ◌/◌, ◌%◌, ◌==◌, ℕ, zero, suc, List, [], ◌∷◌, Bool, true, false, if◌then◌else◌, length, nat_lt, refl, arith}
 use Rattle.std.specs.Prelude.{slice_index}
 use Rattle.ocr_body.specs.Behaviour.{Behaviour, Ends, Stops, Asks, NotBuilt, Asked, after, answered, IsNext}
-use Rattle.ocr_body.specs.Built.{is_call_built, is_built, are_arguments_built, is_statement_built, are_statements_built, are_built}
+use Rattle.ocr_body.specs.Built.{are_values, is_call_built, is_built, are_arguments_built, is_statement_built, are_statements_built, are_built}
 use Rattle.ocr_body.specs.Constant.{value_of}
 use Rattle.ocr_body.specs.Laws.{IsOfBuilt, BuiltLaw, FuelLaw}
 use Rattle.ocr_body.specs.Meaning.{Frame, State, Value, spend, bound, applied, indexed, operated, divided, asked, eval, eval_all, turns, printed, exec, exec_all}
@@ -41,10 +41,15 @@ operated_built other x y k rest = rest _
 indexed_built : (words : List ℕ) (i : ℕ) (st : State) (k : Value) → ((v : ℕ) (st : State) → IsOfBuilt (k v st)) → IsOfBuilt (indexed words i st k)
 indexed_built words i st k rest = chosen_built (nat_lt i (length words)) _ _ (rest (slice_index words i) st) tt
 
-asked_built : (made : CallName) (xs : List ℕ) (st : State) (k : Value) → is_call_built made ≡ true → IsOfBuilt (asked made xs st k)
-asked_built name.Shutdown xs st k is = tt
-asked_built name.Abort xs st k is = tt
-asked_built other xs st k is = cc is
+asked_built : (made : CallName) (given : Arguments) (xs : List ℕ) (st : State) (k : Value) → is_call_built made given ≡ true → IsOfBuilt (asked made xs st k)
+asked_built name.Shutdown given xs st k is = tt
+asked_built name.Abort given xs st k is = tt
+asked_built other given xs st k is = cc is
+
+values_of : (made : CallName) (given : Arguments) → is_call_built made given ≡ true → are_values given ≡ true
+values_of name.Shutdown given is = is
+values_of name.Abort given is = is
+values_of other given is = cc is
 
 mutual
   eval_built : (f : Frame) (e : Expression) (st : State) (k : Value) → is_built e ≡ true → ((v : ℕ) (st : State) → IsOfBuilt (k v st)) → IsOfBuilt (eval f e st k)
@@ -60,15 +65,15 @@ mutual
   eval_built f (tree.Binary o a b) st k is rest =
       spent_built st _ (λ st. eval_built f a st _ (first_of _ _ is) (λ x st. eval_built f b st _ (second_of _ _ is) (λ y st. operated_built o x y _ (λ v. rest v st))))
   eval_built f (tree.Invoked made xs) st k is rest =
-      spent_built st _ (λ st. all_built f xs st _ (second_of _ _ is) (λ values st. asked_built made values st k (first_of _ _ is)))
+      spent_built st _ (λ st. all_built f xs st _ (values_of made xs (first_of _ _ is)) (second_of _ _ is) (λ values st. asked_built made xs values st k (first_of _ _ is)))
 
-  all_built : (f : Frame) (xs : Arguments) (st : State) (k : List ℕ → State → Behaviour) → are_arguments_built xs ≡ true
+  all_built : (f : Frame) (xs : Arguments) (st : State) (k : List ℕ → State → Behaviour) → are_values xs ≡ true → are_arguments_built xs ≡ true
       → ((values : List ℕ) (st : State) → IsOfBuilt (k values st)) → IsOfBuilt (eval_all f xs st k)
-  all_built f tree.empty st k is rest = rest [] st
-  all_built f (tree.value e others) st k is rest =
-      eval_built f e st _ (first_of _ _ is) (λ v st. all_built f others st _ (second_of _ _ is) (λ values st. rest (v ∷ values) st))
-  all_built f (tree.list es others) st k is rest = cc is
-  all_built f (tree.named x others) st k is rest = cc is
+  all_built f tree.empty st k values is rest = rest [] st
+  all_built f (tree.value e others) st k values is rest =
+      eval_built f e st _ (first_of _ _ is) (λ v st. all_built f others st _ values (second_of _ _ is) (λ vs st. rest (v ∷ vs) st))
+  all_built f (tree.list es others) st k values is rest = cc values
+  all_built f (tree.named x others) st k values is rest = cc values
 
 turns_built : (n : ℕ) (test : State → Value → Behaviour) (body : State → (State → Behaviour) → Behaviour) (st : State) (k : State → Behaviour)
     → ((st : State) (k : Value) → ((v : ℕ) (st : State) → IsOfBuilt (k v st)) → IsOfBuilt (test st k))

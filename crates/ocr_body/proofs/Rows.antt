@@ -1,5 +1,5 @@
 -- The statements of a block in memory.
-use Rattle.std.proofs.Common.{◌≡◌, ℕ, List, [], ◌∷◌, refl, ap, ◌∙◌, Vec, Global, Bool, ◌&&◌}
+use Rattle.std.proofs.Common.{◌≡◌, ℕ, List, refl, ap, ◌∙◌, Vec, Global, Bool, ◌&&◌}
 use Rattle.ocr_body.specs.Tree as tree
 use Rattle.ocr_body.specs.Code.{statement_at, statements_in, row_at, expression_at, is_placed, is_step_placed, is_row_placed, are_placed}
 use Rattle.ocr_body.specs.declared.code.Step.{Step, Row_of-Step, end_of-Step, more_of-Step}

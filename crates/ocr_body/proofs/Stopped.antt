@@ -1,5 +1,5 @@
 -- When a part of a body stops, and what is said once a call was answered.
-use Rattle.std.proofs.Common.{◌≡◌, ap, ◌∙◌, List, ◌∷◌, ℕ, ◌+◌, ◌-◌, ◌≤◌, ◌^◌, min, arith}
+use Rattle.std.proofs.Common.{◌≡◌, ap, ◌∙◌, List, ◌∷◌, ℕ, ◌≤◌, arith}
 use Rattle.ocr_body.specs.Tree as tree
 use Rattle.ocr_body.specs.Tree.{Expression, Statement}
 use Rattle.ocr_body.specs.Meaning.{Frame, State, Value, eval, exec}

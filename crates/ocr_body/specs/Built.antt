@@ -5,10 +5,18 @@ use Rattle.ocr_body.specs.Tree.{Expression, Arguments, Statement, Statements, Fu
 use Rattle.ocr_body.specs.declared.tree.CallName.{CallName}
 use Rattle.ocr_body.specs.declared.tree.CallName.TheVariants as name
 
-abbrev pub is_call_built : CallName → Bool
-is_call_built name.Shutdown = true
-is_call_built name.Abort = true
-is_call_built other = false
+-- the arguments are values: no list and no name is among them
+abbrev pub are_values : Arguments → Bool
+are_values tree.empty = true
+are_values (tree.value e rest) = are_values rest
+are_values (tree.list es rest) = false
+are_values (tree.named x rest) = false
+
+-- a call with these arguments is built: one line a call
+abbrev pub is_call_built : CallName → Arguments → Bool
+is_call_built name.Shutdown xs = are_values xs
+is_call_built name.Abort xs = are_values xs
+is_call_built other xs = false
 
 abbrev mutual
   pub is_built : Expression → Bool
@@ -16,15 +24,15 @@ abbrev mutual
   is_built (tree.Depv e) = is_built e
   is_built (tree.Unary o e) = is_built e
   is_built (tree.Binary o a b) = is_built a && is_built b
-  is_built (tree.Invoked made xs) = is_call_built made && are_arguments_built xs
+  is_built (tree.Invoked made xs) = is_call_built made xs && are_arguments_built xs
   is_built other = true
 
-  -- no call that is built takes a list or a name
+  -- the calls among arguments
   pub are_arguments_built : Arguments → Bool
   are_arguments_built tree.empty = true
   are_arguments_built (tree.value e rest) = is_built e && are_arguments_built rest
-  are_arguments_built (tree.list es rest) = false
-  are_arguments_built (tree.named x rest) = false
+  are_arguments_built (tree.list es rest) = are_arguments_built es && are_arguments_built rest
+  are_arguments_built (tree.named x rest) = are_arguments_built rest
 
 abbrev mutual
   pub is_statement_built : Statement → Bool
@@ -34,7 +42,7 @@ abbrev mutual
   is_statement_built (tree.While e body) = is_built e && are_statements_built body
   is_statement_built (tree.Print e) = is_built e
   is_statement_built (tree.Return e) = is_built e
-  is_statement_built (tree.Do made xs) = is_call_built made && are_arguments_built xs
+  is_statement_built (tree.Do made xs) = is_call_built made xs && are_arguments_built xs
 
   pub are_statements_built : Statements → Bool
   are_statements_built tree.nothing = true

@@ -1,5 +1,5 @@
 -- The code of parts of a function, over the names that were met so far.
-use Rattle.std.specs.Prelude.{◌≡◌, ◌<◌, ℕ, List, [], ◌∷◌, ◌++◌, true, length}
+use Rattle.std.specs.Prelude.{◌≡◌, ◌<◌, ℕ, List, ◌++◌, true, length}
 use Rattle.ocr_body.specs.Tree as tree
 use Rattle.ocr_body.specs.Code.{name_at, is_placed, is_call_placed, is_step_placed, are_placed, called, arguments_at, expression_at, statement_at, statements_in}
 use Rattle.ocr_body.specs.declared.tree.CallName.{CallName}

@@ -8,6 +8,7 @@ mod checked;
 mod code;
 mod first_form;
 mod local;
+mod numbers;
 mod operators;
 mod resolver;
 mod tree;

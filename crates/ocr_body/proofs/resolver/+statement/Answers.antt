@@ -1,4 +1,4 @@
-use Rattle.std.proofs.Common.{◌≡◌, ◌≤◌, ◌+◌, ◌++◌, ◌∷◌, ◌&&◌, [], List, ℕ, true, length, refl, ap, sym, subst, ◌∙◌, arith}
+use Rattle.std.proofs.Common.{◌≡◌, ◌≤◌, ◌+◌, ◌++◌, ◌∷◌, ◌&&◌, [], List, true, length, refl, ap, sym, subst, ◌∙◌, arith}
 use Rattle.ocr_body.specs.Tree as tree
 use Rattle.ocr_body.specs.Built.{is_built, is_statement_built, are_statements_built}
 use Rattle.ocr_body.specs.Resolved.{IsStatement}

@@ -1,4 +1,4 @@
-use Rattle.std.proofs.Common.{◌≡◌, ◌≤◌, ◌<◌, ◌+◌, ◌*◌, ℕ, suc, drop, true, length}
+use Rattle.std.proofs.Common.{◌≡◌, ◌≤◌, ◌+◌, ◌*◌, ℕ, suc, drop, true, length}
 use Rattle.ocr_body.specs.Behaviour.{Behaviour}
 use Rattle.ocr_body.specs.Code.{expression_at, statement_at, statements_in, are_placed}
 use Rattle.ocr_body.specs.Tree.{While}

@@ -1,4 +1,4 @@
-use Rattle.std.proofs.Common.{◌≡◌, ◌<◌, ◌-◌, ◌∙◌, length, ap, List, arith}
+use Rattle.std.proofs.Common.{◌<◌, ◌-◌, ◌∙◌, length, ap, arith}
 use Rattle.ocr_body.specs.declared.tree.Program.{Program}
 use Rattle.ocr_body.specs.View.{tree_of}
 use Rattle.ocr_body.specs.Serving.{statements_at}
