@@ -1,6 +1,8 @@
 pub mod Blocks
 pub mod Codes
+pub mod Creations
 pub mod Functions
+pub mod Givens
 pub mod Laws
 pub mod Names
 pub mod Plain

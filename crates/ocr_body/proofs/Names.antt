@@ -5,14 +5,14 @@ use Rattle.std.proofs.lemmas.Bool.{ltb-true, lt-ltb}
 use Rattle.std.proofs.lemmas.List.Folds.{list_any-append, list_any_more}
 use Rattle.std.proofs.lemmas.Slice.Eq.{bytes_eq-Decides}
 use Rattle.ocr_body.specs.Tree as tree
-use Rattle.ocr_body.specs.Code.{are_distinct, name_at, is_placed, is_call_placed, is_step_placed, is_row_placed, are_placed, called, arguments_at, expression_at, statement_at, row_at, statements_in}
-use Rattle.ocr_body.specs.Resolved.{Grew, IsPlace, IsExpression, IsStatement, AreStatements}
+use Rattle.ocr_body.specs.Code.{are_distinct, name_at, is_placed, are_args_placed, is_step_placed, is_row_placed, are_placed, called, given_to, arguments_at, expression_at, statement_at, row_at, statements_in}
+use Rattle.ocr_body.specs.Resolved.{Grew, IsPlace, IsExpression, IsArguments, IsStatement, AreStatements}
 use Rattle.ocr_body.specs.declared.tree.BinaryOp.{BinaryOp}
-use Rattle.ocr_body.specs.declared.code.Invocation.TheViews as views
+use Rattle.ocr_body.specs.declared.code.Args.TheViews as views
 use Rattle.ocr_body.specs.declared.code.Node.{Node}
 use Rattle.ocr_body.specs.declared.code.Node.TheVariants as node
-use Rattle.ocr_body.specs.declared.code.Invocation.{Invocation}
-use Rattle.ocr_body.specs.declared.code.Invocation.TheVariants as invocation
+use Rattle.ocr_body.specs.declared.code.Args.{Args}
+use Rattle.ocr_body.specs.declared.code.Args.TheVariants as args
 use Rattle.ocr_body.specs.declared.code.Step.{Step, Row_of-Step, end_of-Step, more_of-Step}
 use Rattle.ocr_body.specs.declared.code.Step.TheVariants as step
 use Rattle.ocr_body.proofs.Variables.{first_of, second_of, neither_first, neither_second, denied}
@@ -95,97 +95,107 @@ place_less : (n m i : ℕ) → n ≤ m → nat_lt i n ≡ true → nat_lt i m �
 place_less n m i le is = lt-ltb i m (omega (arith, ltb-true i n is))
 
 mutual
-  node_placed : (n m : ℕ) (e : Node) → n ≤ m → is_placed n e ≡ true → is_placed m e ≡ true
-  node_placed n m (node.Number v) le is = refl
-  node_placed n m (node.Constant c) le is = refl
-  node_placed n m (node.Variable i) le is = place_less n m i le is
-  node_placed n m node.Paramc le is = refl
-  node_placed n m node.Depc le is = refl
-  node_placed n m node.LastCode le is = refl
-  node_placed n m (node.Paramv' p e) le is = node_placed n m e le is
-  node_placed n m (node.Depv' p e) le is = node_placed n m e le is
-  node_placed n m (node.Unary' op p e) le is = node_placed n m e le is
-  node_placed n m (node.Binary' op p a q b) le is = both _ _ (node_placed n m a le (first_of _ _ is)) (node_placed n m b le (second_of _ _ is))
-  node_placed n m (node.Invoke made) le is = call_placed n m made le is
+  node_placed : (w : List ℕ → ℕ) (n m : ℕ) (e : Node) → n ≤ m → is_placed w n e ≡ true → is_placed w m e ≡ true
+  node_placed w n m (node.Number v) le is = refl
+  node_placed w n m (node.Constant c) le is = refl
+  node_placed w n m (node.Variable i) le is = place_less n m i le is
+  node_placed w n m node.Paramc le is = refl
+  node_placed w n m node.Depc le is = refl
+  node_placed w n m node.LastCode le is = refl
+  node_placed w n m (node.Paramv' p e) le is = node_placed w n m e le is
+  node_placed w n m (node.Depv' p e) le is = node_placed w n m e le is
+  node_placed w n m (node.Unary' op p e) le is = node_placed w n m e le is
+  node_placed w n m (node.Binary' op p a q b) le is = both _ _ (node_placed w n m a le (first_of _ _ is)) (node_placed w n m b le (second_of _ _ is))
+  node_placed w n m (node.Invoke made xs) le is = both _ _ (first_of _ _ is) (args_placed w n m xs le (second_of _ _ is))
 
-  call_placed : (n m : ℕ) (made : Invocation) → n ≤ m → is_call_placed n made ≡ true → is_call_placed m made ≡ true
-  call_placed n m invocation.Shutdown le is = refl
-  call_placed n m (invocation.Abort' p e) le is = node_placed n m e le is
-
-mutual
-  node_same : (xs ys : List (List ℕ)) (e : Node) → Grew xs ys → is_placed (length xs) e ≡ true → expression_at ys e ≡ expression_at xs e
-  node_same xs ys (node.Number v) grew is = refl
-  node_same xs ys (node.Constant c) grew is = refl
-  node_same xs ys (node.Variable i) grew is = ap tree.Var (name_kept xs ys i grew (ltb-true i (length xs) is))
-  node_same xs ys node.Paramc grew is = refl
-  node_same xs ys node.Depc grew is = refl
-  node_same xs ys node.LastCode grew is = refl
-  node_same xs ys (node.Paramv' p e) grew is = ap tree.Paramv (node_same xs ys e grew is)
-  node_same xs ys (node.Depv' p e) grew is = ap tree.Depv (node_same xs ys e grew is)
-  node_same xs ys (node.Unary' op p e) grew is = ap (tree.Unary op) (node_same xs ys e grew is)
-  node_same xs ys (node.Binary' op p a q b) grew is =
-      λ i. tree.Binary op (node_same xs ys a grew (first_of _ _ is) i) (node_same xs ys b grew (second_of _ _ is) i)
-  node_same xs ys (node.Invoke made) grew is = ap (tree.Invoked (called made)) (call_same xs ys made grew is)
-
-  call_same : (xs ys : List (List ℕ)) (made : Invocation) → Grew xs ys → is_call_placed (length xs) made ≡ true → arguments_at ys made ≡ arguments_at xs made
-  call_same xs ys invocation.Shutdown grew is = refl
-  call_same xs ys (invocation.Abort' p e) grew is = ap (λ (a : tree.Expression). tree.value a tree.empty) (node_same xs ys e grew is)
+  args_placed : (w : List ℕ → ℕ) (n m : ℕ) (xs : Args) → n ≤ m → are_args_placed w n xs ≡ true → are_args_placed w m xs ≡ true
+  args_placed w n m args.End le is = refl
+  args_placed w n m (args.Output i) le is = place_less n m i le is
+  args_placed w n m (args.Value' p e q rest) le is = both _ _ (node_placed w n m e le (first_of _ _ is)) (args_placed w n m rest le (second_of _ _ is))
+  args_placed w n m (args.List' p es q rest) le is = both _ _ (args_placed w n m es le (first_of _ _ is)) (args_placed w n m rest le (second_of _ _ is))
 
 mutual
-  step_placed : (n m : ℕ) (s : Step) → n ≤ m → is_step_placed n s ≡ true → is_step_placed m s ≡ true
-  step_placed n m (step.Let i e) le is = both _ _ (place_less n m i le (first_of _ _ is)) (node_placed n m e le (second_of _ _ is))
-  step_placed n m (step.Assign i e) le is = both _ _ (place_less n m i le (first_of _ _ is)) (node_placed n m e le (second_of _ _ is))
-  step_placed n m (step.If' e j first k second) le is =
-      both _ _ (node_placed n m e le (first_of _ _ is)) (both _ _ (row_placed n m first le (first_of _ _ (second_of _ _ is))) (row_placed n m second le (second_of _ _ (second_of _ _ is))))
-  step_placed n m (step.While' e j body) le is = both _ _ (node_placed n m e le (first_of _ _ is)) (row_placed n m body le (second_of _ _ is))
-  step_placed n m (step.Print e) le is = node_placed n m e le is
-  step_placed n m (step.Return e) le is = node_placed n m e le is
-  step_placed n m (step.Invoke made) le is = call_placed n m made le is
+  node_same : (w : List ℕ → ℕ) (xs ys : List (List ℕ)) (e : Node) → Grew xs ys → is_placed w (length xs) e ≡ true → expression_at ys e ≡ expression_at xs e
+  node_same w xs ys (node.Number v) grew is = refl
+  node_same w xs ys (node.Constant c) grew is = refl
+  node_same w xs ys (node.Variable i) grew is = ap tree.Var (name_kept xs ys i grew (ltb-true i (length xs) is))
+  node_same w xs ys node.Paramc grew is = refl
+  node_same w xs ys node.Depc grew is = refl
+  node_same w xs ys node.LastCode grew is = refl
+  node_same w xs ys (node.Paramv' p e) grew is = ap tree.Paramv (node_same w xs ys e grew is)
+  node_same w xs ys (node.Depv' p e) grew is = ap tree.Depv (node_same w xs ys e grew is)
+  node_same w xs ys (node.Unary' op p e) grew is = ap (tree.Unary op) (node_same w xs ys e grew is)
+  node_same w xs ys (node.Binary' op p a q b) grew is =
+      λ i. tree.Binary op (node_same w xs ys a grew (first_of _ _ is) i) (node_same w xs ys b grew (second_of _ _ is) i)
+  node_same w xs ys (node.Invoke made of) grew is = ap (λ (a : tree.Arguments). tree.Invoked (called made) (given_to made a)) (args_same w xs ys of grew (second_of _ _ is))
 
-  row_placed : {j : _} (n m : ℕ) (row : Row_of-Step j) → n ≤ m → is_row_placed n row ≡ true → is_row_placed m row ≡ true
-  row_placed n m end_of-Step le is = refl
-  row_placed n m (more_of-Step s rest) le is = both _ _ (step_placed n m s le (first_of _ _ is)) (row_placed n m rest le (second_of _ _ is))
+  args_same : (w : List ℕ → ℕ) (xs ys : List (List ℕ)) (of : Args) → Grew xs ys → are_args_placed w (length xs) of ≡ true → arguments_at ys of ≡ arguments_at xs of
+  args_same w xs ys args.End grew is = refl
+  args_same w xs ys (args.Output i) grew is = ap (λ (x : List ℕ). tree.named x tree.empty) (name_kept xs ys i grew (ltb-true i (length xs) is))
+  args_same w xs ys (args.Value' p e q rest) grew is =
+      λ i. tree.value (node_same w xs ys e grew (first_of _ _ is) i) (args_same w xs ys rest grew (second_of _ _ is) i)
+  args_same w xs ys (args.List' p es q rest) grew is =
+      λ i. tree.list (args_same w xs ys es grew (first_of _ _ is) i) (args_same w xs ys rest grew (second_of _ _ is) i)
 
 mutual
-  step_same : (xs ys : List (List ℕ)) (s : Step) → Grew xs ys → is_step_placed (length xs) s ≡ true → statement_at ys s ≡ statement_at xs s
-  step_same xs ys (step.Let i e) grew is =
-      λ j. tree.Let (name_kept xs ys i grew (ltb-true i (length xs) (first_of _ _ is)) j) (node_same xs ys e grew (second_of _ _ is) j)
-  step_same xs ys (step.Assign i e) grew is =
-      λ j. tree.Assign (name_kept xs ys i grew (ltb-true i (length xs) (first_of _ _ is)) j) (node_same xs ys e grew (second_of _ _ is) j)
-  step_same xs ys (step.If' e m first k second) grew is =
-      λ j. tree.If (node_same xs ys e grew (first_of _ _ is) j) (row_same xs ys first grew (first_of _ _ (second_of _ _ is)) j) (row_same xs ys second grew (second_of _ _ (second_of _ _ is)) j)
-  step_same xs ys (step.While' e m body) grew is =
-      λ j. tree.While (node_same xs ys e grew (first_of _ _ is) j) (row_same xs ys body grew (second_of _ _ is) j)
-  step_same xs ys (step.Print e) grew is = ap tree.Print (node_same xs ys e grew is)
-  step_same xs ys (step.Return e) grew is = ap tree.Return (node_same xs ys e grew is)
-  step_same xs ys (step.Invoke made) grew is = ap (tree.Do (called made)) (call_same xs ys made grew is)
+  step_placed : (w : List ℕ → ℕ) (n m : ℕ) (s : Step) → n ≤ m → is_step_placed w n s ≡ true → is_step_placed w m s ≡ true
+  step_placed w n m (step.Let i e) le is = both _ _ (place_less n m i le (first_of _ _ is)) (node_placed w n m e le (second_of _ _ is))
+  step_placed w n m (step.Assign i e) le is = both _ _ (place_less n m i le (first_of _ _ is)) (node_placed w n m e le (second_of _ _ is))
+  step_placed w n m (step.If' e j first k second) le is =
+      both _ _ (node_placed w n m e le (first_of _ _ is)) (both _ _ (row_placed w n m first le (first_of _ _ (second_of _ _ is))) (row_placed w n m second le (second_of _ _ (second_of _ _ is))))
+  step_placed w n m (step.While' e j body) le is = both _ _ (node_placed w n m e le (first_of _ _ is)) (row_placed w n m body le (second_of _ _ is))
+  step_placed w n m (step.Print e) le is = node_placed w n m e le is
+  step_placed w n m (step.Return e) le is = node_placed w n m e le is
+  step_placed w n m (step.Invoke made xs) le is = both _ _ (first_of _ _ is) (args_placed w n m xs le (second_of _ _ is))
 
-  row_same : {j : _} (xs ys : List (List ℕ)) (row : Row_of-Step j) → Grew xs ys → is_row_placed (length xs) row ≡ true → row_at ys row ≡ row_at xs row
-  row_same xs ys end_of-Step grew is = refl
-  row_same xs ys (more_of-Step s rest) grew is =
-      λ j. tree.statement (step_same xs ys s grew (first_of _ _ is) j) (row_same xs ys rest grew (second_of _ _ is) j)
+  row_placed : {j : _} (w : List ℕ → ℕ) (n m : ℕ) (row : Row_of-Step j) → n ≤ m → is_row_placed w n row ≡ true → is_row_placed w m row ≡ true
+  row_placed w n m end_of-Step le is = refl
+  row_placed w n m (more_of-Step s rest) le is = both _ _ (step_placed w n m s le (first_of _ _ is)) (row_placed w n m rest le (second_of _ _ is))
+
+mutual
+  step_same : (w : List ℕ → ℕ) (xs ys : List (List ℕ)) (s : Step) → Grew xs ys → is_step_placed w (length xs) s ≡ true → statement_at ys s ≡ statement_at xs s
+  step_same w xs ys (step.Let i e) grew is =
+      λ j. tree.Let (name_kept xs ys i grew (ltb-true i (length xs) (first_of _ _ is)) j) (node_same w xs ys e grew (second_of _ _ is) j)
+  step_same w xs ys (step.Assign i e) grew is =
+      λ j. tree.Assign (name_kept xs ys i grew (ltb-true i (length xs) (first_of _ _ is)) j) (node_same w xs ys e grew (second_of _ _ is) j)
+  step_same w xs ys (step.If' e m first k second) grew is =
+      λ j. tree.If (node_same w xs ys e grew (first_of _ _ is) j) (row_same w xs ys first grew (first_of _ _ (second_of _ _ is)) j) (row_same w xs ys second grew (second_of _ _ (second_of _ _ is)) j)
+  step_same w xs ys (step.While' e m body) grew is =
+      λ j. tree.While (node_same w xs ys e grew (first_of _ _ is) j) (row_same w xs ys body grew (second_of _ _ is) j)
+  step_same w xs ys (step.Print e) grew is = ap tree.Print (node_same w xs ys e grew is)
+  step_same w xs ys (step.Return e) grew is = ap tree.Return (node_same w xs ys e grew is)
+  step_same w xs ys (step.Invoke made of) grew is = ap (λ (a : tree.Arguments). tree.Do (called made) (given_to made a)) (args_same w xs ys of grew (second_of _ _ is))
+
+  row_same : {j : _} (w : List ℕ → ℕ) (xs ys : List (List ℕ)) (row : Row_of-Step j) → Grew xs ys → is_row_placed w (length xs) row ≡ true → row_at ys row ≡ row_at xs row
+  row_same w xs ys end_of-Step grew is = refl
+  row_same w xs ys (more_of-Step s rest) grew is =
+      λ j. tree.statement (step_same w xs ys s grew (first_of _ _ is) j) (row_same w xs ys rest grew (second_of _ _ is) j)
 
 -- what was resolved over some names is so over more
-pub expression_kept : (xs ys : List (List ℕ)) (e : Node) (is_of : tree.Expression) → Grew xs ys → IsExpression xs e is_of → IsExpression ys e is_of
-expression_kept xs ys e is_of grew is =
-    record { placed = node_placed _ _ e (longer xs ys grew) is.placed; same = node_same xs ys e grew is.placed ∙ is.same }
+pub expression_kept : (w : List ℕ → ℕ) (xs ys : List (List ℕ)) (e : Node) (is_of : tree.Expression) → Grew xs ys → IsExpression w xs e is_of → IsExpression w ys e is_of
+expression_kept w xs ys e is_of grew is =
+    record { placed = node_placed w _ _ e (longer xs ys grew) is.placed; same = node_same w xs ys e grew is.placed ∙ is.same }
 
-pub statement_kept : (xs ys : List (List ℕ)) (s : Step) (is_of : tree.Statement) → Grew xs ys → IsStatement xs s is_of → IsStatement ys s is_of
-statement_kept xs ys s is_of grew is =
-    record { placed = step_placed _ _ s (longer xs ys grew) is.placed; same = step_same xs ys s grew is.placed ∙ is.same }
+pub arguments_kept : (w : List ℕ → ℕ) (xs ys : List (List ℕ)) (of : Args) (is_of : tree.Arguments) → Grew xs ys → IsArguments w xs of is_of → IsArguments w ys of is_of
+arguments_kept w xs ys of is_of grew is =
+    record { placed = args_placed w _ _ of (longer xs ys grew) is.placed; same = args_same w xs ys of grew is.placed ∙ is.same }
 
-steps_placed : (n m : ℕ) (ss : List Step) → n ≤ m → are_placed n ss ≡ true → are_placed m ss ≡ true
-steps_placed n m [] le is = refl
-steps_placed n m (s ∷ ss) le is = both _ _ (step_placed n m s le (first_of _ _ is)) (steps_placed n m ss le (second_of _ _ is))
+pub statement_kept : (w : List ℕ → ℕ) (xs ys : List (List ℕ)) (s : Step) (is_of : tree.Statement) → Grew xs ys → IsStatement w xs s is_of → IsStatement w ys s is_of
+statement_kept w xs ys s is_of grew is =
+    record { placed = step_placed w _ _ s (longer xs ys grew) is.placed; same = step_same w xs ys s grew is.placed ∙ is.same }
 
-steps_same : (xs ys : List (List ℕ)) (ss : List Step) → Grew xs ys → are_placed (length xs) ss ≡ true → statements_in ys ss ≡ statements_in xs ss
-steps_same xs ys [] grew is = refl
-steps_same xs ys (s ∷ ss) grew is =
-    λ j. tree.statement (step_same xs ys s grew (first_of _ _ is) j) (steps_same xs ys ss grew (second_of _ _ is) j)
+steps_placed : (w : List ℕ → ℕ) (n m : ℕ) (ss : List Step) → n ≤ m → are_placed w n ss ≡ true → are_placed w m ss ≡ true
+steps_placed w n m [] le is = refl
+steps_placed w n m (s ∷ ss) le is = both _ _ (step_placed w n m s le (first_of _ _ is)) (steps_placed w n m ss le (second_of _ _ is))
 
-pub statements_kept : (xs ys : List (List ℕ)) (ss : List Step) (are_of : tree.Statements) → Grew xs ys → AreStatements xs ss are_of → AreStatements ys ss are_of
-statements_kept xs ys ss are_of grew is =
-    record { placed = steps_placed _ _ ss (longer xs ys grew) is.placed; same = steps_same xs ys ss grew is.placed ∙ is.same }
+steps_same : (w : List ℕ → ℕ) (xs ys : List (List ℕ)) (ss : List Step) → Grew xs ys → are_placed w (length xs) ss ≡ true → statements_in ys ss ≡ statements_in xs ss
+steps_same w xs ys [] grew is = refl
+steps_same w xs ys (s ∷ ss) grew is =
+    λ j. tree.statement (step_same w xs ys s grew (first_of _ _ is) j) (steps_same w xs ys ss grew (second_of _ _ is) j)
+
+pub statements_kept : (w : List ℕ → ℕ) (xs ys : List (List ℕ)) (ss : List Step) (are_of : tree.Statements) → Grew xs ys → AreStatements w xs ss are_of → AreStatements w ys ss are_of
+statements_kept w xs ys ss are_of grew is =
+    record { placed = steps_placed w _ _ ss (longer xs ys grew) is.placed; same = steps_same w xs ys ss grew is.placed ∙ is.same }
 
 -- a search through the names
 pub none_more : (x : List ℕ) (xs : List (List ℕ)) (i : ℕ) (y : List ℕ) → i < length xs → y ≡ name_at xs i → list_any (bytes_eq x) (take i xs) ≡ false → bytes_eq y x ≡ false
@@ -201,11 +211,11 @@ pub found_place : (x : List ℕ) (xs : List (List ℕ)) (i : ℕ) (y : List ℕ)
 found_place x xs i y less is same = record { placed = less; same = sym is ∙ (bytes_eq-Decides y x).0 same }
 
 -- an operation over its operands, the first of which was resolved over fewer names
-pub binary_is : (xs ys : List (List ℕ)) (op : BinaryOp) (l r : Box Node Global) (a b : Node) (e ea eb : tree.Expression) → Grew xs ys → IsExpression xs a ea → IsExpression ys b eb
-    → l.value ≡ a → r.value ≡ b → e ≡ tree.Binary op ea eb → IsExpression ys (views.Binary op l r) e
-binary_is xs ys op l r a b e ea eb grew first second is_a is_b is =
-    let kept : IsExpression ys a ea = expression_kept xs ys a ea grew first in
+pub binary_is : (w : List ℕ → ℕ) (xs ys : List (List ℕ)) (op : BinaryOp) (l r : Box Node Global) (a b : Node) (e ea eb : tree.Expression) → Grew xs ys → IsExpression w xs a ea → IsExpression w ys b eb
+    → l.value ≡ a → r.value ≡ b → e ≡ tree.Binary op ea eb → IsExpression w ys (views.Binary op l r) e
+binary_is w xs ys op l r a b e ea eb grew first second is_a is_b is =
+    let kept : IsExpression w ys a ea = expression_kept w xs ys a ea grew first in
     record {
-      placed = both _ _ (ap (is_placed (length ys)) is_a ∙ kept.placed) (ap (is_placed (length ys)) is_b ∙ second.placed);
+      placed = both _ _ (ap (is_placed w (length ys)) is_a ∙ kept.placed) (ap (is_placed w (length ys)) is_b ∙ second.placed);
       same = (λ i. tree.Binary op (expression_at ys (is_a i)) (expression_at ys (is_b i))) ∙ (λ i. tree.Binary op (kept.same i) (second.same i)) ∙ sym is;
     }

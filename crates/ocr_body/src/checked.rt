@@ -15,7 +15,8 @@ pub struct Checked {
 }
 
 impl Model for Checked {
-    ghost use Rattle.std.specs.Prelude.{◌≡◌, ◌<◌, ◌^◌, map, length, true};
+    ghost use Rattle.std.specs.Prelude.{◌≡◌, ◌<◌, ◌+◌, ◌^◌, map, length, true};
+    ghost use Rattle.ocr_body.specs.Serving.{numbers_in};
     ghost use Rattle.ocr_body.specs.Code.{bodies_in, are_sound};
     ghost use Rattle.ocr_body.specs.View.{tree_of};
     ghost use Rattle.std.specs.Coded.{codes};
@@ -29,22 +30,22 @@ impl Model for Checked {
 
     ghost view = { λ c. c.program };
 
-    ghost invariant = { λ c. (bodies_in c.code.items ≡ map (λ f. f.body) (tree_of c.program)) × (are_sound c.code.items ≡ true)
-        × (length (tree_of c.program) < 2 ^ 32) };
+    ghost invariant = { λ c. (bodies_in c.code.items ≡ map (λ f. f.body) (tree_of c.program)) × (are_sound (numbers_in (tree_of c.program)) c.code.items ≡ true)
+        × (length (tree_of c.program) + 1 < 2 ^ 32) };
 }
 
 impl Checked {
-    ghost use Rattle.std.specs.Prelude.{◌≡◌, ◌≤◌, ◌<◌, ◌^◌, length, true, IfOk};
+    ghost use Rattle.std.specs.Prelude.{◌≡◌, ◌≤◌, ◌<◌, ◌+◌, ◌^◌, length, true, IfOk};
     ghost use Rattle.ocr_body.specs.Built.{are_built};
     ghost use Rattle.ocr_body.specs.Checked.{checked_tree};
     ghost use Rattle.ocr_body.specs.Code.{body_in, is_sound};
-    ghost use Rattle.ocr_body.specs.Serving.{statements_at, number_of_main};
+    ghost use Rattle.ocr_body.specs.Serving.{statements_at, number_of_main, numbers_in};
     ghost use Rattle.ocr_body.specs.View.{tree_of};
 
     /// Takes a program whose calls are all built.
     pub fn new(alloc: Global, program: Program) -> Result<Self, NoMemory>
         requires built { are_built (tree_of program) ≡ true }
-        requires few { length (tree_of program) < 2 ^ 32 }
+        requires few { length (tree_of program) + 1 < 2 ^ 32 }
         ensures { IfOk result (λ checked. checked_tree checked ≡ tree_of program) }
     {
         let code = resolve(alloc, &program)?;
@@ -55,7 +56,7 @@ impl Checked {
     pub fn function(&self, function: u32) -> &FunctionCode
         requires { (0 < function) × (function ≤ length (checked_tree self.now)) }
         ensures body { body_in result.now ≡ statements_at (checked_tree self.now) function }
-        ensures sound { is_sound result.now ≡ true }
+        ensures sound { is_sound (numbers_in (checked_tree self.now)) result.now ≡ true }
     {
         &self.code[function as usize - 1]
     }
