@@ -1,6 +1,7 @@
 pub mod Blocks
 pub mod Codes
 pub mod Functions
+pub mod Laws
 pub mod Names
 pub mod Plain
 pub mod Rows

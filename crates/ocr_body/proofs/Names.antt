@@ -6,8 +6,7 @@ use Rattle.std.proofs.lemmas.List.Folds.{list_any-append, list_any_more}
 use Rattle.std.proofs.lemmas.Slice.Eq.{bytes_eq-Decides}
 use Rattle.ocr_body.specs.Tree as tree
 use Rattle.ocr_body.specs.Code.{are_distinct, name_at, is_placed, is_call_placed, is_step_placed, is_row_placed, are_placed, called, arguments_at, expression_at, statement_at, row_at, statements_in}
-use Rattle.ocr_body.specs.Resolved.{Grew, IsPlace, IsExpression, IsCall, IsStatement, AreStatements}
-use Rattle.ocr_body.specs.declared.tree.CallName.{CallName}
+use Rattle.ocr_body.specs.Resolved.{Grew, IsPlace, IsExpression, IsStatement, AreStatements}
 use Rattle.ocr_body.specs.declared.tree.BinaryOp.{BinaryOp}
 use Rattle.ocr_body.specs.declared.code.Invocation.TheViews as views
 use Rattle.ocr_body.specs.declared.code.Node.{Node}

@@ -1,5 +1,5 @@
 -- Code as the plain tree that it stands for.
-use Rattle.std.specs.Prelude.{ℕ, List, [], ◌∷◌, Bool, true, false, ◌&&◌, not, nat_lt, bytes_eq, map, length, slice_index_or}
+use Rattle.std.specs.Prelude.{ℕ, List, [], ◌∷◌, Bool, true, ◌&&◌, not, nat_lt, bytes_eq, map, length, slice_index_or}
 use Rattle.std.specs.List.{list_any}
 use Rattle.ocr_body.specs.Tree as tree
 use Rattle.ocr_body.specs.declared.tree.CallName.{CallName}

@@ -4,6 +4,7 @@ pub mod Checked
 pub mod Code
 pub mod Constant
 pub mod FirstForm
+pub mod Laws
 pub mod Local
 pub mod Meaning
 pub mod Resolved

@@ -1,5 +1,6 @@
 // A program that may be run.
 use crate::code::FunctionCode;
+use crate::numbers::number_named;
 use crate::resolver::resolve;
 use crate::tree::Program;
 use ocr_guid::NoMemory;
@@ -14,7 +15,7 @@ pub struct Checked {
 }
 
 impl Model for Checked {
-    ghost use Rattle.std.specs.Prelude.{◌≡◌, map, true};
+    ghost use Rattle.std.specs.Prelude.{◌≡◌, ◌<◌, ◌^◌, map, length, true};
     ghost use Rattle.ocr_body.specs.Code.{bodies_in, are_sound};
     ghost use Rattle.ocr_body.specs.View.{tree_of};
     ghost use Rattle.std.specs.Coded.{codes};
@@ -28,20 +29,22 @@ impl Model for Checked {
 
     ghost view = { λ c. c.program };
 
-    ghost invariant = { λ c. (bodies_in c.code.items ≡ map (λ f. f.body) (tree_of c.program)) × (are_sound c.code.items ≡ true) };
+    ghost invariant = { λ c. (bodies_in c.code.items ≡ map (λ f. f.body) (tree_of c.program)) × (are_sound c.code.items ≡ true)
+        × (length (tree_of c.program) < 2 ^ 32) };
 }
 
 impl Checked {
-    ghost use Rattle.std.specs.Prelude.{◌≡◌, ◌≤◌, ◌<◌, length, true, IfOk};
+    ghost use Rattle.std.specs.Prelude.{◌≡◌, ◌≤◌, ◌<◌, ◌^◌, length, true, IfOk};
     ghost use Rattle.ocr_body.specs.Built.{are_built};
     ghost use Rattle.ocr_body.specs.Checked.{checked_tree};
     ghost use Rattle.ocr_body.specs.Code.{body_in, is_sound};
-    ghost use Rattle.ocr_body.specs.Serving.{statements_at};
+    ghost use Rattle.ocr_body.specs.Serving.{statements_at, number_of_main};
     ghost use Rattle.ocr_body.specs.View.{tree_of};
 
     /// Takes a program whose calls are all built.
     pub fn new(alloc: Global, program: Program) -> Result<Self, NoMemory>
-        requires { are_built (tree_of program) ≡ true }
+        requires built { are_built (tree_of program) ≡ true }
+        requires few { length (tree_of program) < 2 ^ 32 }
         ensures { IfOk result (λ checked. checked_tree checked ≡ tree_of program) }
     {
         let code = resolve(alloc, &program)?;
@@ -55,5 +58,13 @@ impl Checked {
         ensures sound { is_sound result.now ≡ true }
     {
         &self.code[function as usize - 1]
+    }
+
+    /// The number of the function that the first EDT runs, `mainEdt`, from 1.
+    pub fn main_function(&self) -> u32
+        requires { number_of_main (checked_tree self.now) ≤ length (checked_tree self.now) }
+        ensures { result ≡ number_of_main (checked_tree self.now) }
+    {
+        number_named(&self.program.functions, b"mainEdt") as u32
     }
 }

@@ -2,17 +2,20 @@
 #![tactic(auto)]
 
 mod api;
+mod bodies;
 mod call;
 mod checked;
 mod code;
 mod first_form;
 mod local;
+mod numbers;
 mod operators;
 mod resolver;
 mod tree;
 mod walker;
 
 pub use api::Api;
+pub use bodies::body_laws;
 pub use call::{Answer, BodyStop, Call};
 pub use checked::Checked;
 pub use code::{FunctionCode, Invocation, Node, Step};

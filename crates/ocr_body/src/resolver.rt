@@ -103,7 +103,7 @@ fn expression(alloc: Global, expr: &Expr, names: &mut Vec<Name>) -> Result<Node,
 #[cycle(expression)]
 fn invocation(alloc: Global, made: &Invoke, names: &mut Vec<Name>) -> Result<Invocation, NoMemory>
     requires distinct { are_distinct names.old.items ≡ true }
-    requires name { is_call_built (name_of made.now) ≡ true }
+    requires call { is_call_built (name_of made.now) (arguments_of made.now) ≡ true }
     requires arguments { are_arguments_built (arguments_of made.now) ≡ true }
     ensures distinct { OnOk result (are_distinct names.new.items ≡ true) }
     ensures grew { OnOk result (Grew names.old.items names.new.items) }

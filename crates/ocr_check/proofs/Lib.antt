@@ -1,3 +1,4 @@
+pub mod Built
 pub mod Events
 pub mod First
 pub mod Judging

@@ -6,6 +6,7 @@ use Rattle.std.specs.Str.{bytes_eq}
 use Rattle.std.specs.List.{list_any}
 use Rattle.ocr_body.specs.Tree.{Expression, Arguments, Statement, Statements, FunctionTree}
 use Rattle.ocr_body.specs.Tree as tree
+use Rattle.ocr_body.specs.Built.{is_call_built}
 use Rattle.ocr_body.specs.declared.tree.CallName.{CallName}
 use Rattle.ocr_body.specs.declared.tree.CallName.TheVariants as name
 use Rattle.ocr_check.specs.declared.scope.ListKind.{ListKind}
@@ -144,24 +145,9 @@ is_declared zero x (BlockOpened ∷ past) = is_declared zero x past
 is_declared (suc left) x (BlockOpened ∷ past) = is_declared left x past
 is_declared left x (BlockClosed ∷ past) = is_declared (suc left) x past
 
--- whether a call with these arguments is built: one line a call
+-- whether a call with these arguments is built
 abbrev pub is_built : CallName → Arguments → Bool
-is_built name.DbCreate arguments = false
-is_built name.DbRelease arguments = false
-is_built name.DbDestroy arguments = false
-is_built name.EventCreate arguments = false
-is_built name.EventCreateParams arguments = false
-is_built name.EventDestroy arguments = false
-is_built name.Satisfy arguments = false
-is_built name.SatisfySlot arguments = false
-is_built name.AddDependence arguments = false
-is_built name.TemplateCreate arguments = false
-is_built name.TemplateDestroy arguments = false
-is_built name.EdtCreate arguments = false
-is_built name.Shutdown arguments = true
-is_built name.Abort arguments = true
-is_built name.Load arguments = false
-is_built name.Store arguments = false
+is_built call arguments = is_call_built call arguments
 
 -- the rule that an event breaks after the events of its function before it, newest first. `names` are the functions' names
 abbrev pub rule_broken : (names : List (List ℕ)) (past : List Event) → Event → Option ℕ

@@ -1,4 +1,3 @@
 pub mod Check
-pub mod Checked
 pub mod Checking
 pub mod Scope

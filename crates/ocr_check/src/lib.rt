@@ -3,7 +3,5 @@
 
 mod rules;
 mod scope;
-mod sound;
 
 pub use rules::{CheckFault, CheckStop, breach_law, check};
-pub use sound::Checked;

@@ -1,14 +1,15 @@
 // The rules that a task program keeps.
-ghost use Rattle.std.specs.Prelude.{◌≡◌, ◌<◌, ◌^◌, ℕ, List, length, IfOk, IfErr, OnOk};
-ghost use Rattle.ocr_check.specs.Check.{FailsNowhere, HasNamesake, BreaksNoRule, BreachLaw, is_among};
+ghost use Rattle.std.specs.Prelude.{◌≡◌, ◌<◌, ◌^◌, ℕ, true, List, length, IfOk, IfErr, OnOk};
+ghost use Rattle.ocr_check.specs.Check.{FailsNowhere, HasNamesake, BreaksNoRule, BreachLaw, is_among, main_name};
 ghost use Rattle.ocr_check.specs.Check.{names_of as names_in};
-ghost use Rattle.ocr_check.specs.Checked.{checked_tree};
 ghost use Rattle.ocr_check.specs.Scope.{knows, IsStopOf};
+ghost use Rattle.ocr_body.specs.Built.{are_built};
+ghost use Rattle.ocr_body.specs.Checked.{checked_tree};
 ghost use Rattle.ocr_body.specs.View.{functions_of, tree_of};
 
 use crate::scope::walk_function;
-use crate::sound::Checked;
-use ocr_body::{Function, Program};
+use ocr_body::{Checked, Function, Program};
+use ocr_guid::NoMemory;
 use std::alloc::{AllocFailed, Global};
 use std::collections::BTreeSet;
 
@@ -49,6 +50,16 @@ impl<T: Drop> From<AllocFailed<T>> for CheckStop {
     }
 }
 
+impl From<NoMemory> for CheckStop {
+    ghost use Rattle.ocr_check.specs.declared.rules.CheckStop.TheVariants.{NoMemory};
+
+    ghost from_gives = { λ _ stop. stop ≡ NoMemory };
+
+    fn from(_refused: NoMemory) -> Self {
+        CheckStop::NoMemory
+    }
+}
+
 // The names of the functions, no two of which are alike.
 fn names_of(alloc: Global, functions: &[Function]) -> Result<BTreeSet<&[u8]>, CheckStop>
     requires { length functions.now < 2 ^ 32 }
@@ -72,6 +83,8 @@ fn names_of(alloc: Global, functions: &[Function]) -> Result<BTreeSet<&[u8]>, Ch
 fn judge(alloc: Global, functions: &[Function]) -> Result<(), CheckStop>
     requires { length functions.now < 2 ^ 32 }
     ensures ok { OnOk result (BreaksNoRule (functions_of functions.now)) }
+    ensures built { OnOk result (are_built (functions_of functions.now) ≡ true) }
+    ensures main { OnOk result (is_among main_name (names_in (functions_of functions.now)) ≡ true) }
     ensures err { IfErr result (IsStopOf (functions_of functions.now)) }
 {
     let names = names_of(alloc, functions)?;
@@ -87,19 +100,21 @@ fn judge(alloc: Global, functions: &[Function]) -> Result<(), CheckStop>
     Ok(())
 }
 
-/// Takes a program that breaks no rule. Otherwise the fault is its first breach: two functions of one name are looked
+/// Makes a program ready to be run where it breaks no rule. Otherwise the fault is its first breach: two functions of one name are looked
 /// for first, then whether there is a `mainEdt`, and then each function is walked in the order of the text.
 /// `NoMemory` is also the answer to more functions than a fault can number, which is 2^32 or more.
 pub fn check(alloc: Global, program: Program) -> Result<Checked, CheckStop>
     ensures tree { IfOk result (λ checked. checked_tree checked ≡ tree_of program) }
     ensures ok { OnOk result (BreaksNoRule (tree_of program)) }
+    ensures built { OnOk result (are_built (tree_of program) ≡ true) }
+    ensures main { OnOk result (is_among main_name (names_in (tree_of program)) ≡ true) }
     ensures fault { IfErr result (IsStopOf (tree_of program)) }
 {
     if program.functions.len() > u32::MAX as usize {
         return Err(CheckStop::NoMemory);
     }
     judge(alloc, &program.functions)?;
-    Ok(Checked::new(program))
+    Ok(Checked::new(alloc, program)?)
 }
 
 /// A program has at most one first breach.

@@ -407,3 +407,6 @@ pub fn walk_function<'a>(
     let mut scope = Scope::new(alloc, names, number);
     scope.statements(&function.body)
 }
+
+#[cfg(test)]
+mod tests;

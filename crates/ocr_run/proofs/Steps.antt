@@ -1,26 +1,26 @@
 -- A run that goes on by one entry.
-use Rattle.std.proofs.Common.{◌≡◌, ◌⊎◌, inl, inr, ◌<◌, ◌≤◌, ◌*◌, ℕ, zero, suc, List, [], ◌∷◌, ◌++◌, Bool, true, false, ◌||◌, ◌&&◌, not, ◌==◌, refl, sym, ◌∙◌, ap, subst, arith}
+use Rattle.std.proofs.Common.{◌≡◌, ◌⊎◌, inl, inr, ◌<◌, ℕ, zero, suc, List, [], ◌∷◌, ◌++◌, Bool, true, false, ◌||◌, ◌&&◌, not, ◌==◌, refl, sym, ◌∙◌, ap, subst, arith}
 use Rattle.std.proofs.lemmas.List.{reverse-append}
 use Rattle.std.proofs.lemmas.Bool.{eqb-true}
 use Rattle.ocr_guid.specs.declared.Code.TheVariants.{Done}
 use Rattle.ocr_body.specs.Behaviour.{Behaviour, Ends, Stops, Asks, NotBuilt, IsNext}
 use Rattle.ocr_body.specs.Serving.{IsRefusal, refused_memory, StoppedBy, by_closing, by_memory, by_body, Rose}
 use Rattle.ocr_body.specs.declared.call.BodyStop.{BodyStop}
-use Rattle.ocr_body.specs.FirstForm.{IsPlain, IsPrint, count_of}
-use Rattle.ocr_body.specs.Serving.{statements_at, number_of_main}
+use Rattle.ocr_body.specs.Laws.{IsSaid, IsPrint, IsOfBuilt}
 use Rattle.ocr_body.specs.declared.call.Call as body
 use Rattle.ocr_body.specs.declared.call.Call.TheVariants as call
 use Rattle.ocr_body.specs.declared.call.BodyStop.TheVariants as stop
-use Rattle.ocr_body.proofs.Plain.{plain_law}
+use Rattle.ocr_body.proofs.Laws.{built_law}
 use Rattle.ocr_body.specs.Tree.{FunctionTree}
 use Rattle.ocr_machine.specs.declared.entry.Entry.{Entry}
 use Rattle.ocr_machine.specs.declared.entry.Entry.TheVariants.{Call, Deliver, Acquire, Wait, StaleAcquire, Start, Free, End, Stop}
 use Rattle.ocr_machine.specs.declared.entry.Stop.TheVariants as by
 use Rattle.ocr_machine.specs.History.{History, Setting, history_of, own}
 use Rattle.ocr_machine.specs.Edts.{is_started, is_ended, says_next, body_of}
-use Rattle.ocr_machine.specs.Output.{ending_of}
 use Rattle.ocr_machine.specs.Legal.{IsRun, IsLegal, IsQuiet, IsWaking, IsReady}
-use Rattle.ocr_run.specs.UnderWay.{setting_of, IsRunnable, IsOpenRun, IsUnderWay}
+use Rattle.ocr_run.specs.declared.ending.Ending.TheVariants as ending
+use Rattle.ocr_run.specs.Lines.{end_of, end_status}
+use Rattle.ocr_run.specs.UnderWay.{setting_of, stop_for, IsMet, shut_down, aborted, faulted, out_of_memory, IsRunnable, IsOpenRun, IsUnderWay}
 
 -- an entry at the end of a journal is the newest of its history
 pub history_more : (journal : List Entry) (e : Entry) (later : List Entry) → later ≡ journal ++ e ∷ [] → history_of later ≡ e ∷ history_of journal
@@ -67,21 +67,19 @@ print_under_way s past v under_way next = record {
   one_held = under_way.one_held;
 }
 
-next_print : (made : body.Call) (b : Behaviour) → IsNext made b → IsPlain b → IsPrint made
-next_print made (Ends g) next plain = absurd next
-next_print made (Stops s) next plain = absurd next
-next_print made (Asks asked more) next plain = subst IsPrint next plain.0
-next_print made NotBuilt next plain = absurd next
+next_print : (made : body.Call) (b : Behaviour) → IsNext made b → IsOfBuilt b → IsPrint made
+next_print made (Ends g) next built = absurd next
+next_print made (Stops s) next built = absurd next
+next_print made (Asks asked more) next built = subst IsPrint next built.0
+next_print made NotBuilt next built = absurd next
 
--- a body that is built prints, and then ends or shuts down
-pub next_plain : (program : List FunctionTree) (past : History) → IsRunnable program → IsPlain (says_next (setting_of program) past 2)
-next_plain program past runnable =
-    let enough : 2 * count_of (statements_at program (number_of_main program)) ≤ 1000000 = subst (λ (n : ℕ). 2 * count_of (statements_at program n) ≤ 1000000) (sym runnable.main) runnable.enough in
-    plain_law (body_of (setting_of program) past 2) (own past 2) runnable.built enough
+-- a body that is built prints, and then ends or stops for a cause of its own
+pub of_built : (program : List FunctionTree) (past : History) → IsRunnable program → IsOfBuilt (says_next (setting_of program) past 2)
+of_built program past runnable = built_law (body_of (setting_of program) past 2) (own past 2) runnable.built
 
 -- it asks for nothing but prints
 pub asks_print : (program : List FunctionTree) (past : History) (made : body.Call) → IsRunnable program → IsNext made (says_next (setting_of program) past 2) → IsPrint made
-asks_print program past made runnable next = next_print made (says_next (setting_of program) past 2) next (next_plain program past runnable)
+asks_print program past made runnable next = next_print made (says_next (setting_of program) past 2) next (of_built program past runnable)
 
 pub refused : (rose : Type 0) → IsRefusal rose stop.NoMemory
 refused rose = refused_memory
@@ -93,8 +91,29 @@ memory_run s past goes_on = (goes_on.run, record { open_run = goes_on.open_run; 
 pub open_of : (s : Setting) (past : History) → IsUnderWay s past → IsOpenRun s past
 open_of s past under_way = record { run = under_way.run; open_run = under_way.open_run }
 
-pub shutdown_run : (s : Setting) (past : History) → IsUnderWay s past → says_next s past 2 ≡ Stops stop.Shutdown → IsRun s (Stop (by.Shutdown 2) ∷ past)
-shutdown_run s past under_way says = (under_way.run, record { open_run = under_way.open_run; allowed = (under_way.running, says) })
+-- a stop that the body says
+pub said_run : (s : Setting) (past : History) (e : BodyStop) → IsSaid e → IsUnderWay s past → says_next s past 2 ≡ Stops e → IsRun s (Stop (stop_for e) ∷ past)
+said_run s past stop.Shutdown said under_way says = (under_way.run, record { open_run = under_way.open_run; allowed = (under_way.running, says) })
+said_run s past (stop.Abort code) said under_way says = (under_way.run, record { open_run = under_way.open_run; allowed = (under_way.running, says) })
+said_run s past stop.ZeroDivisor said under_way says = (under_way.run, record { open_run = under_way.open_run; allowed = (under_way.running, says) })
+said_run s past stop.BadIndex said under_way says = (under_way.run, record { open_run = under_way.open_run; allowed = (under_way.running, says) })
+said_run s past stop.Fuel said under_way says = (under_way.run, record { open_run = under_way.open_run; allowed = (under_way.running, says) })
+said_run s past stop.NotHeld said under_way says = absurd said
+said_run s past stop.NotWritable said under_way says = absurd said
+said_run s past stop.Closed said under_way says = absurd said
+said_run s past stop.NoMemory said under_way says = absurd said
+
+-- the status of such a stop
+pub met_stop : (e : BodyStop) → (e ≡ stop.NoMemory) ⊎ IsSaid e → IsMet (end_status (ending.Stopped (stop_for e)))
+met_stop stop.Shutdown may = shut_down
+met_stop (stop.Abort code) may = aborted
+met_stop stop.ZeroDivisor may = faulted
+met_stop stop.BadIndex may = faulted
+met_stop stop.Fuel may = faulted
+met_stop stop.NotHeld may = faulted
+met_stop stop.NotWritable may = faulted
+met_stop stop.Closed may = out_of_memory
+met_stop stop.NoMemory may = out_of_memory
 
 below_one : (e : ℕ) → e < 1 → (1 == e) ≡ false
 below_one zero less = refl
@@ -158,20 +177,20 @@ ended_quiet s past g under_way = record {
   asleep = awake s past g under_way;
 }
 
--- and its status is 0
-pub ended_status : (s : Setting) (past : History) (g : ℕ) → IsUnderWay s past → ending_of (End 2 g ∷ Free 2 1 [] ∷ past) ≡ 0
-ended_status s past g under_way = rw under_way.running.started refl
+-- and no EDT is left
+pub ended_end : (s : Setting) (past : History) (g : ℕ) → IsUnderWay s past → end_of (End 2 g ∷ Free 2 1 [] ∷ past) ≡ ending.Quiet 0
+ended_end s past g under_way = rw under_way.running.started refl
 
--- a body that is built stops by a shutdown or for want of memory, and by nothing else
-pub plain_stop : (now : Behaviour) (e : BodyStop) → IsPlain now → StoppedBy now (Rose 0 0) e → (e ≡ stop.NoMemory) ⊎ (e ≡ stop.Shutdown)
-plain_stop now e plain (by_closing rose) = absurd (omega (arith, rose))
-plain_stop now e plain by_memory = inl refl
-plain_stop now e plain (by_body s is) = inr (subst IsPlain is plain)
+-- a body that is built stops for want of memory, or as it says
+pub said_stop : (now : Behaviour) (e : BodyStop) → IsOfBuilt now → StoppedBy now (Rose 0 0) e → (e ≡ stop.NoMemory) ⊎ IsSaid e
+said_stop now e built (by_closing rose) = absurd (omega (arith, rose))
+said_stop now e built by_memory = inl refl
+said_stop now e built (by_body s is) = inr (subst IsOfBuilt is built)
 
-pub plain_shutdown : (now : Behaviour) (e : BodyStop) → IsPlain now → StoppedBy now (Rose 0 0) e → e ≡ stop.Shutdown → now ≡ Stops stop.Shutdown
-plain_shutdown now e plain (by_closing rose) shut = absurd (omega (arith, rose))
-plain_shutdown now e plain by_memory shut = cc shut
-plain_shutdown now e plain (by_body s is) shut = is ∙ ap Stops shut
+pub said_next : (now : Behaviour) (e : BodyStop) → StoppedBy now (Rose 0 0) e → IsSaid e → now ≡ Stops e
+said_next now e (by_closing rose) said = absurd (omega (arith, rose))
+said_next now e by_memory said = absurd said
+said_next now e (by_body s is) said = is
 
 -- a body that ends, and was refused memory on the way
 pub ending_open : (s : Setting) (past later : History) (g : ℕ) → IsUnderWay s past → says_next s past 2 ≡ Ends g → (later ≡ past) ⊎ (later ≡ Free 2 1 [] ∷ past) → IsOpenRun s later

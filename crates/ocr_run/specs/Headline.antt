@@ -1,6 +1,6 @@
 -- The headline: the bytes written are the output of the run's own journal, which is a run of the machine on the program
 -- that the bytes read are.
-use Rattle.std.specs.Prelude.{◌≡◌, ◌≢◌, ◌⊎◌, ◌<◌, ◌+◌, ℕ, List, [], ◌∷◌, length, take, Option, Some, None, codes}
+use Rattle.std.specs.Prelude.{◌≡◌, ◌≢◌, ◌⊎◌, ◌<◌, ◌+◌, ◌↔◌, ◌==◌, ◌||◌, ℕ, Bool, List, [], ◌∷◌, length, take, Option, Some, None, codes}
 use Rattle.std.specs.Io.KnownBytes.{Appends, Keeps}
 use Rattle.ocr_io.specs.Source.{Took}
 use Rattle.ocr_body.specs.Tree.{FunctionTree}
@@ -9,6 +9,8 @@ use Rattle.ocr_machine.specs.History.{history_of}
 use Rattle.ocr_machine.specs.Legal.{IsRun, IsQuiet}
 use Rattle.ocr_machine.specs.Laws.{StartsOnce, LeavesOpen}
 use Rattle.ocr_machine.specs.Output.{printed, ending_of}
+use Rattle.ocr_run.specs.declared.text.TextFault.{TextFault}
+use Rattle.ocr_run.specs.Lines.{ending_line, fault_line}
 use Rattle.ocr_run.specs.ProgramText.{IsProgramText, IsNoProgram, most_bytes}
 use Rattle.ocr_run.specs.UnderWay.{setting_of, IsFinished}
 
@@ -48,6 +50,21 @@ pub record IsHeadline (left_old left_new out_old out_new : Option (List ℕ)) (f
   pub read : IsAllOf left_old left_new bytes
   pub answered : IsAnswered bytes out_old out_new fault status journal
 
+-- the run whose journal is given came to this status
+abbrev pub CameTo : Option (List Entry) → ℕ → Type 0
+CameTo None n = ⊥
+CameTo (Some journal) n = ending_of (history_of journal) ≡ n
+
+-- the status is this exactly where the run came to it and no write failed
+abbrev pub IsStatusOf : Option (List Entry) → ℕ → ℕ → Type 0
+IsStatusOf journal status n = (status ≡ n) ↔ (CameTo journal n × (status ≢ 8))
+
+-- the statuses of runs come exactly from their ends: quiet or a shutdown, an abort, a fault in a body
+pub record IsCaused (journal : Option (List Entry)) (status : ℕ) : Type 0 where
+  pub ended : IsStatusOf journal status 0
+  pub aborted : IsStatusOf journal status 5
+  pub faulted : IsStatusOf journal status 6
+
 -- the one word that is taken
 abbrev pub AreRun : List (List ℕ) → Type 0
 AreRun words = words ≡ codes "run" ∷ []
@@ -56,21 +73,26 @@ AreRun words = words ≡ codes "run" ∷ []
 abbrev pub IsTooBig : Option (List ℕ) → Option (List ℕ) → ℕ → ℕ → Type 0
 IsTooBig left_old left_new given_old given_new = Took left_old left_new given_old given_new (most_bytes + 1)
 
--- all bytes were read, and are no program
-pub record IsNotBuilt (left_old left_new : Option (List ℕ)) : Type 0 where
+-- all bytes were read, and this is the first thing that is wrong with them
+pub record IsNotBuilt (left_old left_new : Option (List ℕ)) (found : TextFault) : Type 0 where
   pub bytes : List ℕ
   pub read : IsAllOf left_old left_new bytes
-  pub no_program : IsNoProgram bytes
+  pub no_program : IsNoProgram bytes found
+
+-- bytes are refused: they are too many, or no program
+abbrev pub IsRefusedText : List ℕ → Type 0
+IsRefusedText bytes = (most_bytes < length bytes) ⊎ ((found : TextFault) × IsNoProgram bytes found)
 
 -- the line that goes with a status
-pub data IsLine (too_big not_built : Type 0) : ℕ → List ℕ → Type 0 where
-  no_line : IsLine too_big not_built 0 []
-  words_refused : IsLine too_big not_built 2 (codes "words refused\n")
-  text_too_big : too_big → IsLine too_big not_built 3 (codes "text too big\n")
-  text_not_built : not_built → IsLine too_big not_built 3 (codes "text not built\n")
-  read_fault : IsLine too_big not_built 7 (codes "read fault\n")
-  write_fault : IsLine too_big not_built 8 (codes "write fault\n")
-  want_of_memory : IsLine too_big not_built 9 (codes "want of memory\n")
+pub data IsLine (too_big : Type 0) (not_built : TextFault → Type 0) (journal : Option (List Entry)) : ℕ → List ℕ → Type 0 where
+  of_run : (entries : List Entry) (status : ℕ) → journal ≡ Some entries → ending_of (history_of entries) ≡ status
+      → IsLine too_big not_built journal status (ending_line (history_of entries))
+  words_refused : IsLine too_big not_built journal 2 (codes "words refused\n")
+  text_too_big : too_big → IsLine too_big not_built journal 3 (codes "text too big\n")
+  text_refused : (found : TextFault) → not_built found → IsLine too_big not_built journal 3 (fault_line found)
+  read_fault : IsLine too_big not_built journal 7 (codes "read fault\n")
+  write_fault : IsLine too_big not_built journal 8 (codes "write fault\n")
+  want_of_memory : IsLine too_big not_built journal 9 (codes "want of memory\n")
 
 -- a line was written: whole, or a front of it where a write failed
 pub record IsTold (old new : Option (List ℕ)) (fault : Type 0) (line : List ℕ) : Type 0 where
@@ -83,6 +105,12 @@ pub data IsStatus : ℕ → Type 0 where
   ran : IsStatus 0
   refused : IsStatus 2
   no_program : IsStatus 3
+  aborted : IsStatus 5
+  faulted : IsStatus 6
   read_failed : IsStatus 7
   write_failed : IsStatus 8
   out_of_memory : IsStatus 9
+
+-- the statuses without a run
+abbrev pub is_unrun : ℕ → Bool
+is_unrun n = (n == 2) || ((n == 3) || ((n == 7) || (n == 9)))

@@ -1,4 +1,4 @@
 pub mod Headline
+pub mod Lines
 pub mod ProgramText
 pub mod UnderWay
-pub mod Words

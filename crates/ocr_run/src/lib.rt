@@ -2,11 +2,14 @@
 #![tactic(auto)]
 
 mod desk;
+mod ending;
 mod execute;
+mod lines;
 mod log;
 mod output;
-mod reader;
+mod text;
 mod top;
 mod worker;
 
+pub use text::{TextFault, text_laws};
 pub use top::{Ended, ocr_main};

@@ -1,12 +1,18 @@
 // The top call.
-ghost use Rattle.std.specs.Prelude.{◌≡◌, ◌≢◌, ◌⊎◌, ◌↔◌, ◌+◌, ◌<◌, ◌≤◌, ◌^◌, [], ◌∷◌, IfSome, IfNone, IsSome, IsNone, IfOk, OnErr, IsTrue, map, length, string_bytes, codes, List, ℕ, Option, Some};
+ghost use Rattle.std.specs.Prelude.{◌≡◌, ◌≢◌, ◌⊎◌, ◌↔◌, ◌+◌, ◌<◌, ◌≤◌, ◌^◌, [], ◌∷◌, true, IfSome, IfNone, IsSome, IsNone, IfOk, OnErr, IsTrue, map, length, string_bytes, codes, List, ℕ, Option, Some};
 ghost use Rattle.std.specs.Io.KnownBytes.{Keeps};
 ghost use Rattle.ocr_io.specs.Counts.{Rose};
-ghost use Rattle.ocr_run.specs.ProgramText.{IsNoProgram, most_bytes};
-ghost use Rattle.ocr_run.specs.Headline.{IsHeadline, IsExecuted, IsAnswered, IsWritten, AreRun, IsTooBig, IsNotBuilt, IsLine, IsTold, IsStatus};
+ghost use Rattle.ocr_body.specs.Tree.{FunctionTree};
+ghost use Rattle.ocr_machine.specs.History.{history_of};
+ghost use Rattle.ocr_machine.specs.Output.{ending_of};
+ghost use Rattle.ocr_run.specs.Lines.{ending_line};
+ghost use Rattle.ocr_run.specs.ProgramText.{IsProgramText, IsNoProgram, most_bytes};
+ghost use Rattle.ocr_run.specs.UnderWay.{IsMet};
+ghost use Rattle.ocr_run.specs.Headline.{IsHeadline, IsExecuted, IsAnswered, IsWritten, IsCaused, CameTo, AreRun, IsTooBig, IsNotBuilt, IsRefusedText, IsLine, IsTold, IsStatus, is_unrun};
 
 use crate::execute::{Executed, execute};
-use ocr_guid::NoMemory;
+use crate::lines::line_of_fault;
+use crate::text::{TextFault, TextStop};
 use ocr_io::{ReadStop, Sink, Source, read_all, write_all};
 use ocr_machine::Journal;
 use std::alloc::Global;
@@ -39,8 +45,12 @@ fn tell<E: Sink>(err: &mut E, line: &[u8])
 }
 
 // The end without a run.
+#[tactic(auto, using(crate::proofs::Told::unrun_caused, crate::proofs::Told::unrun_status))]
 fn refuse<E: Sink>(err: &mut E, status: u8, line: &[u8]) -> Ended
+    requires { is_unrun status ≡ true }
     ensures status { result.status ≡ status }
+    ensures known { IsStatus result.status }
+    ensures caused { IsCaused result.journal result.status }
     ensures journal { IsNone result.journal }
     ensures told { IsTold (E.taken err.old) (E.taken err.new) (Rose (E.failures err.old) (E.failures err.new)) line.now }
 {
@@ -51,31 +61,48 @@ fn refuse<E: Sink>(err: &mut E, status: u8, line: &[u8]) -> Ended
     }
 }
 
-// Writes what a run printed.
-#[tactic(auto, using(crate::proofs::Told::keeps_same, crate::proofs::Told::zero_status, crate::proofs::Told::status_at))]
+// The end of bytes that are no program.
+fn refuse_text<E: Sink>(alloc: Global, err: &mut E, found: TextFault) -> Ended
+    ensures status { (result.status ≡ 3) ⊎ (result.status ≡ 9) }
+    ensures known { IsStatus result.status }
+    ensures caused { IsCaused result.journal result.status }
+    ensures journal { IsNone result.journal }
+    ensures told { (line : List ℕ) × (IsTold (E.taken err.old) (E.taken err.new) (Rose (E.failures err.old) (E.failures err.new)) line
+        × IsLine ⊥ (λ other. other ≡ found) result.journal result.status line) }
+{
+    match line_of_fault(alloc, found) {
+        Ok(line) => refuse(err, 3, &line),
+        Err(_) => refuse(err, 9, b"want of memory\n"),
+    }
+}
+
+// Writes what a run printed, and its line.
 fn finish<O: Sink, E: Sink>(executed: Executed, out: &mut O, err: &mut E) -> Ended
-    requires { (executed.status ≡ 0) ⊎ (executed.status ≡ 9) }
+    requires met { IsMet executed.status }
+    requires ending { ending_of (history_of executed.journal) ≡ executed.status }
+    requires line { executed.line.items ≡ ending_line (history_of executed.journal) }
     ensures journal { result.journal ≡ Some executed.journal }
     ensures written { IsWritten (O.taken out.old) (O.taken out.new) (Rose (O.failures out.old) (O.failures out.new))
         executed.text.items executed.status result.status }
     ensures told { (line : List ℕ) × (IsTold (E.taken err.old) (E.taken err.new) (Rose (E.failures err.old) (E.failures err.new)) line
-        × IsLine ⊥ ⊥ result.status line) }
+        × IsLine ⊥ (λ found. ⊥) result.journal result.status line) }
     ensures status { IsStatus result.status }
-    ensures write_fault { result.status ≡ 8 → Rose (O.failures out.old) (O.failures out.new) }
-    ensures memory { result.status ≡ 9 → Keeps (O.taken out.old) (O.taken out.new) }
 {
     if executed.status == 9 {
-        tell(err, b"want of memory\n");
+        tell(err, &executed.line);
         return Ended {
             status: 9,
             journal: Some(executed.journal),
         };
     }
     match write_all(out, &executed.text) {
-        Ok(()) => Ended {
-            status: executed.status,
-            journal: Some(executed.journal),
-        },
+        Ok(()) => {
+            tell(err, &executed.line);
+            Ended {
+                status: executed.status,
+                journal: Some(executed.journal),
+            }
+        }
         Err(_) => {
             tell(err, b"write fault\n");
             Ended {
@@ -93,26 +120,29 @@ fn answer<O: Sink, E: Sink>(alloc: Global, bytes: &[u8], out: &mut O, err: &mut 
     ensures accepted { (result.status ≢ 2) × (result.status ≢ 7) }
     ensures ran { IfSome result.journal (IsAnswered bytes.now (O.taken out.old) (O.taken out.new)
         (Rose (O.failures out.old) (O.failures out.new)) result.status) }
-    ensures given { (result.status ≡ 0) ⊎ (result.status ≡ 8) → IsSome result.journal }
-    ensures no_program { result.status ≡ 3 → IsNone result.journal × IsNoProgram bytes.now }
-    ensures silent { IfNone result.journal (Keeps (O.taken out.old) (O.taken out.new)) }
+    ensures unrun { IfNone result.journal (((result.status ≡ 3) ⊎ (result.status ≡ 9)) × Keeps (O.taken out.old) (O.taken out.new)) }
+    ensures caused { IsCaused result.journal result.status }
+    ensures no_program { result.status ≡ 3 → IsNone result.journal × ((found : TextFault) × IsNoProgram bytes.now found) }
+    ensures complete { (program : List FunctionTree) → IsProgramText bytes.now program
+        → (Rose (O.failures out.old) (O.failures out.new) → ⊥) → (result.status ≡ 9) ⊎ CameTo result.journal result.status }
+    ensures refused { (found : TextFault) → IsNoProgram bytes.now found → (result.status ≡ 3) ⊎ (result.status ≡ 9) }
     ensures told { (line : List ℕ) × (IsTold (E.taken err.old) (E.taken err.new) (Rose (E.failures err.old) (E.failures err.new)) line
-        × IsLine ⊥ (IsNoProgram bytes.now) result.status line) }
+        × IsLine ⊥ (IsNoProgram bytes.now) result.journal result.status line) }
     ensures write_fault { result.status ≡ 8 → Rose (O.failures out.old) (O.failures out.new) }
     ensures memory { result.status ≡ 9 → Keeps (O.taken out.old) (O.taken out.new) }
 {
     match execute(alloc, bytes) {
-        Ok(Some(executed)) => finish(executed, out, err),
-        Ok(None) => refuse(err, 3, b"text not built\n"),
-        Err(NoMemory) => refuse(err, 9, b"want of memory\n"),
+        Ok(executed) => finish(executed, out, err),
+        Err(TextStop::Fault(found)) => refuse_text(alloc, err, found),
+        Err(TextStop::NoMemory) => refuse(err, 9, b"want of memory\n"),
     }
 }
 
 /// The program: looks at the words, reads the input, runs the task program that it is, and writes what it prints.
 ///
 /// The one word that is taken is `run`. The status is that of docs/SPECIFICATION.md, "The program", and the line that
-/// goes with it is written to `err`. The journal is given with each of the statuses 0 and 8, may be given with 9, and is
-/// not given with 2, 3 and 7.
+/// goes with it is written to `err`. The journal is given with each of the statuses 0, 5, 6 and 8, may be given with 9,
+/// and is not given with 2, 3 and 7.
 pub fn ocr_main<S: Source, O: Sink, E: Sink>(
     alloc: Global,
     words: &[String],
@@ -124,24 +154,35 @@ pub fn ocr_main<S: Source, O: Sink, E: Sink>(
     // bytes written are the journal's output.
     ensures headline { IfSome result.journal (IsHeadline (S.left input.old) (S.left input.new) (O.taken out.old) (O.taken out.new)
         (Rose (O.failures out.old) (O.failures out.new)) result.status) }
-    ensures given { (result.status ≡ 0) ⊎ (result.status ≡ 8) → IsSome result.journal }
+    ensures given { (result.status ≡ 0) ⊎ (result.status ≡ 5) ⊎ (result.status ≡ 6) ⊎ (result.status ≡ 8) → IsSome result.journal }
     ensures silent { IfNone result.journal (Keeps (O.taken out.old) (O.taken out.new)) }
 
     // Each status has its cause.
     ensures status { IsStatus result.status }
+    ensures caused { IsCaused result.journal result.status }
     ensures words { (result.status ≡ 2) ↔ (AreRun (map (λ w. string_bytes w) words.now) → ⊥) }
     ensures untouched { result.status ≡ 2 → input.new ≡ input.old }
     ensures no_program { result.status ≡ 3 → IsNone result.journal
         × (IsTooBig (S.left input.old) (S.left input.new) (S.given input.old) (S.given input.new)
-        ⊎ IsNotBuilt (S.left input.old) (S.left input.new)) }
+        ⊎ ((found : TextFault) × IsNotBuilt (S.left input.old) (S.left input.new) found)) }
     ensures too_big { S.given input.old + (most_bytes + 1) < 2 ^ 64
         → S.given input.new ≡ S.given input.old + (most_bytes + 1) → result.status ≡ 3 }
     ensures read_fault { result.status ≡ 7 → IsNone result.journal × Rose (S.failures input.old) (S.failures input.new) }
     ensures write_fault { result.status ≡ 8 → Rose (O.failures out.old) (O.failures out.new) }
     ensures memory { result.status ≡ 9 → Keeps (O.taken out.old) (O.taken out.new) }
+
+    // Where no read and no write failed, a program is run to its end, and other bytes are refused, but for want of memory.
+    ensures complete { (bytes : List ℕ) (program : List FunctionTree) → AreRun (map (λ w. string_bytes w) words.now)
+        → S.left input.old ≡ Some bytes → IsProgramText bytes program
+        → (Rose (S.failures input.old) (S.failures input.new) → ⊥) → (Rose (O.failures out.old) (O.failures out.new) → ⊥)
+        → (result.status ≡ 9) ⊎ CameTo result.journal result.status }
+    ensures refused { (bytes : List ℕ) → AreRun (map (λ w. string_bytes w) words.now)
+        → S.left input.old ≡ Some bytes → IsRefusedText bytes
+        → (Rose (S.failures input.old) (S.failures input.new) → ⊥) → (result.status ≡ 3) ⊎ (result.status ≡ 9) }
+
     ensures told { (line : List ℕ) × (IsTold (E.taken err.old) (E.taken err.new) (Rose (E.failures err.old) (E.failures err.new)) line
         × IsLine (IsTooBig (S.left input.old) (S.left input.new) (S.given input.old) (S.given input.new))
-        (IsNotBuilt (S.left input.old) (S.left input.new)) result.status line) }
+        (IsNotBuilt (S.left input.old) (S.left input.new)) result.journal result.status line) }
 {
     if !are_run(words) {
         return refuse(err, 2, b"words refused\n");

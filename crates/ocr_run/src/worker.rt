@@ -1,38 +1,39 @@
 // The one worker.
 ghost use Rattle.std.specs.Prelude.{true, ◌≡◌, ◌⊎◌, ◌++◌, ◌∷◌, [], OnOk, OnErr, IfOk};
-ghost use Rattle.ocr_body.specs.Behaviour.{Ends, Stops};
+ghost use Rattle.ocr_body.specs.Behaviour.{Stops};
 ghost use Rattle.ocr_body.specs.Checked.{checked_tree};
+ghost use Rattle.ocr_body.specs.Laws.{IsSaid};
 ghost use Rattle.ocr_machine.specs.History.{history_of, own, is_stopped, Setting};
 ghost use Rattle.ocr_machine.specs.Edts.{says_next};
 ghost use Rattle.ocr_machine.specs.Legal.{IsRun};
-ghost use Rattle.ocr_machine.specs.Output.{ending_of};
-ghost use Rattle.ocr_run.specs.UnderWay.{setting_of, IsRunnable, IsOpenRun, IsUnderWay, IsFinished};
+ghost use Rattle.ocr_run.specs.Lines.{end_of, end_status};
+ghost use Rattle.ocr_run.specs.UnderWay.{setting_of, stop_for, IsMet, IsRunnable, IsOpenRun, IsUnderWay, IsFinished};
 
 use crate::desk::{ARGUMENTS, Desk, MAIN_EDT};
+use crate::ending::Ending;
 use crate::log::Log;
 use ocr_body::{BodyStop, Checked, walk};
 use ocr_guid::{Guid, NoMemory};
-use ocr_machine::{Entry, Journal, Stop, Writes};
+use ocr_machine::{Entry, Fault, Journal, Stop, Writes};
 use std::alloc::Global;
 
 const FUEL: u64 = 1_000_000;
 
-/// A run that came to its end: its journal, and the status that it gives.
+/// A run that came to its end: its journal, and how it ended.
 #[derive(Drop)]
 pub struct Done {
     pub journal: Journal,
-    pub status: u8,
+    pub ending: Ending,
 }
 
 #[tactic(auto, using(crate::proofs::Steps::history_more, crate::proofs::Steps::opened_under_way))]
-/// Runs a program, whose first function is `mainEdt`, with one worker. Where memory is refused in the run, the
-/// journal ends with the Stop Memory.
+/// Runs a program with one worker. Where memory is refused in the run, the journal ends with the Stop Memory.
 pub fn run(alloc: Global, program: &Checked) -> Result<Done, NoMemory>
     requires { IsRunnable (checked_tree program.now) }
     ensures run { IfOk result (λ done. IsRun (setting_of (checked_tree program.now)) (history_of done.journal)) }
     ensures finished { IfOk result (λ done. IsFinished (setting_of (checked_tree program.now)) (history_of done.journal)) }
-    ensures status { IfOk result (λ done. done.status ≡ ending_of (history_of done.journal)) }
-    ensures small { IfOk result (λ done. (done.status ≡ 0) ⊎ (done.status ≡ 9)) }
+    ensures ending { IfOk result (λ done. done.ending ≡ end_of (history_of done.journal)) }
+    ensures met { IfOk result (λ done. IsMet (end_status done.ending)) }
 {
     let mut log = Log::new(alloc)?;
     if let Err(NoMemory) = begin(&mut log) {
@@ -43,7 +44,8 @@ pub fn run(alloc: Global, program: &Checked) -> Result<Done, NoMemory>
         program,
         log,
     };
-    let ending = walk(alloc, program, 1, &[], &[ARGUMENTS], FUEL, &mut desk);
+    let main = program.main_function();
+    let ending = walk(alloc, program, main, &[], &[ARGUMENTS], FUEL, &mut desk);
     let Desk {
         alloc: _,
         program: _,
@@ -56,41 +58,58 @@ pub fn run(alloc: Global, program: &Checked) -> Result<Done, NoMemory>
             }
             Ok(Done {
                 journal: log.finished(),
-                status: 0,
+                ending: Ending::Quiet(0),
             })
         }
         Err(stop) => Ok(stopped(log, stop)),
     }
 }
 
-// The run ends by a Stop.
-#[tactic(auto, using(crate::proofs::Steps::history_more, crate::proofs::Steps::memory_run, crate::proofs::Steps::shutdown_run, crate::proofs::Steps::open_of))]
-fn stopped(log: Log, stop: BodyStop) -> Done
-    requires { (stop ≡ BodyStop.NoMemory) ⊎ (stop ≡ BodyStop.Shutdown) }
-    ensures memory { (s : Setting) → stop ≡ BodyStop.NoMemory → IsOpenRun s (history_of log.entries.items)
-        → IsRun s (history_of result.journal) }
-    ensures shutdown { (s : Setting) → stop ≡ BodyStop.Shutdown → IsUnderWay s (history_of log.entries.items)
-        → says_next s (history_of log.entries.items) 2 ≡ Stops BodyStop.Shutdown → IsRun s (history_of result.journal) }
-    ensures stopped { is_stopped (history_of result.journal) ≡ true }
-    ensures status { result.status ≡ ending_of (history_of result.journal) }
-    ensures small { (result.status ≡ 0) ⊎ (result.status ≡ 9) }
+fn fault(fault: Fault) -> Stop
+    ensures { result ≡ Stop.Fault 2 fault }
+{
+    Stop::Fault {
+        edt: MAIN_EDT,
+        fault,
+    }
+}
+
+// The stop of a run whose first EDT's body stopped so.
+fn stop_of(stop: BodyStop) -> Stop
+    requires { (stop ≡ BodyStop.NoMemory) ⊎ IsSaid stop }
+    ensures { result ≡ stop_for stop }
 {
     match stop {
-        BodyStop::NoMemory => Done {
-            journal: log.stopped(Stop::Memory),
-            status: 9,
+        BodyStop::Shutdown => Stop::Shutdown { edt: MAIN_EDT },
+        BodyStop::Abort(code) => Stop::Abort {
+            edt: MAIN_EDT,
+            code,
         },
-        BodyStop::Shutdown => Done {
-            journal: log.stopped(Stop::Shutdown { edt: MAIN_EDT }),
-            status: 0,
-        },
-        BodyStop::Abort(_) => unreachable!(),
-        BodyStop::ZeroDivisor => unreachable!(),
-        BodyStop::BadIndex => unreachable!(),
+        BodyStop::ZeroDivisor => fault(Fault::ZeroDivisor),
+        BodyStop::BadIndex => fault(Fault::BadIndex),
+        BodyStop::Fuel => fault(Fault::Fuel),
+        BodyStop::NoMemory => Stop::Memory,
         BodyStop::NotHeld => unreachable!(),
         BodyStop::NotWritable => unreachable!(),
-        BodyStop::Fuel => unreachable!(),
         BodyStop::Closed => unreachable!(),
+    }
+}
+
+// The run ends by a Stop.
+#[tactic(auto, using(crate::proofs::Steps::history_more, crate::proofs::Steps::memory_run, crate::proofs::Steps::said_run, crate::proofs::Steps::met_stop))]
+fn stopped(log: Log, stop: BodyStop) -> Done
+    requires { (stop ≡ BodyStop.NoMemory) ⊎ IsSaid stop }
+    ensures memory { (s : Setting) → stop ≡ BodyStop.NoMemory → IsOpenRun s (history_of log.entries.items)
+        → IsRun s (history_of result.journal) }
+    ensures said { (s : Setting) → IsSaid stop → IsUnderWay s (history_of log.entries.items)
+        → says_next s (history_of log.entries.items) 2 ≡ Stops stop → IsRun s (history_of result.journal) }
+    ensures stopped { is_stopped (history_of result.journal) ≡ true }
+    ensures ending { result.ending ≡ end_of (history_of result.journal) }
+    ensures met { IsMet (end_status result.ending) }
+{
+    Done {
+        journal: log.stopped(stop_of(stop)),
+        ending: Ending::Stopped(stop_of(stop)),
     }
 }
 

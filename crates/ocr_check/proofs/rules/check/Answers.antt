@@ -1,11 +1,22 @@
-use Rattle.std.proofs.Common.{List, subst}
-use Rattle.ocr_check.specs.Check.{BreaksNoRule}
+use Rattle.std.proofs.Common.{◌≡◌, ◌^◌, true, List, subst, arith}
+use Rattle.ocr_check.specs.Check.{BreaksNoRule, is_among, main_name, names_of}
+use Rattle.ocr_body.specs.Built.{are_built}
 use Rattle.ocr_body.specs.View.{functions_of}
 use Rattle.ocr_body.specs.declared.tree.Function.{Function}
+use Rattle.ocr_check.proofs.Programs.{few_functions}
 use Rattle.ocr_check.proofs.rules.check.Goals as goal
 
-pub new-requires : goal.new-requires
-new-requires c = subst (λ (fs : List Function). BreaksNoRule (functions_of fs)) c.deref.ensures.value c.in_ok-judge.ensures.ok
+pub new-requires-clause-built : goal.new-requires-clause-built
+new-requires-clause-built c = subst (λ (fs : List Function). are_built (functions_of fs) ≡ true) c.deref.ensures.value c.in_ok-judge.ensures.built
+
+pub new-requires-clause-few : goal.new-requires-clause-few
+new-requires-clause-few c = few_functions c.args.program (2 ^ 32) (omega (arith, c.if-len.false, c.len.ensures))
 
 pub returns-clause-ok : goal.returns-clause-ok
 returns-clause-ok c = subst (λ (fs : List Function). BreaksNoRule (functions_of fs)) c.deref.ensures.value c.in_ok-judge.ensures.ok
+
+pub returns-clause-built : goal.returns-clause-built
+returns-clause-built c = subst (λ (fs : List Function). are_built (functions_of fs) ≡ true) c.deref.ensures.value c.in_ok-judge.ensures.built
+
+pub returns-clause-main : goal.returns-clause-main
+returns-clause-main c = subst (λ (fs : List Function). is_among main_name (names_of (functions_of fs)) ≡ true) c.deref.ensures.value c.in_ok-judge.ensures.main

@@ -1,10 +1,13 @@
-use Rattle.std.proofs.Common.{◌≡◌, ◌∙◌, ℕ, List, take, true, false, refl, sym, ap}
+use Rattle.std.proofs.Common.{◌≡◌, ◌≤◌, ◌∙◌, ℕ, List, length, take, true, false, refl, sym, ap, subst, arith}
+use Rattle.std.proofs.lemmas.List.{take_all}
 use Rattle.std.proofs.lemmas.Result.{err_from_is_err_and}
-use Rattle.ocr_check.specs.Check.{BreaksSome, is_among, main_name, names_of, no_main}
+use Rattle.ocr_check.specs.Check.{BreaksSome, FailsNowhere, is_among, main_name, names_of, no_main}
 use Rattle.ocr_check.specs.Scope.{knows}
 use Rattle.ocr_body.specs.View.{function_of, functions_of}
+use Rattle.ocr_body.specs.declared.tree.Function.{Function}
+use Rattle.ocr_check.proofs.Built.{keeps_built}
 use Rattle.ocr_check.proofs.First.{FailsNowhere-nil}
-use Rattle.ocr_check.proofs.Programs.{none_more, no_breach, function_sound, walk_stops}
+use Rattle.ocr_check.proofs.Programs.{none_more, function_sound, walk_stops}
 use Rattle.ocr_check.proofs.rules.judge.Goals as goal
 
 pub returns-then-not-contains-clause-err : goal.returns-then-not-contains-clause-err
@@ -29,3 +32,14 @@ pub loop-i-preserved : goal.loop-i-preserved
 loop-i-preserved c =
     none_more (BreaksSome (names_of (functions_of c.args.functions.now))) c.args.functions.now c.loop-i.i c.index-functions-i.result c.loop-i-test.true c.index-functions-i.is c.loop-i.invariant
     (λ b. function_sound (λ x. knows c.in_ok-names.names x) (names_of (functions_of c.args.functions.now)) c.in_ok-names.ensures.names (functions_of (take c.loop-i.i c.args.functions.now)) (function_of c.index-functions-i.result) c.in_ok-walk_function.ensures.ok b)
+
+pub returns-clause-built : goal.returns-clause-built
+returns-clause-built c =
+    let fs : List Function = c.args.functions.now in
+    let outside : length fs ≤ c.loop-i.i = omega (arith, c.loop-i-test.false) in
+    keeps_built (names_of (functions_of fs)) (functions_of fs)
+    (subst (λ (gs : List Function). FailsNowhere (BreaksSome (names_of (functions_of fs))) (functions_of gs)) (take_all c.loop-i.i fs outside) c.loop-i.invariant)
+
+pub returns-clause-main : goal.returns-clause-main
+returns-clause-main c =
+    sym (c.in_ok-names.ensures.names main_name) ∙ ap (λ (x : List ℕ). knows c.in_ok-names.names x) (sym c.as_slice.ensures) ∙ sym c.contains.ensures ∙ c.if-not-contains.false

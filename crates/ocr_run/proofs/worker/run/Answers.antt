@@ -1,10 +1,11 @@
-use Rattle.std.proofs.Common.{inl, inr, refl, subst}
+use Rattle.std.proofs.Common.{◌<◌, ◌≤◌, ℕ, length, inl, inr, refl, sym, subst}
 use Rattle.ocr_body.specs.Checked.{checked_tree}
 use Rattle.ocr_body.specs.declared.checked.Checked.{Checked}
 use Rattle.ocr_machine.specs.History.{history_of}
 use Rattle.ocr_machine.specs.Edts.{says_next}
-use Rattle.ocr_run.specs.UnderWay.{setting_of, IsUnderWay}
-use Rattle.ocr_run.proofs.Steps.{next_plain, plain_stop, plain_shutdown, ending_open, open_of}
+use Rattle.ocr_run.specs.UnderWay.{setting_of, IsUnderWay, shut_down}
+use Rattle.ocr_run.proofs.Mains.{some_main}
+use Rattle.ocr_run.proofs.Steps.{of_built, said_stop, said_next, ending_open, open_of}
 use Rattle.ocr_run.proofs.worker.run.Goals as goal
 
 pub returns-in-Err-clause-run : goal.returns-in-Err-clause-run
@@ -23,7 +24,7 @@ returns-in-Err-end-clause-run c =
 
 pub stopped-requires-in-Err-ending : goal.stopped-requires-in-Err-ending
 stopped-requires-in-Err-ending c =
-    plain_stop _ c.in-Err-ending.stop (next_plain (checked_tree c.args.program.now) (history_of c.walk-ending.new.api.log.entries.items) c.requires) c.in-Err-ending.ensures.err
+    said_stop _ c.in-Err-ending.stop (of_built (checked_tree c.args.program.now) (history_of c.walk-ending.new.api.log.entries.items) c.requires) c.in-Err-ending.ensures.err
 
 pub returns-in-Err-ending-clause-run : goal.returns-in-Err-ending-clause-run
 returns-in-Err-ending-clause-run c =
@@ -31,8 +32,16 @@ returns-in-Err-ending-clause-run c =
     let past = history_of c.walk-ending.new.api.log.entries.items in
     let under_way : IsUnderWay s past =
     subst (λ (p : Checked). IsUnderWay (setting_of (checked_tree p)) past) c.in-Err-ending.ensures.kept c.in-Err-ending.ensures.ready.1 in
-    let plain = next_plain (checked_tree c.args.program.now) past c.requires in
-    elim (plain_stop (says_next s past 2) c.in-Err-ending.stop plain c.in-Err-ending.ensures.err) [
+    let built = of_built (checked_tree c.args.program.now) past c.requires in
+    elim (said_stop (says_next s past 2) c.in-Err-ending.stop built c.in-Err-ending.ensures.err) [
       | inl memory ↦ c.stopped-in-Err-ending.ensures.memory s memory (open_of s past under_way)
-      | inr shut ↦ c.stopped-in-Err-ending.ensures.shutdown s shut under_way (plain_shutdown (says_next s past 2) c.in-Err-ending.stop plain c.in-Err-ending.ensures.err shut)
+      | inr said ↦ c.stopped-in-Err-ending.ensures.said s said under_way (said_next (says_next s past 2) c.in-Err-ending.stop c.in-Err-ending.ensures.err said)
     ]
+
+pub walk-ending-requires-clause-exists : goal.walk-ending-requires-clause-exists
+walk-ending-requires-clause-exists c =
+    let program = checked_tree c.args.program.now in
+    (subst (λ (n : ℕ). 0 < n) (sym c.main_function-main.ensures) (some_main program), subst (λ (n : ℕ). n ≤ length program) (sym c.main_function-main.ensures) c.requires.has_main)
+
+pub returns-in_default-end-clause-met : goal.returns-in_default-end-clause-met
+returns-in_default-end-clause-met c = shut_down

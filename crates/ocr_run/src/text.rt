@@ -1,0 +1,84 @@
+// The program that a task text is.
+ghost use Rattle.std.specs.Prelude.{◌≡◌, ◌≤◌, IfOk, IfErr, length};
+ghost use Rattle.ocr_text.specs.Tokens.{AreTokens};
+ghost use Rattle.ocr_body.specs.View.{tree_of};
+ghost use Rattle.ocr_body.specs.Checked.{checked_tree};
+ghost use Rattle.ocr_grammar.specs.Lexing.{IsTreeOf};
+ghost use Rattle.ocr_run.specs.UnderWay.{IsRunnable};
+ghost use Rattle.ocr_run.specs.ProgramText.{IsProgramText, IsTextStop, TextLaw, most_bytes};
+
+use ocr_body::{Checked, Program};
+use ocr_check::{CheckFault, CheckStop, check};
+use ocr_program::{ParseStop, SyntaxFault, parse};
+use ocr_text::{LexFault, Token, TokensStop, tokens};
+use std::alloc::Global;
+
+/// The first thing that is wrong with a text that is no program (docs/SPECIFICATION.md, "The program").
+#[derive(Clone, Copy, PartialEq, Eq, Debug)]
+pub enum TextFault {
+    /// No token begins at this place, or a number that is no `u64`.
+    Lexical(usize),
+    /// No program goes on after the token at this place, or the text ends there too early.
+    Syntax(usize),
+    /// The program breaks a rule.
+    Breach(CheckFault),
+}
+
+/// Why a text gave no program.
+#[derive(Clone, Copy, PartialEq, Eq, Debug)]
+pub enum TextStop {
+    /// It is none.
+    Fault(TextFault),
+    /// Memory was refused.
+    NoMemory,
+}
+
+fn cut(alloc: Global, bytes: &[u8]) -> Result<Vec<Token>, TextStop>
+    ensures tokens { IfOk result (λ found. AreTokens bytes.now found.items) }
+    ensures stop { IfErr result (IsTextStop bytes.now) }
+{
+    match tokens(alloc, bytes) {
+        Ok(found) => Ok(found),
+        Err(TokensStop::Fault(LexFault { place })) => {
+            Err(TextStop::Fault(TextFault::Lexical(place)))
+        }
+        Err(TokensStop::NoMemory) => Err(TextStop::NoMemory),
+    }
+}
+
+fn read(alloc: Global, bytes: &[u8], tokens: &[Token]) -> Result<Program, TextStop>
+    requires { AreTokens bytes.now tokens.now }
+    ensures tree { IfOk result (λ p. IsTreeOf bytes.now tokens.now (tree_of p)) }
+    ensures stop { IfErr result (IsTextStop bytes.now) }
+{
+    match parse(alloc, bytes, tokens) {
+        Ok(program) => Ok(program),
+        Err(ParseStop::Fault(SyntaxFault { place })) => {
+            Err(TextStop::Fault(TextFault::Syntax(place)))
+        }
+        Err(ParseStop::NoMemory) => Err(TextStop::NoMemory),
+    }
+}
+
+/// The program that these bytes are, ready to be run; or the first thing that is wrong with them.
+#[tactic(auto, using(crate::proofs::Mains::main_within))]
+pub fn program_of(alloc: Global, bytes: &[u8]) -> Result<Checked, TextStop>
+    requires { length bytes.now ≤ most_bytes }
+    ensures runnable { IfOk result (λ checked. IsRunnable (checked_tree checked)) }
+    ensures program { IfOk result (λ checked. IsProgramText bytes.now (checked_tree checked)) }
+    ensures stop { IfErr result (IsTextStop bytes.now) }
+{
+    let tokens = cut(alloc, bytes)?;
+    let program = read(alloc, bytes, &tokens)?;
+    match check(alloc, program) {
+        Ok(checked) => Ok(checked),
+        Err(CheckStop::Fault(fault)) => Err(TextStop::Fault(TextFault::Breach(fault))),
+        Err(CheckStop::NoMemory) => Err(TextStop::NoMemory),
+    }
+}
+
+/// The laws of texts: one is at most one program, has at most one fault, and never both.
+#[tactic(auto, using(crate::proofs::Texts::text_law))]
+pub fn text_laws()
+    ensures { TextLaw }
+{}

@@ -1,0 +1,330 @@
+// Programs, from the bytes in to the bytes out.
+ghost use Rattle.std.specs.Prelude.{◌<◌};
+
+use ocr_io::{MemorySink, MemorySource};
+use ocr_run::{Ended, ocr_main};
+use std::alloc::Global;
+use std::test::Fail;
+
+const FIRST: &[u8] = b"fn mainEdt { print 42; ocrShutdown(); }";
+
+// What a call came to, and what it wrote.
+#[derive(Drop)]
+struct Outcome {
+    ended: Ended,
+    out: MemorySink,
+    err: MemorySink,
+}
+
+// How the source and the sink for the output behave.
+#[derive(Clone, Copy)]
+struct Faults<'a> {
+    reads: &'a [u64],
+    read_most: usize,
+    writes: &'a [u64],
+    write_most: usize,
+}
+
+const NO_FAULTS: Faults<'static> = Faults {
+    reads: &[],
+    read_most: 4096,
+    writes: &[],
+    write_most: 1000,
+};
+
+fn words(alloc: Global, texts: &[&str]) -> Result<Vec<String>, Fail> {
+    let mut words = Vec::new(alloc);
+    for text in texts {
+        words.push(text.to_string(alloc)?)?;
+    }
+    Ok(words)
+}
+
+fn outcome_of(
+    alloc: Global,
+    texts: &[&str],
+    input: Vec<u8>,
+    room: usize,
+    faults: Faults,
+) -> Result<Outcome, Fail> {
+    let words = words(alloc, texts)?;
+    let read_most = faults.read_most.max(1);
+    let mut source = MemorySource::new(input, read_most, faults.reads.to_vec(alloc)?);
+    let write_most = faults.write_most.max(1);
+    let mut out = MemorySink::new(
+        Vec::with_capacity(alloc, room)?,
+        write_most,
+        faults.writes.to_vec(alloc)?,
+    );
+    let mut err = MemorySink::new(Vec::with_capacity(alloc, 100)?, 100, Vec::new(alloc));
+    let ended = ocr_main(alloc, &words, &mut source, &mut out, &mut err);
+    Ok(Outcome { ended, out, err })
+}
+
+fn run(alloc: Global, text: &[u8], faults: Faults) -> Result<Outcome, Fail> {
+    outcome_of(alloc, &["run"], text.to_vec(alloc)?, 1000, faults)
+}
+
+#[test]
+fn first_program_prints_42(rt: HostRuntime) -> Result<(), Fail> {
+    let done = run(rt.alloc(), FIRST, NO_FAULTS)?;
+    assert_eq!(rt; done.ended.status, 0);
+    assert_eq!(rt; done.out.bytes(), b"42\n".as_slice());
+    assert_eq!(rt; done.err.bytes(), b"".as_slice());
+    let journal = done.ended.journal.ok_or("a journal")?;
+    assert_eq!(rt; journal.entries().len(), 4);
+    Ok(())
+}
+
+#[test]
+fn runs_have_their_statuses_and_lines(rt: HostRuntime) -> Result<(), Fail> {
+    let rows: [(&[u8], u8, &[u8], &[u8]); 10] = [
+        (b"fn mainEdt { }", 0, b"", b""),
+        (
+            b"fn\tmainEdt\r\n{print 007;print 18446744073709551615 ;ocrShutdown ( ) ;print 3;}#",
+            0,
+            b"7\n18446744073709551615\n",
+            b"",
+        ),
+        (
+            b"fn mainEdt { let i = 0; while i < 124999 { i = i + 1; } print 7; }",
+            0,
+            b"7\n",
+            b"",
+        ),
+        (
+            b"fn mainEdt { let i = 0; while i < 124999 { i = i + 1; } print 7; print 7; }",
+            6,
+            b"7\n",
+            b"fault in edt 2: fuel\n",
+        ),
+        (
+            b"fn mainEdt { print 1 / 0; }",
+            6,
+            b"",
+            b"fault in edt 2: zero divisor\n",
+        ),
+        (
+            b"fn mainEdt { print 1; print 1 % 0; }",
+            6,
+            b"1\n",
+            b"fault in edt 2: zero divisor\n",
+        ),
+        (
+            b"fn mainEdt { print paramv[0]; }",
+            6,
+            b"",
+            b"fault in edt 2: bad index\n",
+        ),
+        (
+            b"fn mainEdt { print depv[0]; print depv[1]; }",
+            6,
+            b"1\n",
+            b"fault in edt 2: bad index\n",
+        ),
+        (
+            b"fn mainEdt { ocrAbort(9); print 1; }",
+            5,
+            b"",
+            b"aborted: 9\n",
+        ),
+        (
+            b"fn other { print 1; } fn mainEdt { if paramc { print 2; } else { print 3; } return 5; print 4; }",
+            0,
+            b"3\n",
+            b"",
+        ),
+    ];
+    for (text, status, out, err) in rows {
+        let done = run(rt.alloc(), text, NO_FAULTS)?;
+        assert_eq!(rt; done.ended.status, status);
+        assert_eq!(rt; done.out.bytes(), out);
+        assert_eq!(rt; done.err.bytes(), err);
+        assert!(rt; done.ended.journal.is_some());
+    }
+    Ok(())
+}
+
+// Each expression beside its value.
+const SUMS: &[u8] = b"fn mainEdt {
+  print 18446744073709551615 + 1; print 0 - 1; print 18446744073709551615 * 18446744073709551615;
+  print 18446744073709551615 / 2; print 18446744073709551615 % 10; print 0 % 1;
+  print 1 << 63; print 1 << 64; print 3 << 63; print 18446744073709551615 >> 63; print 7 >> 64;
+  print -1; print -0; print ~0; print !0; print !7; print -9223372036854775808;
+}";
+
+const SUMS_OUT: &[u8] = b"0
+18446744073709551615
+1
+9223372036854775807
+5
+0
+9223372036854775808
+1
+9223372036854775808
+1
+7
+18446744073709551615
+0
+18446744073709551615
+1
+0
+9223372036854775808
+";
+
+const TESTS: &[u8] = b"fn mainEdt {
+  print 0 < 18446744073709551615; print 18446744073709551615 < 0; print 5 <= 5; print 5 > 5; print 5 >= 6;
+  print 4 == 4; print 4 != 4; print 12 & 10; print 12 | 10; print 12 ^ 10;
+  print 1 + 2 * 3; print (1 + 2) * 3; print 10 - 3 - 2; print 1 << 2 + 1; print 1 | 2 ^ 3 & 1; print 1 < 2 == 1;
+  print UNINITIALIZED_GUID; print EDT_PARAM_DEF; print paramc; print depc; print code; print NULL_GUID;
+}";
+
+const TESTS_OUT: &[u8] = b"1
+0
+1
+0
+0
+1
+0
+8
+14
+6
+7
+9
+5
+8
+3
+1
+18446744073709551615
+4294967294
+0
+1
+0
+0
+";
+
+#[test]
+fn operators_have_their_values_at_the_edges(rt: HostRuntime) -> Result<(), Fail> {
+    for (text, out) in [(SUMS, SUMS_OUT), (TESTS, TESTS_OUT)] {
+        let done = run(rt.alloc(), text, NO_FAULTS)?;
+        assert_eq!(rt; done.ended.status, 0);
+        assert_eq!(rt; done.out.bytes(), out);
+    }
+    Ok(())
+}
+
+#[test]
+fn other_words_are_refused(rt: HostRuntime) -> Result<(), Fail> {
+    let alloc = rt.alloc();
+    let none = outcome_of(alloc, &[], FIRST.to_vec(alloc)?, 1000, NO_FAULTS)?;
+    let twice = outcome_of(
+        alloc,
+        &["run", "run"],
+        FIRST.to_vec(alloc)?,
+        1000,
+        NO_FAULTS,
+    )?;
+    let other = outcome_of(alloc, &["Run"], FIRST.to_vec(alloc)?, 1000, NO_FAULTS)?;
+    for done in [none, twice, other] {
+        assert_eq!(rt; done.ended.status, 2);
+        assert_eq!(rt; done.out.bytes(), b"".as_slice());
+        assert_eq!(rt; done.err.bytes(), b"words refused\n".as_slice());
+    }
+    Ok(())
+}
+
+#[test]
+fn one_byte_too_many_is_told(rt: HostRuntime) -> Result<(), Fail> {
+    let alloc = rt.alloc();
+    let blanks = vec![in alloc; b' '; 1_048_577]?;
+    let done = outcome_of(alloc, &["run"], blanks, 1000, NO_FAULTS)?;
+    assert_eq!(rt; done.ended.status, 3);
+    assert_eq!(rt; done.err.bytes(), b"text too big\n".as_slice());
+    Ok(())
+}
+
+#[test]
+fn texts_that_are_no_program_are_told(rt: HostRuntime) -> Result<(), Fail> {
+    let rows: [(&[u8], &[u8]); 8] = [
+        (b"", b"check fault: rule 2 in function 0\n"),
+        (b"fn mainEdt { $ }", b"lex fault at 13\n"),
+        (
+            b"fn mainEdt { print 18446744073709551616; }",
+            b"lex fault at 19\n",
+        ),
+        (b"fn mainEdt { print ; }", b"syntax fault at 19\n"),
+        (b"fn mainEdt { print 1", b"syntax fault at 20\n"),
+        (
+            b"fn mainEdt { } fn mainEdt { }",
+            b"check fault: rule 1 in function 2\n",
+        ),
+        (
+            b"fn mainEdt { print x; }",
+            b"check fault: rule 4 in function 1\n",
+        ),
+        (
+            b"fn mainEdt { ocrDbCreate(8, 0); }",
+            b"check fault: rule 8 in function 1\n",
+        ),
+    ];
+    for (text, err) in rows {
+        let done = run(rt.alloc(), text, NO_FAULTS)?;
+        assert_eq!(rt; done.ended.status, 3);
+        assert_eq!(rt; done.out.bytes(), b"".as_slice());
+        assert_eq!(rt; done.err.bytes(), err);
+        assert!(rt; done.ended.journal.is_none());
+    }
+    Ok(())
+}
+
+#[test]
+fn read_that_fails_is_told(rt: HostRuntime) -> Result<(), Fail> {
+    for call in 0..41u64 {
+        let faults = Faults {
+            reads: &[call],
+            read_most: 1,
+            ..NO_FAULTS
+        };
+        let done = run(rt.alloc(), FIRST, faults)?;
+        if call < 40 {
+            assert_eq!(rt; done.ended.status, 7);
+            assert_eq!(rt; done.out.bytes(), b"".as_slice());
+            assert_eq!(rt; done.err.bytes(), b"read fault\n".as_slice());
+        } else {
+            assert_eq!(rt; done.ended.status, 0);
+        }
+    }
+    Ok(())
+}
+
+#[test]
+fn failed_write_leaves_a_front_of_the_output(rt: HostRuntime) -> Result<(), Fail> {
+    for count in 0..3usize {
+        let faults = Faults {
+            write_most: 1,
+            writes: &[count as u64],
+            ..NO_FAULTS
+        };
+        let done = run(rt.alloc(), FIRST, faults)?;
+        assert_eq!(rt; done.ended.status, 8);
+        assert_eq!(rt; done.out.bytes(), &b"42\n"[..count]);
+        assert_eq!(rt; done.err.bytes(), b"write fault\n".as_slice());
+    }
+    Ok(())
+}
+
+#[test]
+fn largest_body_runs_to_its_end(rt: HostRuntime) -> Result<(), Fail> {
+    let alloc = rt.alloc();
+    let mut text = b"fn mainEdt{".to_vec(alloc)?;
+    for _ in 0..131_070 {
+        text.extend_from_slice(b"print 1;")?;
+    }
+    text.push(b'}')?;
+    let done = outcome_of(alloc, &["run"], text, 300_000, NO_FAULTS)?;
+    assert_eq!(rt; done.ended.status, 0);
+    assert_eq!(rt; done.out.bytes().len(), 262_140);
+    let journal = done.ended.journal.ok_or("a journal")?;
+    assert_eq!(rt; journal.entries().len(), 131_074);
+    Ok(())
+}
