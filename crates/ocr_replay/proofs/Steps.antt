@@ -7,7 +7,8 @@ use Rattle.ocr_body.specs.Behaviour.{Behaviour, Ends, Stops, Asks, NotBuilt, IsN
 use Rattle.ocr_machine.specs.Legal.{faulted}
 use Rattle.ocr_machine.specs.declared.entry.Fault.{Fault}
 use Rattle.ocr_machine.specs.declared.entry.Fault.TheVariants as fault
-use Rattle.ocr_body.specs.Serving.{Body, says}
+use Rattle.ocr_body.specs.Tree.{FunctionTree, nothing}
+use Rattle.ocr_body.specs.Serving.{Body, says, statements_at}
 use Rattle.ocr_body.specs.declared.call.Call as body
 use Rattle.ocr_body.specs.declared.call.Answer.{Answer}
 use Rattle.ocr_machine.specs.declared.entry.Entry.{Entry}
@@ -19,7 +20,7 @@ use Rattle.ocr_body.specs.declared.call.BodyStop.{BodyStop}
 use Rattle.ocr_body.specs.declared.call.BodyStop.TheVariants as stop
 use Rattle.ocr_replay.specs.declared.judging.Ending.{Ending}
 use Rattle.ocr_replay.specs.declared.judging.Ending.TheVariants as ending
-use Rattle.ocr_replay.specs.Judging.{ended_as, Whether, runs, IsIdle, IsSaidIn, IsWrong, IsStuck, IsSaidNow, IsUnsaid, at_place, IsJudging}
+use Rattle.ocr_replay.specs.Judging.{ended_as, Whether, runs, IsIdle, IsSaidIn, IsWrong, IsStuck, IsSaidNow, IsUnsaid, at_place, body_with, IsJudging}
 
 pub same_item : (xs : List Entry) (i : ℕ) (p q : Entry) → i < length xs → p ≡ slice_index_or xs i p → q ≡ slice_index_or xs i q → p ≡ q
 same_item xs i p q below first second = grind (arith, common_steps)
@@ -272,3 +273,36 @@ some_map P Q (Some x) p f = f x p
 pub none_map : {A : Type 0} (P Q : Type 0) (o : Option A) → IfNone o P → (P → Q) → IfNone o Q
 none_map P Q None p f = f p
 none_map P Q (Some x) p f = tt
+
+-- entries that are said in two stretches
+pub said_both : (b : Body) (t : ℕ) (xs : List Entry) (start from to : ℕ) → IsSaidIn b t xs start from → IsSaidIn b t xs from to → IsSaidIn b t xs start to
+said_both b t xs start from to first second = λ m lower upper e is run. elim (below_or_equal m from) as (λ _. IsSaidNow (at_place b t xs m) e) [
+  | inl early ↦ first m lower early e is run
+  | inr late ↦ second m late upper e is run
+]
+
+-- the verdict on a body that ended
+pub ended_verdict : (b : Body) (t : ℕ) (xs : List Entry) (start place : ℕ) (r : Option ℕ) → start ≤ place → IsSaidIn b t xs start place
+    → IfSome r (λ at. (place ≤ at) × (at < length xs) × IsSaidIn b t xs place at × IsUnsaid b t xs at) → IfNone r (IsSaidIn b t xs place (length xs))
+    → IfSome r (λ at. IsWrong b t xs start at) × IfNone r (IsSaidIn b t xs start (length xs))
+ended_verdict b t xs start place None after said some rest = (tt, said_both b t xs start place (length xs) said rest)
+ended_verdict b t xs start place (Some at) after said some rest =
+    (record { after = omega (arith, some.0); within = some.1; said = said_both b t xs start place at said some.2; unsaid = some.3 }, tt)
+
+-- the verdict on a body that was left at an entry that it does not make
+pub stuck_verdict : (b : Body) (t : ℕ) (xs : List Entry) (start place : ℕ) (r : Option ℕ) → start ≤ place → IsSaidIn b t xs start place → IsStuck b t xs place
+    → IfSome r (λ at. (place ≤ at) × (at < length xs) × IsIdle t xs place at × ((e : Entry) → e ≡ slice_index_or xs at e → runs t e ≡ true)) → IfNone r (IsIdle t xs place (length xs))
+    → IfSome r (λ at. IsWrong b t xs start at) × IfNone r (IsSaidIn b t xs start (length xs))
+stuck_verdict b t xs start place None after said stuck some idle = (tt, right_all b t xs start place said idle)
+stuck_verdict b t xs start place (Some at) after said stuck some idle = (wrong_next b t xs start place at after said some.0 some.1 some.2 some.3 stuck, tt)
+
+-- a function that is not there does nothing
+pub nothing_at : (fs : List FunctionTree) (n : ℕ) → (n ≡ 0) ⊎ (length fs < n) → statements_at fs n ≡ nothing
+nothing_at [] n none = refl
+nothing_at (f ∷ rest) zero none = refl
+nothing_at (f ∷ rest) (suc zero) none = elim none as (λ _. f.body ≡ nothing) [ inl is ↦ absurd (omega (arith, is)) | inr more ↦ absurd (omega (arith, more)) ]
+nothing_at (f ∷ rest) (suc (suc n)) none = nothing_at rest (suc n) (elim none as (λ _. (suc n ≡ 0) ⊎ (length rest < suc n)) [ inl is ↦ absurd (omega (arith, is)) | inr more ↦ inr (omega (arith, more)) ])
+
+pub ends_at_once : (fs : List FunctionTree) (n : ℕ) (params depv : List ℕ) (t : ℕ) (xs : List Entry) (start : ℕ) → (n ≡ 0) ⊎ (length fs < n) → own (history_of (take start xs)) t ≡ []
+    → at_place (body_with fs n params depv) t xs start ≡ Ends 0
+ends_at_once fs n params depv t xs start none fresh = rw (fresh, nothing_at fs n none) refl

@@ -319,12 +319,12 @@ fn is_fault(stop: BodyStop, fault: Fault) -> bool
 }
 
 /// Whether a body that ended like this makes this entry.
-fn makes(ending: Ending, entry: &Entry) -> bool
-    ensures { Whether result (IsSaidNow (ended_as ending) entry.now) }
+fn makes(ending: &Ending, entry: &Entry) -> bool
+    ensures { Whether result (IsSaidNow (ended_as ending.now) entry.now) }
 {
     match ending {
         Ending::Ended(guid) => match entry {
-            Entry::End { edt: _, returned } => *returned == guid,
+            Entry::End { edt: _, returned } => *returned == *guid,
             Entry::Call {
                 edt: _,
                 home: _,
@@ -354,20 +354,20 @@ fn makes(ending: Ending, entry: &Entry) -> bool
                 answer: _,
                 writes: _,
             } => false,
-            Entry::Stop(Stop::Shutdown { edt: _ }) => is_shutdown(stop),
-            Entry::Stop(Stop::Abort { edt: _, code }) => is_abort(stop, *code),
-            Entry::Stop(Stop::Fault { edt: _, fault }) => is_fault(stop, *fault),
+            Entry::Stop(Stop::Shutdown { edt: _ }) => is_shutdown(*stop),
+            Entry::Stop(Stop::Abort { edt: _, code }) => is_abort(*stop, *code),
+            Entry::Stop(Stop::Fault { edt: _, fault }) => is_fault(*stop, *fault),
             _ => true,
         },
     }
 }
 
 /// The first place of an entry that a body that ended does not make.
-fn unsaid_after(entries: &[Entry], edt: Guid, from: usize, ending: Ending) -> Option<usize>
+fn unsaid_after(entries: &[Entry], edt: Guid, from: usize, ending: &Ending) -> Option<usize>
     requires { from ≤ length entries.now }
-    ensures some { (b : Body) → at_place b edt entries.now from ≡ ended_as ending
+    ensures some { (b : Body) → at_place b edt entries.now from ≡ ended_as ending.now
         → IfSome result (λ at. (from ≤ at) × (at < length entries.now) × IsSaidIn b edt entries.now from at × IsUnsaid b edt entries.now at) }
-    ensures none { (b : Body) → at_place b edt entries.now from ≡ ended_as ending → IfNone result (IsSaidIn b edt entries.now from (length entries.now)) }
+    ensures none { (b : Body) → at_place b edt entries.now from ≡ ended_as ending.now → IfNone result (IsSaidIn b edt entries.now from (length entries.now)) }
 {
     for i in from..entries.len() {
         let entry = &entries[i];
@@ -399,7 +399,7 @@ pub fn first_unsaid(
         (IsSaidIn (body_with (checked_tree program.now) function params.now deps.now) edt entries.now start (length entries.now))) }
 {
     if function == 0 || function as usize > program.count() {
-        return Ok(unsaid_after(entries, edt, start, Ending::Ended(Guid::NULL)));
+        return Ok(unsaid_after(entries, edt, start, &Ending::Ended(Guid::NULL)));
     }
     let mut judge = Judge {
         program,
@@ -425,9 +425,11 @@ pub fn first_unsaid(
         refusals: _,
     } = judge;
     match ending {
-        Ok(returned) => Ok(unsaid_after(entries, edt, place, Ending::Ended(returned))),
-        Err(BodyStop::NoMemory) => Err(NoMemory),
-        Err(BodyStop::Closed) => Ok(next_own(entries, edt, place)),
-        Err(stop) => Ok(unsaid_after(entries, edt, place, Ending::Stopped(stop))),
+        Ok(returned) => Ok(unsaid_after(entries, edt, place, &Ending::Ended(returned))),
+        Err(stop) => match stop {
+            BodyStop::NoMemory => Err(NoMemory),
+            BodyStop::Closed => Ok(next_own(entries, edt, place)),
+            _ => Ok(unsaid_after(entries, edt, place, &Ending::Stopped(stop))),
+        },
     }
 }
