@@ -61,6 +61,13 @@ impl Checked {
         &self.code[function as usize - 1]
     }
 
+    /// How many functions there are.
+    pub fn count(&self) -> usize
+        ensures { result ≡ length (checked_tree self.now) }
+    {
+        self.program.functions.len()
+    }
+
     /// The number of the function that the first EDT runs, `mainEdt`, from 1.
     pub fn main_function(&self) -> u32
         requires { number_of_main (checked_tree self.now) ≤ length (checked_tree self.now) }
