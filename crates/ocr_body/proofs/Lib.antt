@@ -12,3 +12,4 @@ pub mod Stopped
 pub mod Turns
 pub mod Variables
 pub mod Weight
+pub mod Words
