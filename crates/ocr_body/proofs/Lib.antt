@@ -1,4 +1,5 @@
 pub mod Blocks
+pub mod Coded
 pub mod Codes
 pub mod Creations
 pub mod Functions

@@ -41,6 +41,7 @@ impl Checked {
     ghost use Rattle.ocr_body.specs.Code.{body_in, is_sound};
     ghost use Rattle.ocr_body.specs.Serving.{statements_at, number_of_main, numbers_in};
     ghost use Rattle.ocr_body.specs.View.{tree_of};
+    ghost use Rattle.ocr_body.specs.Words.{is_program_of_words};
 
     /// Takes a program whose calls are all built.
     pub fn new(alloc: Global, program: Program) -> Result<Self, NoMemory>
@@ -59,6 +60,13 @@ impl Checked {
         ensures sound { is_sound (numbers_in (checked_tree self.now)) result.now ≡ true }
     {
         &self.code[function as usize - 1]
+    }
+
+    /// The numbers in a program that may be run have 64 bits.
+    pub fn words_law(&self)
+        ensures { is_program_of_words (checked_tree self.now) ≡ true }
+    {
+        let _code = self.code.as_slice();
     }
 
     /// The number of the function that the first EDT runs, `mainEdt`, from 1.
