@@ -1,5 +1,5 @@
 -- What all bodies do whose calls are built, and how much a body can do.
-use Rattle.std.proofs.Common.{◌≡◌, ◌≤◌, ◌<◌, ◌+◌, ◌&&◌, ◌++◌, bytes_eq, ap, sym, ◌∙◌, length-append, ◌/◌, ◌%◌, ◌==◌, ℕ, zero, suc, List, [], ◌∷◌, Bool, true, false, if◌then◌else◌, length, nat_lt, refl, arith}
+use Rattle.std.proofs.Common.{◌≡◌, ◌≤◌, ◌<◌, ◌+◌, ◌&&◌, bytes_eq, ap, sym, ◌∙◌, length-append, ◌/◌, ◌%◌, ◌==◌, ℕ, zero, suc, List, [], ◌∷◌, Bool, true, false, if◌then◌else◌, length, nat_lt, refl, arith}
 use Rattle.std.specs.Prelude.{slice_index, slice_index_or}
 use Rattle.ocr_body.specs.Behaviour.{Behaviour, Ends, Stops, Asks, NotBuilt, Asked, after, answered, IsNext}
 use Rattle.ocr_body.specs.Built.{is_call_built, is_plain_creation}

@@ -1,4 +1,5 @@
 pub mod Blocks
+pub mod Coded
 pub mod Codes
 pub mod Creations
 pub mod Functions
@@ -12,3 +13,4 @@ pub mod Stopped
 pub mod Turns
 pub mod Variables
 pub mod Weight
+pub mod Words

@@ -1,5 +1,5 @@
 -- Code as the plain tree that it stands for.
-use Rattle.std.specs.Prelude.{ℕ, List, [], ◌∷◌, Bool, true, ◌&&◌, not, nat_lt, ◌==◌, bytes_eq, map, length, slice_index_or}
+use Rattle.std.specs.Prelude.{ℕ, List, [], ◌∷◌, Bool, true, ◌&&◌, not, nat_lt, ◌==◌, ◌^◌, bytes_eq, map, length, slice_index_or}
 use Rattle.std.specs.List.{list_any}
 use Rattle.ocr_body.specs.Tree as tree
 use Rattle.ocr_body.specs.declared.tree.CallName.{CallName}
@@ -77,10 +77,10 @@ is_numbered numbers made.EdtCreate = true
 is_numbered numbers made.Shutdown = true
 is_numbered numbers made.Abort = true
 
--- every variable has a name, of so many names, and every function has its number
+-- every variable has a name, of so many names, every function has its number, and every number has 64 bits
 abbrev mutual
   pub is_placed : (List ℕ → ℕ) → ℕ → Node → Bool
-  is_placed numbers n (node.Number v) = true
+  is_placed numbers n (node.Number v) = nat_lt v (2 ^ 64)
   is_placed numbers n (node.Constant c) = true
   is_placed numbers n (node.Variable i) = nat_lt i n
   is_placed numbers n node.Paramc = true
@@ -121,7 +121,7 @@ abbrev pub are_distinct : List (List ℕ) → Bool
 are_distinct [] = true
 are_distinct (x ∷ xs) = not (list_any (bytes_eq x) xs) && are_distinct xs
 
--- code whose names differ, whose variables all have a name, and whose functions have their numbers
+-- code whose names differ, whose variables all have a name, whose functions have their numbers, and whose numbers have 64 bits
 abbrev pub is_sound : (List ℕ → ℕ) → FunctionCode → Bool
 is_sound numbers f = are_distinct f.names.items && are_placed numbers (length f.names.items) f.body.items
 

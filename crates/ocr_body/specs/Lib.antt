@@ -13,3 +13,4 @@ pub mod Rules
 pub mod Serving
 pub mod Tree
 pub mod View
+pub mod Words
