@@ -1,6 +1,9 @@
 pub mod Blocks
+pub mod Coded
 pub mod Codes
+pub mod Creations
 pub mod Functions
+pub mod Givens
 pub mod Laws
 pub mod Names
 pub mod Plain
@@ -10,3 +13,4 @@ pub mod Stopped
 pub mod Turns
 pub mod Variables
 pub mod Weight
+pub mod Words

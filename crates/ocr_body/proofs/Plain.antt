@@ -4,9 +4,9 @@ use Rattle.ocr_body.specs.Behaviour.{Behaviour, Ends, Stops, Asks, NotBuilt, Ask
 use Rattle.ocr_body.specs.declared.call.Answer.{Answer}
 use Rattle.ocr_body.specs.Tree as tree
 use Rattle.ocr_body.specs.Tree.{Expression, Arguments, Statement, Statements, FunctionTree}
-use Rattle.ocr_body.specs.Meaning.{Frame, State, Value, exec, exec_all, asked}
+use Rattle.ocr_body.specs.Meaning.{Frame, State, Value, nothing_given, exec, exec_all, asked}
 use Rattle.ocr_body.proofs.Variables.{first_of, second_of}
-use Rattle.ocr_body.specs.Serving.{behaviour, statements_at}
+use Rattle.ocr_body.specs.Serving.{behaviour, statements_at, numbers_in}
 use Rattle.ocr_body.specs.FirstForm.{PlainLaw, is_first_form, IsPlain, is_built, are_built, count_of, is_number, is_shutdown, is_empty}
 use Rattle.ocr_body.specs.declared.tree.CallName.{CallName}
 use Rattle.ocr_body.specs.declared.tree.CallName.TheVariants as name
@@ -28,13 +28,13 @@ print_plain : (f : Frame) (e : Expression) (n code : ℕ) (variables : List ℕ 
 print_plain f (tree.Number v) n code variables k is rest = (tt, λ a. rest)
 print_plain f other n code variables k is rest = cc is
 
-shutdown_plain : (made : CallName) (xs : List ℕ) (st : State) (k : Value) → is_shutdown made ≡ true → IsPlain (asked made xs st k)
-shutdown_plain name.Shutdown xs st k is = refl
-shutdown_plain other xs st k is = cc is
+shutdown_plain : (f : Frame) (made : CallName) (xs : Arguments) (st : State) (k : Value) → is_shutdown made ≡ true → IsPlain (asked f made xs nothing_given st k)
+shutdown_plain f name.Shutdown xs st k is = refl
+shutdown_plain f other xs st k is = cc is
 
 call_plain : (f : Frame) (made : CallName) (xs : Arguments) (n code : ℕ) (variables : List ℕ → ℕ) (k : State → Behaviour) → is_shutdown made ≡ true → is_empty xs ≡ true
     → IsPlain (exec f (tree.Do made xs) (record { fuel = suc (suc n); code = code; variables = variables }) k)
-call_plain f made tree.empty n code variables k is none = shutdown_plain made [] (record { fuel = n; code = code; variables = variables }) (λ v st. k st) is
+call_plain f made tree.empty n code variables k is none = shutdown_plain f made tree.empty (record { fuel = n; code = code; variables = variables }) (λ v st. k st) is
 call_plain f made other n code variables k is none = cc none
 
 -- a statement spends two units
@@ -63,4 +63,4 @@ statements_built (f ∷ rest) (suc (suc n)) is = statements_built rest (suc n) (
 
 pub plain_law : PlainLaw
 plain_law b log is enough =
-    after_plain log (behaviour b) (exec_all_plain (record { params = b.params; depv = b.depv }) (statements_at b.program b.function) b.fuel 0 (λ x. 0) (λ _. Ends 0) (statements_built b.program b.function is) enough (λ st. refl))
+    after_plain log (behaviour b) (exec_all_plain (record { params = b.params; depv = b.depv; function_of = numbers_in b.program }) (statements_at b.program b.function) b.fuel 0 (λ x. 0) (λ _. Ends 0) (statements_built b.program b.function is) enough (λ st. refl))

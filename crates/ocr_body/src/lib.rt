@@ -7,6 +7,7 @@ mod call;
 mod checked;
 mod code;
 mod first_form;
+mod given;
 mod local;
 mod numbers;
 mod operators;
@@ -18,7 +19,7 @@ pub use api::Api;
 pub use bodies::body_laws;
 pub use call::{Answer, BodyStop, Call};
 pub use checked::Checked;
-pub use code::{FunctionCode, Invocation, Node, Step};
+pub use code::{Args, FunctionCode, Made, Node, Step};
 pub use first_form::first_form_laws;
 pub use resolver::resolve;
 pub use tree::{

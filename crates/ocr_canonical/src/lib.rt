@@ -28,6 +28,3 @@ pub fn print_program(alloc: Global, program: &Program) -> Result<Vec<u8>, NoMemo
         Err(_) => Err(NoMemory),
     }
 }
-
-#[cfg(test)]
-mod tests;

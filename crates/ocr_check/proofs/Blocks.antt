@@ -1,5 +1,5 @@
 -- The blocks of a tree in memory.
-use Rattle.std.proofs.Common.{◌≡◌, List, [], ◌∷◌, refl, ap, ◌∙◌, Vec, Global}
+use Rattle.std.proofs.Common.{◌≡◌, refl, ap, ◌∙◌, Vec, Global}
 use Rattle.ocr_body.specs.Tree as tree
 use Rattle.ocr_body.specs.View.{expression_of, statement_of, statements_of, row_statements}
 use Rattle.ocr_body.specs.declared.tree.Expr.{Expr}

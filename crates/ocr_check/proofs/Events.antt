@@ -1,5 +1,5 @@
 -- The events of a function one after the other: what they leave to the events after them.
-use Rattle.std.proofs.Common.{◌≡◌, ℕ, zero, suc, Bool, cond, List, [], ◌∷◌, ◌++◌, Option, None, Some, refl, sym, ap, ◌∙◌}
+use Rattle.std.proofs.Common.{◌≡◌, ℕ, suc, Bool, List, [], ◌∷◌, ◌++◌, Option, None, Some, refl, sym, ap, ◌∙◌}
 use Rattle.std.specs.Option.{option_or}
 use Rattle.ocr_body.specs.Tree.{Expression, Arguments, Statement, Statements}
 use Rattle.ocr_body.specs.Tree as tree

@@ -1,5 +1,5 @@
 -- What the walk over a tree finds is what its events say.
-use Rattle.std.proofs.Common.{◌≡◌, ℕ, zero, suc, ◌+◌, Bool, true, false, cond, ◌||◌, List, [], ◌∷◌, ◌++◌, length, Option, None, Some, refl, sym, ap, ◌∙◌, subst, length-append, arith, add-one}
+use Rattle.std.proofs.Common.{◌≡◌, ℕ, suc, Bool, true, false, cond, ◌||◌, List, [], ◌∷◌, ◌++◌, length, Option, None, Some, refl, sym, ap, ◌∙◌, subst, length-append, add-one}
 use Rattle.std.proofs.Math.Bool.{or_comm}
 use Rattle.std.proofs.lemmas.List.Folds.{list_any-append}
 use Rattle.std.specs.Bool.{nat_lt}
@@ -9,9 +9,9 @@ use Rattle.ocr_body.specs.Tree.{Expression, Statement, Statements, FunctionTree}
 use Rattle.ocr_body.specs.Tree as tree
 use Rattle.ocr_check.specs.Check.{Event, rule_broken, is_among, is_declared, let_names, most_lets, events_of, events_of_expression, events_of_statement, events_of_statements}
 use Rattle.ocr_check.specs.Check as check
-use Rattle.ocr_check.specs.Checking.{event_rule, expression_rule, call_rule, value_rule, let_rule, with_name, Kept, Outcome, Passed, Broken, told, and_then, leaving, statement_outcome, statements_outcome, rule_of, function_rule, nothing_kept}
+use Rattle.ocr_check.specs.Checking.{event_rule, expression_rule, value_rule, let_rule, with_name, Kept, Outcome, Passed, Broken, told, and_then, leaving, statement_outcome, statements_outcome, rule_of, function_rule, nothing_kept}
 use Rattle.ocr_check.proofs.Parts.{or_of_none}
-use Rattle.ocr_check.proofs.Events.{onto, onto-append, first_broken, first_broken-append, option_or-assoc, option_or-None, IsQuiet, quiet-used, quiet-expression, IsInner, inner-statements, block, block-declared, known_of, declared_of, expression_agrees}
+use Rattle.ocr_check.proofs.Events.{onto, onto-append, first_broken, first_broken-append, option_or-None, IsQuiet, quiet-used, quiet-expression, IsInner, inner-statements, block, block-declared, known_of, expression_agrees}
 
 -- the names that are kept are those that the events tell of
 pub record Tracks (k : Kept) (past : List Event) : Type 0 where

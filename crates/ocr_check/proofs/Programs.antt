@@ -1,8 +1,6 @@
 -- The functions of a program in memory, one after the other.
-use Rattle.std.proofs.Common.{◌≡◌, ◌<◌, vec_len, ℕ, zero, suc, ◌+◌, Bool, true, false, cond, not, ◌||◌, List, [], ◌∷◌, ◌++◌, length, map, take, drop, get_or, Option, None, Some, Bor, refl, sym, ap, ◌∙◌, subst, arith, add-one}
-use Rattle.std.proofs.Math.Bool.{or_comm}
+use Rattle.std.proofs.Common.{◌≡◌, ◌<◌, vec_len, ℕ, zero, suc, ◌+◌, Bool, true, false, cond, not, ◌||◌, List, [], ◌∷◌, ◌++◌, length, take, drop, get_or, None, Some, Bor, refl, sym, ap, ◌∙◌, subst, arith, add-one}
 use Rattle.std.proofs.lemmas.List.{length-map}
-use Rattle.std.proofs.lemmas.List.Folds.{list_any-append}
 use Rattle.std.proofs.lemmas.Map.Text.{is_eq-slice_cmp}
 use Rattle.std.specs.BTreeSet.{BTreeSet, Updates}
 use Rattle.std.specs.Cmp.Lexicographic.{slice_cmp}
@@ -10,7 +8,7 @@ use Rattle.std.specs.Ordering.{nat_cmp}
 use Rattle.std.specs.Str.{bytes_eq}
 use Rattle.ocr_body.specs.Tree.{FunctionTree}
 use Rattle.ocr_body.specs.View.{function_of, functions_of, tree_of}
-use Rattle.ocr_check.specs.Check.{is_among, names_of, IsFirst, FailsNowhere, HasNamesake, Breaks, BreaksSome, BreaksNoRule, IsBreach, same_name, no_main, in_body, main_name, events_of}
+use Rattle.ocr_check.specs.Check.{is_among, names_of, IsFirst, FailsNowhere, HasNamesake, Breaks, BreaksSome, BreaksNoRule, IsBreach, same_name, no_main, in_body, main_name}
 use Rattle.ocr_check.specs.Checking.{function_rule}
 use Rattle.ocr_check.specs.Scope.{knows, IsStopAt, IsStopOf}
 use Rattle.ocr_check.specs.declared.rules.CheckStop.{CheckStop}
@@ -19,7 +17,7 @@ use Rattle.ocr_body.specs.declared.tree.Function.{Function}
 use Rattle.ocr_body.specs.declared.tree.Program.{Program}
 use Rattle.ocr_check.proofs.Events.{known_of}
 use Rattle.ocr_check.proofs.Judging.{function_agrees}
-use Rattle.ocr_check.proofs.First.{FailsNowhere-nil, FailsNowhere-push, function_keeps, function_breaks, kept_function, first_fails}
+use Rattle.ocr_check.proofs.First.{FailsNowhere-push, function_keeps, function_breaks, kept_function, first_fails}
 
 -- the functions in front of a place, and one more
 pub front_more : (fs : List Function) (i : ℕ) (f : Function) → i < length fs → f ≡ get_or fs i f → functions_of (take (suc i) fs) ≡ functions_of (take i fs) ++ (function_of f ∷ [])

@@ -10,7 +10,6 @@ use Rattle.ocr_check.specs.Scope.{known_in, declared_in, members_rule, edt_rule}
 use Rattle.ocr_check.specs.declared.scope.Scope.{Scope}
 use Rattle.ocr_check.specs.declared.scope.ListKind.{ListKind}
 use Rattle.ocr_check.specs.declared.scope.ListKind.TheVariants.{Parameters, Dependences}
-use Rattle.ocr_body.specs.declared.tree.CallName.{CallName}
 use Rattle.ocr_body.specs.declared.tree.CallName.TheVariants as name
 use Rattle.ocr_body.specs.declared.tree.Expr.{Expr}
 use Rattle.ocr_body.specs.declared.tree.Invoke.{Invoke, Row_of-Expr, end_of-Expr, more_of-Expr}

@@ -1,7 +1,7 @@
 -- Where a walk stops.
-use Rattle.std.proofs.Common.{◌≡◌, ℕ, List, Result, Ok, Err, ◌∙◌, sym}
+use Rattle.std.proofs.Common.{◌≡◌, Result, Ok, Err, ◌∙◌}
 use Rattle.std.specs.Result.{IfErr}
-use Rattle.ocr_check.specs.Checking.{Outcome, Broken}
+use Rattle.ocr_check.specs.Checking.{Outcome}
 use Rattle.ocr_check.specs.Scope.{IsStopIn}
 use Rattle.ocr_check.specs.declared.rules.CheckStop.{CheckStop}
 use Rattle.ocr_check.specs.declared.rules.CheckStop.TheVariants.{Fault, NoMemory}

@@ -4,6 +4,7 @@ pub mod Footprints
 pub mod Going
 pub mod Keeping
 pub mod Local
+pub mod Next
 pub mod Places
 pub mod Present
 pub mod Told

@@ -205,7 +205,7 @@ pub record KnownAs (f : ℕ → Part) (edt started ended : Bool) (t : ℕ) : Typ
   pub ended_is : ended ≡ has_ended (f t)
 
 -- a creation makes what was not there
-fresh_core : (s : Setting) (past : History) (a : Answer) → is_done a.code ≡ true → IsNamed s.limit (parts_of s past) a → (parts_of s past).core a.value ≡ part.Vacant
+pub fresh_core : (s : Setting) (past : History) (a : Answer) → is_done a.code ≡ true → IsNamed s.limit (parts_of s past) a → (parts_of s past).core a.value ≡ part.Vacant
 fresh_core s past a on named = no_face_no_core (made s past a.value) a.value (slot_calls past a.value) (block_calls s past a.value) (edt_calls s past a.value) (named.fresh on).vacant
 
 known_call : (s : Setting) (past : History) (t0 home : ℕ) (c : body.Call) (a : Answer) (w : List (ℕ × ℕ)) (t : ℕ) → IsCallOn s.limit (parts_of s past) t0 home c a w

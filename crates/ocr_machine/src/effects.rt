@@ -227,11 +227,25 @@ fn plan_at(
         return plan(alloc, &[]);
     }
     match find(parts, edt) {
-        Some(Part::Edt(slots)) => {
+        Some(face) => plan_of(alloc, face),
+        None => plan(alloc, &[]),
+    }
+}
+
+/// The plan of an EDT with this face.
+pub(crate) fn plan_of(alloc: Global, face: &Part) -> Result<SmallVec<(Guid, Mode), 8>, NoMemory>
+    ensures plan { IfOk result (λ v. v.items ≡ plan_in (as_face face.now)) }
+    ensures well_formed { IfOk result (λ v. IsWellFormed v.items) }
+{
+    match face {
+        Part::Edt(slots) => {
             let asks = asks(alloc, slots)?;
             plan(alloc, &asks)
         }
-        _ => plan(alloc, &[]),
+        Part::Vacant => plan(alloc, &[]),
+        Part::Block(_) => plan(alloc, &[]),
+        Part::Template(_) => plan(alloc, &[]),
+        Part::Core(_) => plan(alloc, &[]),
     }
 }
 

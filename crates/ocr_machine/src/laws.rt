@@ -1,5 +1,5 @@
 // The laws of runs and of the machine.
-ghost use Rattle.ocr_machine.specs.Laws.{StartLaw, QuietLaw, AfterLaw, CodeLaw, LegalityLaw, EffectLaw, FrameLaw, FootprintLaw, WithinLaw, RefusedLaw, SilentLaw, ToldLaw, WakeLaw, FreshLaw, BodyLaw, FreeLaw};
+ghost use Rattle.ocr_machine.specs.Laws.{StartLaw, QuietLaw, AfterLaw, CodeLaw, LegalityLaw, EffectLaw, FrameLaw, FootprintLaw, WithinLaw, RefusedLaw, SilentLaw, ToldLaw, NextLaw, WakeLaw, FreshLaw, BodyLaw, FreeLaw};
 
 /// In a run every EDT starts at most once, and after its last slot was set; where a run is quiet, the EDTs that
 /// never started are exactly those with an open slot.
@@ -25,6 +25,7 @@ pub fn machine_laws()
 /// What the parts of a run tell of its history, and by which entries an EDT goes on.
 pub fn going_laws()
     ensures told { ToldLaw }
+    ensures next { NextLaw }
     ensures wake { WakeLaw }
     ensures fresh { FreshLaw }
     ensures body { BodyLaw }

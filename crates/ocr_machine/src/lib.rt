@@ -23,3 +23,6 @@ pub use opened::{ARGUMENTS, MAIN_EDT, opening};
 pub use part::{Core, Part, Stepped};
 pub use whole::{Entered, Table};
 pub use writes::Writes;
+
+#[cfg(test)]
+mod tests;

@@ -11,6 +11,3 @@ mod steps;
 mod wanted;
 
 pub use parsing::{ParseStop, SyntaxFault, parse};
-
-#[cfg(test)]
-mod tests;

@@ -1,8 +1,7 @@
 -- How runs end.
-use Rattle.std.proofs.Common.{◌≡◌, ◌≢◌, ◌⊎◌, inl, inr, ℕ, List, [], ◌∷◌, Option, Some, None, refl, sym, ◌∙◌, ap, arith, subst}
-use Rattle.ocr_machine.specs.declared.entry.Entry.{Entry}
+use Rattle.std.proofs.Common.{◌≡◌, [], ◌∷◌, refl}
 use Rattle.ocr_machine.specs.declared.entry.Entry.TheVariants.{Call, Deliver, Acquire, Wait, StaleAcquire, Start, Free, End, Stop}
-use Rattle.ocr_machine.specs.History.{History, history_of}
+use Rattle.ocr_machine.specs.History.{History}
 use Rattle.ocr_machine.specs.Output.{ending_of}
 use Rattle.ocr_run.specs.Lines.{end_of, end_status}
 

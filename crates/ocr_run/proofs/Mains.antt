@@ -1,17 +1,20 @@
 -- The number of `mainEdt` in a program that has it.
-use Rattle.std.proofs.Common.{◌≡◌, ◌≤◌, ◌+◌, ℕ, suc, List, [], ◌∷◌, codes, Bool, true, false, ◌||◌, if◌then◌else◌, bytes_eq, refl, sym, ◌∙◌, ap, length, arith}
+use Rattle.std.proofs.Common.{◌≡◌, ◌≤◌, ◌<◌, ◌+◌, ℕ, suc, List, [], ◌∷◌, Bool, true, false, ◌||◌, if◌then◌else◌, bytes_eq, length, arith}
 use Rattle.ocr_body.specs.Tree.{FunctionTree}
 use Rattle.ocr_body.specs.Serving.{number_named, number_of_main}
 use Rattle.ocr_check.specs.Check.{is_among, names_of, main_name}
-
-here : (b c : Bool) (n most : ℕ) → (b || c) ≡ true → (c ≡ true → n ≤ most) → (if b then 1 else n + 1) ≤ suc most
-here true c n most among rest = omega arith
-here false c n most among rest = omega (arith, rest among)
-
-named_within : (name : List ℕ) (program : List FunctionTree) → is_among name (names_of program) ≡ true → number_named name program ≤ length program
-named_within name [] among = cc among
-named_within name (f ∷ rest) among =
-    here (bytes_eq f.name name) (is_among name (names_of rest)) (number_named name rest) (length rest) among (named_within name rest)
+use Rattle.ocr_check.proofs.Built.{named_within}
 
 pub main_within : (program : List FunctionTree) → is_among main_name (names_of program) ≡ true → number_of_main program ≤ length program
 main_within program among = named_within main_name program among
+
+some_if : (b : Bool) (n : ℕ) → 0 < (if b then 1 else n + 1)
+some_if true n = omega arith
+some_if false n = omega arith
+
+some_named : (name : List ℕ) (program : List FunctionTree) → 0 < number_named name program
+some_named name [] = omega arith
+some_named name (f ∷ rest) = some_if (bytes_eq f.name name) (number_named name rest)
+
+pub some_main : (program : List FunctionTree) → 0 < number_of_main program
+some_main program = some_named main_name program

@@ -1,6 +1,6 @@
 -- Bytes are at most one program, have at most one fault, and never both.
-use Rattle.std.proofs.Common.{◌≡◌, ℕ, List, refl, sym, ap, ◌∙◌, subst}
-use Rattle.ocr_text.specs.Tokens.{AreTokens, IsFault}
+use Rattle.std.proofs.Common.{◌≡◌, ℕ, List, sym, ap, subst}
+use Rattle.ocr_text.specs.Tokens.{AreTokens}
 use Rattle.ocr_text.proofs.Laws.{tokens_law}
 use Rattle.ocr_text.specs.declared.token.Token.{Token}
 use Rattle.ocr_body.specs.Tree.{FunctionTree}
@@ -11,7 +11,7 @@ use Rattle.ocr_check.proofs.First.{breach_is_one}
 use Rattle.ocr_check.specs.declared.rules.CheckFault.{CheckFault}
 use Rattle.ocr_run.specs.declared.text.TextFault.{TextFault}
 use Rattle.ocr_run.specs.declared.text.TextFault.TheVariants as fault
-use Rattle.ocr_run.specs.ProgramText.{IsProgramText, IsNoProgram, no_tokens, no_tree, breaks_rule, TextLaw}
+use Rattle.ocr_run.specs.ProgramText.{IsNoProgram, no_tokens, no_tree, breaks_rule, TextLaw}
 
 -- a tree of other tokens of the same bytes is a tree of these
 tree_here : (bytes : List ℕ) (tokens others : List Token) (program : List FunctionTree) → AreTokens bytes tokens → AreTokens bytes others
@@ -38,7 +38,7 @@ no_fault bytes program tokens sound are tree found (breaks_rule others other bre
     sound breach.rule breach.function (subst (λ (p : List FunctionTree). IsBreach p breach.rule breach.function) (sym (same_program bytes tokens others program other are those tree another)) is)
 
 same_breach : (a b : CheckFault) → (a.rule ≡ b.rule) × (a.function ≡ b.function) → a ≡ b
-same_breach a b same = cc (same.0, same.1)
+same_breach a b same = λ i. record { rule = same.0 i; function = same.1 i }
 
 same_fault : (bytes : List ℕ) (found other : TextFault) → IsNoProgram bytes found → IsNoProgram bytes other → found ≡ other
 same_fault bytes found other (no_tokens place is) (no_tokens place2 is2) = ap fault.Lexical (tokens_law.one_fault bytes place place2 is is2)

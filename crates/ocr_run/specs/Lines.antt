@@ -1,7 +1,6 @@
 -- How a run came to its end, and the lines on `err`.
 use Rattle.std.specs.Prelude.{◌==◌, ℕ, List, [], ◌∷◌, ◌++◌, length, codes, if◌then◌else◌}
 use Rattle.std.specs.Fmt.{decimal}
-use Rattle.ocr_machine.specs.declared.entry.Entry.{Entry}
 use Rattle.ocr_machine.specs.declared.entry.Entry.TheVariants.{Stop}
 use Rattle.ocr_machine.specs.declared.entry.Fault as machine
 use Rattle.ocr_machine.specs.declared.entry.Fault.TheVariants as kind

@@ -1,5 +1,5 @@
 -- Which bytes are a program, and why others are none.
-use Rattle.std.specs.Prelude.{◌≡◌, ◌≤◌, ◌<◌, ℕ, List, length}
+use Rattle.std.specs.Prelude.{◌≡◌, ◌≤◌, ℕ, List, length}
 use Rattle.ocr_text.specs.Tokens.{AreTokens, IsFault}
 use Rattle.ocr_text.specs.declared.token.Token.{Token}
 use Rattle.ocr_body.specs.Tree.{FunctionTree}

@@ -2,6 +2,7 @@
 use Rattle.std.specs.Prelude.{◌≡◌, ◌⊎◌, ◌≤◌, ℕ, List, [], length, true}
 use Rattle.ocr_body.specs.Tree.{FunctionTree}
 use Rattle.ocr_body.specs.Built.{are_built}
+use Rattle.ocr_body.specs.Rules.{are_functions_named, are_lists_short}
 use Rattle.ocr_body.specs.Serving.{number_of_main}
 use Rattle.ocr_machine.specs.History.{History, Setting, is_stopped}
 use Rattle.ocr_machine.specs.Legal.{IsRun, IsQuiet}
@@ -10,9 +11,12 @@ use Rattle.ocr_machine.specs.Legal.{IsRun, IsQuiet}
 abbrev pub setting_of : List FunctionTree → Setting
 setting_of program = record { program = program; args = []; limit = 4096 }
 
--- a program that may be run: all its calls are built, and there is a `mainEdt`
+-- a program that may be run: all its calls are built, the functions that it names are there, its lists are short enough, and
+-- there is a `mainEdt`
 pub record IsRunnable (program : List FunctionTree) : Type 0 where
   pub built : are_built program ≡ true
+  pub named : are_functions_named program ≡ true
+  pub short : are_lists_short program ≡ true
   pub has_main : number_of_main program ≤ length program
 
 -- the run was stopped, or nothing is left to do

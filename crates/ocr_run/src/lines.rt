@@ -1,5 +1,5 @@
 // The lines on `err`.
-ghost use Rattle.std.specs.Prelude.{◌≡◌, ◌++◌, ◌∷◌, [], IfOk, OnOk};
+ghost use Rattle.std.specs.Prelude.{◌≡◌, ◌++◌, IfOk};
 ghost use Rattle.std.specs.Fmt.{decimal};
 ghost use Rattle.ocr_run.specs.Lines.{numbered, fault_words, stop_line, end_line, fault_line};
 
@@ -10,22 +10,22 @@ use ocr_guid::Guid;
 use ocr_machine::{Fault, Stop};
 use std::alloc::{AllocError, Global};
 
-// Adds a number.
-fn push_number(alloc: Global, line: &mut Vec<u8>, number: u64) -> Result<(), AllocError>
-    ensures { OnOk result (line.new.items ≡ line.old.items ++ decimal number) }
+// Words, a number, and more.
+fn joined(alloc: Global, words: &[u8], number: u64, rest: &[u8]) -> Result<Vec<u8>, AllocError>
+    ensures { IfOk result (λ line. line.items ≡ words.now ++ (decimal number ++ rest.now)) }
 {
     let text = number.to_string(alloc)?;
-    line.extend_from_slice(text.as_bytes())
+    let mut line = words.to_vec(alloc)?;
+    line.extend_from_slice(text.as_bytes())?;
+    line.extend_from_slice(rest)?;
+    Ok(line)
 }
 
-// Words and a number.
+// A line of words and a number.
 fn line_with(alloc: Global, words: &[u8], number: u64) -> Result<Vec<u8>, AllocError>
     ensures { IfOk result (λ line. line.items ≡ numbered words.now number) }
 {
-    let mut line = words.to_vec(alloc)?;
-    push_number(alloc, &mut line, number)?;
-    line.push(b'\n')?;
-    Ok(line)
+    joined(alloc, words, number, b"\n")
 }
 
 // A fault in a body, in words.
@@ -45,12 +45,10 @@ fn words_of(fault: Fault) -> &'static [u8]
 fn fault_in_edt(alloc: Global, edt: Guid, fault: Fault) -> Result<Vec<u8>, AllocError>
     ensures { IfOk result (λ line. line.items ≡ stop_line (Stop.Fault edt fault)) }
 {
-    let mut line = b"fault in edt ".to_vec(alloc)?;
-    push_number(alloc, &mut line, edt.0)?;
-    line.extend_from_slice(b": ")?;
-    line.extend_from_slice(words_of(fault))?;
-    line.push(b'\n')?;
-    Ok(line)
+    let mut end = b": ".to_vec(alloc)?;
+    end.extend_from_slice(words_of(fault))?;
+    end.push(b'\n')?;
+    joined(alloc, b"fault in edt ", edt.0, &end)
 }
 
 // The line of a stop.
@@ -80,6 +78,14 @@ pub fn line_of_ending(alloc: Global, ending: Ending) -> Result<Vec<u8>, AllocErr
     }
 }
 
+// The line of a rule that is broken.
+fn line_of_breach(alloc: Global, breach: CheckFault) -> Result<Vec<u8>, AllocError>
+    ensures { IfOk result (λ line. line.items ≡ fault_line (TextFault.Breach breach)) }
+{
+    let end = line_with(alloc, b" in function ", breach.function as u64)?;
+    joined(alloc, b"check fault: rule ", breach.rule as u64, &end)
+}
+
 /// The line of bytes that are no program.
 pub fn line_of_fault(alloc: Global, fault: TextFault) -> Result<Vec<u8>, AllocError>
     ensures { IfOk result (λ line. line.items ≡ fault_line fault) }
@@ -87,13 +93,6 @@ pub fn line_of_fault(alloc: Global, fault: TextFault) -> Result<Vec<u8>, AllocEr
     match fault {
         TextFault::Lexical(place) => line_with(alloc, b"lex fault at ", place as u64),
         TextFault::Syntax(place) => line_with(alloc, b"syntax fault at ", place as u64),
-        TextFault::Breach(CheckFault { rule, function }) => {
-            let mut line = b"check fault: rule ".to_vec(alloc)?;
-            push_number(alloc, &mut line, rule as u64)?;
-            line.extend_from_slice(b" in function ")?;
-            push_number(alloc, &mut line, function as u64)?;
-            line.push(b'\n')?;
-            Ok(line)
-        }
+        TextFault::Breach(breach) => line_of_breach(alloc, breach),
     }
 }

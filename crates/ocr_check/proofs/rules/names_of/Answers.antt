@@ -2,7 +2,6 @@ use Rattle.std.proofs.Common.{◌≡◌, ◌∙◌, ◌||◌, ◌+◌, ℕ, List
 use Rattle.std.specs.Str.{bytes_eq}
 use Rattle.ocr_check.specs.Check.{HasNamesake}
 use Rattle.ocr_check.specs.Scope.{knows}
-use Rattle.ocr_body.specs.View.{function_of, functions_of}
 use Rattle.ocr_check.proofs.Programs.{name_breach, none_more, names_more, knows_more, not_false, not_true}
 use Rattle.ocr_check.proofs.rules.names_of.Goals as goal
 

@@ -1,4 +1,4 @@
-use Rattle.std.proofs.Common.{◌≡◌, ◌∙◌, ℕ, List, Bor, length, take, map, sym, ap}
+use Rattle.std.proofs.Common.{◌≡◌, ◌∙◌, ℕ, List, Bor, length, take, sym, ap}
 use Rattle.ocr_check.specs.Checking.{Kept, Outcome, Passed, leaving, statement_outcome, statements_outcome}
 use Rattle.ocr_check.specs.Scope.{texts, knows, known_in, kept_in}
 use Rattle.ocr_body.specs.View.{statement_of, statements_of}

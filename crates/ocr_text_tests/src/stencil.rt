@@ -1,59 +1,7 @@
-use crate::{ParseStop, parse};
-use ocr_text::tokens;
-use std::alloc::{AllocError, Global};
+// A large program.
 
-const PARSED: usize = 999_999_999;
-
-const STOPPED: usize = 888_888_888;
-
-fn fault_of(alloc: Global, text: &[u8]) -> usize {
-    let Ok(list) = tokens(alloc, text) else {
-        return STOPPED
-    };
-    match parse(alloc, text, list.as_slice()) {
-        Ok(_) => PARSED,
-        Err(ParseStop::Fault(fault)) => fault.place,
-        Err(ParseStop::NoMemory) => STOPPED,
-    }
-}
-
-fn push_all(text: &mut Vec<u8>, more: &[u8], times: u32) -> Result<(), AllocError> {
-    for _ in 0..times {
-        text.extend_from_slice(more)?;
-    }
-    Ok(())
-}
-
-#[test]
-fn faults_stand_where_no_program_goes_on(rt: HostRuntime) {
-    let alloc = rt.alloc();
-    assert_eq!(rt; fault_of(alloc, b"fn mainEdt { print ; }"), 19);
-    assert_eq!(rt; fault_of(alloc, b"fn mainEdt { print 1"), 20);
-    assert_eq!(rt; fault_of(alloc, b"fn if { }"), 3);
-    assert_eq!(rt; fault_of(alloc, b"fn mainEdt { print 1 }"), 21);
-    assert_eq!(rt; fault_of(alloc, b""), PARSED);
-    assert_eq!(rt; fault_of(alloc, b"# none\n"), PARSED);
-}
-
-#[test]
-fn limits_are_counted_apart(rt: HostRuntime) -> Result<(), AllocError> {
-    let alloc = rt.alloc();
-    let mut deep = b"fn mainEdt {".to_vec(alloc)?;
-    push_all(&mut deep, b"if 1 {", 64)?;
-    assert_eq!(rt; fault_of(alloc, deep.as_slice()), 395);
-    let mut long = b"fn mainEdt { print ".to_vec(alloc)?;
-    push_all(&mut long, b"1+", 128)?;
-    push_all(&mut long, b"1; }", 1)?;
-    assert_eq!(rt; fault_of(alloc, long.as_slice()), 275);
-    let mut round = b"fn mainEdt { print ".to_vec(alloc)?;
-    push_all(&mut round, b"(", 200)?;
-    push_all(&mut round, b"1 }", 1)?;
-    assert_eq!(rt; fault_of(alloc, round.as_slice()), 221);
-    Ok(())
-}
-
-// Sixteen tiles, each the sums of a cell's neighbours, ten times over.
-const STENCIL: &[u8] = b"fn tile {
+/// Sixteen tiles, each the sums of a cell's neighbours, ten times over.
+pub const STENCIL: &[u8] = b"fn tile {
   let me = depv[0]; let d = ocrDbCreate(2048, 0); let k = 0;
   while k < 256 {
     let v = load(me, k);
@@ -99,8 +47,3 @@ fn mainEdt {
   while i < 16 { ocrAddDependence(load(g, i), s, i, DB_MODE_CONST); i = i + 1; }
 }
 ";
-
-#[test]
-fn the_stencil_is_a_program(rt: HostRuntime) {
-    assert_eq!(rt; fault_of(rt.alloc(), STENCIL), PARSED);
-}

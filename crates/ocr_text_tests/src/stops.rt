@@ -1,0 +1,114 @@
+// Where texts stop.
+use crate::reading::{Stop, stop_of};
+use std::alloc::{AllocError, Global};
+
+// A text of a front, a piece that comes a number of times, and an end.
+fn repeated(
+    alloc: Global,
+    front: &[u8],
+    piece: &[u8],
+    times: u32,
+    end: &[u8],
+) -> Result<Vec<u8>, AllocError> {
+    let mut text = front.to_vec(alloc)?;
+    for _ in 0..times {
+        text.extend_from_slice(piece)?;
+    }
+    text.extend_from_slice(end)?;
+    Ok(text)
+}
+
+// A function that lets this many names.
+fn lets(alloc: Global, count: u8, end: &[u8]) -> Result<Vec<u8>, AllocError> {
+    let mut text = b"fn mainEdt { ".to_vec(alloc)?;
+    for i in 0..count {
+        text.extend_from_slice(b"let ")?;
+        text.extend_from_slice([b'a' + i / 26, b'a' + i % 26].as_slice())?;
+        text.extend_from_slice(b" = 1; ")?;
+    }
+    text.extend_from_slice(end)?;
+    Ok(text)
+}
+
+#[test]
+fn texts_stop_at_their_first_fault(rt: HostRuntime) {
+    let rows = [
+        ("fn mainEdt { $ }", Stop::Token(13)),
+        (
+            "fn mainEdt { print 18446744073709551616; }",
+            Stop::Token(19),
+        ),
+        ("\0", Stop::Token(0)),
+        ("fn mainEdt { print ; }", Stop::Syntax(19)),
+        ("fn mainEdt { print 1", Stop::Syntax(20)),
+        ("fn if { }", Stop::Syntax(3)),
+        ("fn mainEdt { print 1 }", Stop::Syntax(21)),
+        // A token that is none comes before any fault of the grammar.
+        ("fn if { $ }", Stop::Token(8)),
+    ];
+    for (text, stop) in rows {
+        assert_eq!(rt;
+            stop_of(rt.alloc(), text.as_bytes()),
+            Some(stop),
+            "in {text}"
+        );
+    }
+}
+
+#[test]
+fn levels_and_tokens_are_counted(rt: HostRuntime) -> Result<(), AllocError> {
+    let alloc = rt.alloc();
+    let deep = repeated(alloc, b"fn mainEdt {", b"if 1 {", 64, b"")?;
+    assert_eq!(rt; stop_of(alloc, deep.as_slice()), Some(Stop::Syntax(395)));
+    let long = repeated(alloc, b"fn mainEdt { print ", b"1+", 128, b"1; }")?;
+    assert_eq!(rt; stop_of(alloc, long.as_slice()), Some(Stop::Syntax(275)));
+    let round = repeated(alloc, b"fn mainEdt { print ", b"(", 200, b"1 }")?;
+    assert_eq!(rt; stop_of(alloc, round.as_slice()), Some(Stop::Syntax(221)));
+    Ok(())
+}
+
+#[test]
+fn programs_stop_at_the_first_rule_that_they_break(rt: HostRuntime) {
+    let rows = [
+        ("fn mainEdt { } fn mainEdt { }", Stop::Rule(1, 2)),
+        (
+            "fn f { } fn mainEdt { print x; } fn f { }",
+            Stop::Rule(1, 3),
+        ),
+        ("", Stop::Rule(2, 0)),
+        ("# none\n", Stop::Rule(2, 0)),
+        ("fn mainEdt { let x = 1; let x = 2; }", Stop::Rule(3, 1)),
+        (
+            "fn mainEdt { if 1 { let x = 1; } let x = 2; }",
+            Stop::Rule(3, 1),
+        ),
+        (
+            "fn mainEdt { if 1 { let x = 1; } print x; }",
+            Stop::Rule(4, 1),
+        ),
+        ("fn f { } fn mainEdt { let x = x; }", Stop::Rule(4, 2)),
+        ("fn mainEdt { ocrDbCreate(8, 0); }", Stop::Rule(8, 1)),
+    ];
+    for (text, stop) in rows {
+        assert_eq!(rt;
+            stop_of(rt.alloc(), text.as_bytes()),
+            Some(stop),
+            "in {text}"
+        );
+    }
+    let taken =
+        "fn other { } fn mainEdt { let y = 1; while y { let x = 0; y = x; } ocrShutdown(); }";
+    assert_eq!(rt; stop_of(rt.alloc(), taken.as_bytes()), None);
+}
+
+#[test]
+fn a_function_lets_64_names(rt: HostRuntime) -> Result<(), AllocError> {
+    let alloc = rt.alloc();
+    let enough = lets(alloc, 64, b"}")?;
+    assert_eq!(rt; stop_of(alloc, enough.as_slice()), None);
+    let many = lets(alloc, 65, b"}")?;
+    assert_eq!(rt; stop_of(alloc, many.as_slice()), Some(Stop::Rule(7, 1)));
+    let again = lets(alloc, 64, b"let aa = 1; }")?;
+    assert_eq!(rt; stop_of(alloc, again.as_slice()), Some(Stop::Rule(3, 1)));
+    Ok(())
+}
