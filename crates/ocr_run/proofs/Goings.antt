@@ -14,7 +14,9 @@ use Rattle.ocr_edt.specs.declared.Edt.TheVariants as phase
 use Rattle.ocr_edt.specs.Edt as edt
 use Rattle.ocr_body.specs.Tree.{FunctionTree}
 use Rattle.ocr_body.specs.Behaviour.{Behaviour, Ends, Stops, Asks, NotBuilt, IsNext}
-use Rattle.ocr_body.specs.Laws.{IsSaid}
+use Rattle.ocr_body.specs.Laws.{IsSaid, IsServed, IsOfBuilt}
+use Rattle.ocr_body.specs.Serving.{StoppedBy, by_closing, by_memory, by_body, Rose}
+use Rattle.ocr_body.proofs.Laws.{built_law}
 use Rattle.ocr_body.specs.declared.call.Call as body
 use Rattle.ocr_body.specs.declared.call.Call.TheVariants as call
 use Rattle.ocr_body.specs.declared.call.Answer.{Answer}
@@ -29,7 +31,7 @@ use Rattle.ocr_machine.specs.declared.part.Part.TheVariants as part
 use Rattle.ocr_machine.specs.History.{History, Setting, history_of, is_stopped, own}
 use Rattle.ocr_machine.specs.Made.{Made, MadeBlock, MadeTemplate, MadeEdt, made, makes, edt_from, is_edt, is_done, made_edts}
 use Rattle.ocr_machine.specs.Calls.{slot_calls, block_calls, edt_calls}
-use Rattle.ocr_machine.specs.Edts.{is_started, is_ended, IsRunning, says_next}
+use Rattle.ocr_machine.specs.Edts.{is_started, is_ended, IsRunning, says_next, body_of}
 use Rattle.ocr_machine.specs.Parts.{Parts, parts_of, face, core}
 use Rattle.ocr_machine.specs.Table.{is_within}
 use Rattle.ocr_machine.specs.Whole.{all_parts}
@@ -48,7 +50,7 @@ use Rattle.ocr_run.specs.declared.ending.Ending.TheVariants as ending
 use Rattle.ocr_run.specs.Lines.{end_of}
 use Rattle.ocr_run.specs.UnderWay.{setting_of, IsRunnable, IsMet, shut_down, aborted, faulted, out_of_memory, limited}
 use Rattle.ocr_run.specs.Limits.{share, object_count, free_numbers, IsLimited}
-use Rattle.ocr_run.specs.Going.{IsServed, IsOfProgram, IsGoing, IsHeld, IsStoppable, IsBefore, IsServing, IsMove, stop_for}
+use Rattle.ocr_run.specs.Going.{IsOfProgram, IsGoing, IsHeld, IsStoppable, IsBefore, IsServing, IsMove, stop_for}
 
 -- an entry at the end of a journal is the newest of its history
 pub history_more : (journal : List Entry) (e : Entry) (later : List Entry) → later ≡ journal ++ e ∷ [] → history_of later ≡ e ∷ history_of journal
@@ -446,3 +448,28 @@ move_no_stop (Stop a) move = absurd move
 -- the same run, by the same program, entries and count
 pub going_at : (program same : List FunctionTree) (past now : History) (count number : ℕ) → same ≡ program → now ≡ past → number ≡ count → IsGoing program past count → IsGoing same now number
 going_at program same past now count number is_program is_past is_count g = rw (is_program, is_past, is_count) g
+
+-- WHAT THE BODY SAYS
+pub of_built : (program : List FunctionTree) (past : History) (t : ℕ) → IsRunnable program → IsOfBuilt (length program) (says_next (setting_of program) past t)
+of_built program past t runnable = built_law (body_of (setting_of program) past t) (own past t) runnable.built runnable.named runnable.short
+
+next_served : (functions : ℕ) (c : body.Call) (b : Behaviour) → IsNext c b → IsOfBuilt functions b → IsServed functions c
+next_served functions c (Ends g) next built = absurd next
+next_served functions c (Stops e) next built = absurd next
+next_served functions c (Asks asked more) next built = subst (IsServed functions) next built.0
+next_served functions c NotBuilt next built = absurd next
+
+-- the call that comes next is built
+pub asks_served : (program : List FunctionTree) (past : History) (t : ℕ) (c : body.Call) → IsRunnable program → IsNext c (says_next (setting_of program) past t) → IsServed (length program) c
+asks_served program past t c runnable next = next_served (length program) c (says_next (setting_of program) past t) next (of_built program past t runnable)
+
+-- a body that stops says why, or memory was refused
+pub stop_cause : (functions : ℕ) (now : Behaviour) (e : BodyStop) → IsOfBuilt functions now → StoppedBy now (Rose 0 0) e → (e ≡ stop.NoMemory) ⊎ IsSaid e
+stop_cause functions now e built (by_closing rose) = absurd (omega (arith, rose))
+stop_cause functions now e built by_memory = inl refl
+stop_cause functions now e built (by_body s is) = inr (subst (IsOfBuilt functions) is built)
+
+pub stop_next : (now : Behaviour) (e : BodyStop) → StoppedBy now (Rose 0 0) e → IsSaid e → now ≡ Stops e
+stop_next now e (by_closing rose) said = absurd (omega (arith, rose))
+stop_next now e by_memory said = absurd said
+stop_next now e (by_body s is) said = is

@@ -2,9 +2,6 @@
 use Rattle.std.specs.Prelude.{◌≡◌, ◌≤◌, ◌<◌, ℕ, List, [], ◌∷◌, length, Bool, true, false, ◌==◌, Option, Some, None, is_some}
 use Rattle.ocr_acquire.specs.declared.Mode.TheVariants as mode
 use Rattle.ocr_body.specs.Tree.{FunctionTree}
-use Rattle.ocr_body.specs.declared.call.Call as body
-use Rattle.ocr_body.specs.declared.call.Call.TheVariants as call
-use Rattle.ocr_body.specs.declared.call.Answer.{Answer}
 use Rattle.ocr_machine.specs.declared.entry.Entry.{Entry}
 use Rattle.ocr_machine.specs.declared.entry.Entry.TheVariants.{Acquire, Start, Free, End, Stop}
 use Rattle.ocr_body.specs.declared.call.BodyStop.{BodyStop}
@@ -25,13 +22,6 @@ use Rattle.ocr_machine.specs.Footprint.{weight}
 use Rattle.ocr_run.specs.UnderWay.{setting_of, IsRunnable, IsMet}
 use Rattle.ocr_run.specs.Limits.{share, IsLimitCause}
 use Rattle.ocr_machine.specs.Whole.{all_parts}
-
--- a call that is built, of a program with so many functions
-abbrev pub IsServed : ℕ → body.Call → Type 0
-IsServed functions (call.Print v) = Unit {0}
-IsServed functions (call.TemplateCreate function paramc depc) = (0 < function) × (function ≤ functions)
-IsServed functions (call.EdtCreate template paramc params depc deps flags output) = (length params ≤ 16) × ((deps ≡ []) × (output ≡ false))
-IsServed functions other = ⊥
 
 -- what is made is of a function that the program has
 abbrev pub IsOfProgram : ℕ → Option Made → Type 0

@@ -37,17 +37,19 @@ impl<'a> Api for Desk<'a> {
     ghost closed = { λ d. d.closings };
 
     fn call(&mut self, call: &Call) -> Result<Answer, BodyStop> {
-        if let Some(_) = self.stop {
-            self.closings = raised(self.closings);
-            return Err(BodyStop::Closed);
-        }
-        match self.going.answer(self.alloc, self.edt, call) {
-            Ok(answer) => Ok(answer),
-            Err(stop) => {
-                self.stop = Some(stop);
+        match self.stop {
+            Some(_) => {
                 self.closings = raised(self.closings);
                 Err(BodyStop::Closed)
             }
+            None => match self.going.answer(self.alloc, self.edt, call) {
+                Ok(answer) => Ok(answer),
+                Err(stop) => {
+                    self.stop = Some(stop);
+                    self.closings = raised(self.closings);
+                    Err(BodyStop::Closed)
+                }
+            },
         }
     }
 

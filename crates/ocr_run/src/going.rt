@@ -1,21 +1,24 @@
 // A run that goes on.
-ghost use Rattle.std.specs.Prelude.{◌≡◌, ◌≤◌, ◌<◌, ◌+◌, ◌∷◌, [], ℕ, ◌&&◌, if◌then◌else◌, false, true, IfOk, IfErr, OnOk, OnErr};
+ghost use Rattle.std.specs.Prelude.{◌≡◌, ◌≤◌, ◌<◌, ◌+◌, ◌∷◌, [], ℕ, ◌&&◌, if◌then◌else◌, false, true, IfOk, IfErr, OnOk, OnErr, IfSome, IfNone};
 ghost use Rattle.ocr_body.specs.Behaviour.{IsNext, Ends};
 ghost use Rattle.ocr_body.specs.Checked.{checked_tree};
+ghost use Rattle.ocr_body.specs.Laws.{IsServed};
 ghost use Rattle.ocr_machine.specs.declared.entry.Entry.TheVariants as an;
 ghost use Rattle.ocr_machine.specs.History.{history_of, own};
 ghost use Rattle.ocr_machine.specs.Made.{made, is_edt, is_done, function_in, params_in};
 ghost use Rattle.ocr_machine.specs.Edts.{is_started, says_next};
+ghost use Rattle.ocr_machine.specs.Laws.{is_core};
+ghost use Rattle.ocr_machine.specs.Parts.{parts_of};
 ghost use Rattle.ocr_machine.specs.Legal.{IsLegal, IsRun, is_stop, is_creation};
 ghost use Rattle.ocr_run.specs.UnderWay.{setting_of, IsRunnable};
-ghost use Rattle.ocr_run.specs.Going.{IsHeld, IsMove, IsBefore, IsServing, IsServed};
+ghost use Rattle.ocr_run.specs.Going.{IsHeld, IsMove, IsBefore, IsServing};
 ghost use Rattle.ocr_run.specs.Serving.{GoesOn, MayStop};
 
 use crate::log::Log;
 use ocr_body::{Answer, Call, Checked};
 use ocr_guid::{Code, Guid, NoMemory};
 use ocr_list::Seq;
-use ocr_machine::{Entry, Part, Stop, Table, Writes, opening, weight};
+use ocr_machine::{Core, Entry, Part, Stop, Table, Writes, opening, weight};
 use std::alloc::Global;
 
 /// How many objects a run may make.
@@ -66,7 +69,19 @@ impl<'a> Going<'a> {
         requires { GoesOn self.now }
         ensures { result ≡ is_edt (history_of self.now.log.entries.items) edt }
     {
-        matches!(self.table.core(edt.0), Some(Part::Core(_)))
+        self.core(edt).is_some()
+    }
+
+    // The core of an EDT, where the number names one.
+    fn core(&self, edt: Guid) -> Option<&Core>
+        requires { GoesOn self.now }
+        ensures some { IfSome result (λ core. (parts_of (setting_of (checked_tree self.now.program.now)) (history_of self.now.log.entries.items)).core edt ≡ Part.Core core.now) }
+        ensures none { IfNone result (is_edt (history_of self.now.log.entries.items) edt ≡ false) }
+    {
+        let Some(part) = self.table.core(edt.0) else {
+            return None
+        };
+        core_in(part)
     }
 
     /// The function of an EDT, and its parameters.
@@ -76,7 +91,7 @@ impl<'a> Going<'a> {
         ensures function { IfOk result (λ b. b.0 ≡ function_in (made (setting_of (checked_tree self.now.program.now)) (history_of self.now.log.entries.items) edt)) }
         ensures params { IfOk result (λ b. b.1.items ≡ params_in (made (setting_of (checked_tree self.now.program.now)) (history_of self.now.log.entries.items) edt)) }
     {
-        let Some(Part::Core(core)) = self.table.core(edt.0) else {
+        let Some(core) = self.core(edt) else {
             unreachable!()
         };
         match Vec::from_slice(alloc, core.params.as_slice()) {
@@ -147,9 +162,10 @@ impl<'a> Going<'a> {
         let Ok(call) = copied(alloc, call) else {
             return Err(Stop::Memory)
         };
+        let value = number_of_new(makes, self.made);
         let answer = Answer {
             code,
-            value: number_of_new(makes, self.made),
+            value,
             scope: Guid::NULL,
             output: Guid::NULL,
         };
@@ -217,6 +233,17 @@ impl<'a> Going<'a> {
         }
         self.pass(alloc, Entry::End { edt, returned })?;
         Ok(())
+    }
+}
+
+// The core that a part is.
+fn core_in(part: &Part) -> Option<&Core>
+    ensures some { IfSome result (λ core. part.now ≡ Part.Core core.now) }
+    ensures none { IfNone result (is_core part.now ≡ false) }
+{
+    match part {
+        Part::Core(core) => Some(core),
+        Part::Vacant | Part::Edt(_) | Part::Block(_) | Part::Template(_) => None,
     }
 }
 

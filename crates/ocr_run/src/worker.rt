@@ -1,5 +1,5 @@
 // The one worker.
-ghost use Rattle.std.specs.Prelude.{◌≡◌, ◌⊎◌, ◌+◌, ◌++◌, ◌∷◌, [], true, None, OnOk, IfErr, IfOk};
+ghost use Rattle.std.specs.Prelude.{◌≡◌, ◌==◌, if◌then◌else◌, ◌⊎◌, ◌+◌, ◌++◌, ◌∷◌, [], true, None, OnOk, IfErr, IfOk};
 ghost use Rattle.ocr_body.specs.Behaviour.{Ends, Stops};
 ghost use Rattle.ocr_body.specs.Checked.{checked_tree};
 ghost use Rattle.ocr_body.specs.Laws.{IsSaid};
@@ -142,7 +142,6 @@ fn run_body(desk: &mut Desk, edt: Guid) -> Result<Guid, Stop>
     };
     desk.edt = edt;
     let payloads = [ARGUMENTS];
-    let slots = if edt == MAIN_EDT { 1 } else { 0 }; // no other EDT has a slot
     let program = desk.going.program;
     let alloc = desk.alloc;
     let ending = walk(
@@ -150,17 +149,24 @@ fn run_body(desk: &mut Desk, edt: Guid) -> Result<Guid, Stop>
         program,
         function,
         &params,
-        &payloads[..slots],
+        &payloads[..slots_of(edt)],
         FUEL,
         desk,
     );
-    if let Some(stop) = desk.stop {
-        return Err(stop);
+    match desk.stop {
+        Some(stop) => Err(stop),
+        None => match ending {
+            Ok(returned) => Ok(returned),
+            Err(stop) => Err(stop_of(edt, stop)),
+        },
     }
-    match ending {
-        Ok(returned) => Ok(returned),
-        Err(stop) => Err(stop_of(edt, stop)),
-    }
+}
+
+// How many slots an EDT has. Only the first one has a slot.
+fn slots_of(edt: Guid) -> usize
+    ensures { result ≡ (if edt == 2 then 1 else 0) }
+{
+    if edt == MAIN_EDT { 1 } else { 0 }
 }
 
 // The stop of a run where the body of the EDT stopped so.
