@@ -1,16 +1,12 @@
 -- A run by one worker that goes on by one entry, or is stopped.
-use Rattle.std.proofs.Common.{◌≡◌, ◌≢◌, ◌⊎◌, inl, inr, ℕ, zero, suc, ◌+◌, ◌<◌, ◌≤◌, List, [], ◌∷◌, ◌++◌, length, Bool, true, false, ◌||◌, ◌&&◌, not, ◌==◌, if◌then◌else◌, Option, Some, None, is_some, refl, sym, ◌∙◌, ap, subst, arith, rules}
+use Rattle.std.proofs.Common.{◌≡◌, ◌⊎◌, inl, inr, ℕ, zero, suc, ◌+◌, ◌<◌, ◌≤◌, List, [], ◌∷◌, ◌++◌, length, Bool, true, false, ◌||◌, ◌&&◌, not, ◌==◌, if◌then◌else◌, Option, Some, None, is_some, refl, sym, ◌∙◌, ap, subst, arith}
 use Rattle.std.specs.List.{filter, range_with_len}
 use Rattle.std.proofs.lemmas.Grind.{common_steps}
 use Rattle.std.proofs.lemmas.Bool.{eqb-true}
 use Rattle.std.proofs.lemmas.List.{reverse-append}
-use Rattle.ocr_acquire.specs.declared.Mode.{Mode}
-use Rattle.ocr_acquire.specs.declared.Mode.TheVariants as mode
 use Rattle.ocr_guid.specs.declared.Code.TheVariants as code
 use Rattle.ocr_slots.specs.Slots as slot
 use Rattle.ocr_datablock.specs.Block as block
-use Rattle.ocr_edt.specs.declared.Edt.{Edt}
-use Rattle.ocr_edt.specs.declared.Edt.TheVariants as phase
 use Rattle.ocr_edt.specs.Edt as edt
 use Rattle.ocr_body.specs.Tree.{FunctionTree}
 use Rattle.ocr_body.specs.Behaviour.{Behaviour, Ends, Stops, Asks, NotBuilt, IsNext}
@@ -24,33 +20,27 @@ use Rattle.ocr_body.specs.declared.call.BodyStop.{BodyStop}
 use Rattle.ocr_body.specs.declared.call.BodyStop.TheVariants as stop
 use Rattle.ocr_machine.specs.declared.entry.Entry.{Entry}
 use Rattle.ocr_machine.specs.declared.entry.Entry.TheVariants.{Call, Deliver, Acquire, Wait, StaleAcquire, Start, Free, End, Stop}
-use Rattle.ocr_machine.specs.declared.entry.Stop as run
 use Rattle.ocr_machine.specs.declared.entry.Stop.TheVariants as by
 use Rattle.ocr_machine.specs.declared.part.Part.{Part}
 use Rattle.ocr_machine.specs.declared.part.Part.TheVariants as part
 use Rattle.ocr_machine.specs.History.{History, Setting, history_of, is_stopped, own}
-use Rattle.ocr_machine.specs.Made.{Made, MadeBlock, MadeTemplate, MadeEdt, made, makes, edt_from, is_edt, is_done, made_edts}
+use Rattle.ocr_machine.specs.Made.{Made, MadeBlock, MadeTemplate, MadeEdt, made, makes, edt_from, is_edt, is_done}
 use Rattle.ocr_machine.specs.Calls.{slot_calls, block_calls, edt_calls}
-use Rattle.ocr_machine.specs.Edts.{is_started, is_ended, IsRunning, says_next, body_of}
-use Rattle.ocr_machine.specs.Parts.{Parts, parts_of, face, core}
+use Rattle.ocr_machine.specs.Edts.{IsRunning, says_next, body_of}
+use Rattle.ocr_machine.specs.Parts.{parts_of, face, core}
 use Rattle.ocr_machine.specs.Table.{is_within}
 use Rattle.ocr_machine.specs.Whole.{all_parts}
 use Rattle.ocr_machine.specs.Codes.{code_of}
-use Rattle.ocr_machine.specs.Effects.{changed, with_edt, dropped_edt, next_on}
-use Rattle.ocr_machine.specs.LegalOn.{is_running, is_running_edt, holds_in, edt_holds, IsNamed, IsAnswered}
-use Rattle.ocr_machine.specs.Legal.{IsRun, IsLegal, IsQuiet, IsAtEnd, IsCreating, is_stop, is_creation}
+use Rattle.ocr_machine.specs.Effects.{changed}
+use Rattle.ocr_machine.specs.LegalOn.{is_running, IsNamed, IsAnswered}
+use Rattle.ocr_machine.specs.Legal.{IsRun, IsLegal, IsCreating, is_stop, is_creation}
 use Rattle.ocr_machine.specs.New.{is_template}
 use Rattle.ocr_machine.specs.Footprint.{weight, weight_of}
-use Rattle.ocr_machine.specs.Output.{left_edts}
 use Rattle.ocr_machine.proofs.After.{after}
-use Rattle.ocr_machine.proofs.Told.{known, told_law, fresh_law, template_named, done_code, has_started, has_ended}
-use Rattle.ocr_machine.proofs.Present.{present, other_next, plain_holds}
-use Rattle.ocr_machine.proofs.Going.{wake_law, free_law, open_law, quiet_of}
-use Rattle.ocr_run.specs.declared.ending.Ending.TheVariants as ending
-use Rattle.ocr_run.specs.Lines.{end_of}
-use Rattle.ocr_run.specs.UnderWay.{setting_of, IsRunnable, IsMet, shut_down, aborted, faulted, out_of_memory, limited}
-use Rattle.ocr_run.specs.Limits.{share, object_count, free_numbers, IsLimited}
-use Rattle.ocr_run.specs.Going.{IsOfProgram, IsGoing, IsHeld, IsStoppable, IsBefore, IsServing, IsMove, stop_for}
+use Rattle.ocr_machine.proofs.Told.{told_law, template_named, done_code}
+use Rattle.ocr_run.specs.UnderWay.{setting_of, IsRunnable, shut_down, aborted, faulted, out_of_memory, limited}
+use Rattle.ocr_run.specs.Limits.{share, object_count, free_numbers}
+use Rattle.ocr_run.specs.Going.{IsOfProgram, IsGoing, IsHeld, IsStoppable, IsServing, IsMove, stop_for}
 
 -- an entry at the end of a journal is the newest of its history
 pub history_more : (journal : List Entry) (e : Entry) (later : List Entry) → later ≡ journal ++ e ∷ [] → history_of later ≡ e ∷ history_of journal

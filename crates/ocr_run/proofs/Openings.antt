@@ -1,9 +1,10 @@
 -- The run before its first entry, and what its parts tell.
-use Rattle.std.proofs.Common.{◌≡◌, ℕ, ◌+◌, ◌<◌, ◌≤◌, List, [], ◌∷◌, length, Bool, true, false, ◌||◌, ◌==◌, if◌then◌else◌, Option, Some, None, is_some, refl, sym, ◌∙◌, ap, subst, arith, rules}
+use Rattle.std.proofs.Common.{◌≡◌, ℕ, ◌+◌, ◌<◌, ◌≤◌, List, [], ◌∷◌, length, true, false, ◌||◌, ◌==◌, if◌then◌else◌, Option, Some, None, is_some, refl, sym, ◌∙◌, ap, subst, arith}
 use Rattle.std.specs.List.{All}
 use Rattle.std.proofs.lemmas.Grind.{common_steps}
 use Rattle.std.proofs.lemmas.Bool.{eqb-true}
-use Rattle.std.specs.Prelude.{bytes_eq, codes}
+use Rattle.std.proofs.lemmas.List.Elements.{All-cons}
+use Rattle.std.specs.Prelude.{bytes_eq, codes, IfSome, IfNone}
 use Rattle.ocr_edt.specs.Edt as edt
 use Rattle.ocr_body.specs.Tree.{FunctionTree}
 use Rattle.ocr_body.specs.Serving.{number_named, number_of_main}
@@ -20,7 +21,7 @@ use Rattle.ocr_machine.specs.Laws.{is_core}
 use Rattle.ocr_machine.proofs.Told.{known}
 use Rattle.ocr_machine.proofs.Wholes.{all_keys}
 use Rattle.ocr_run.specs.UnderWay.{setting_of, IsRunnable}
-use Rattle.ocr_run.specs.Going.{IsOfProgram, IsGoing, IsHeld}
+use Rattle.ocr_run.specs.Going.{IsOfProgram, IsGoing, IsHeld, IsBefore}
 
 -- THE FIRST PARTS
 look_none : (ps : List (ℕ × Part)) (n : ℕ) → has ps n ≡ false → look ps n ≡ part.Vacant
@@ -43,9 +44,15 @@ first_parts limit old new ps empty is = λ i. record {
   core = λ t. if is_within limit t then as_core (first_at old new ps (limit + t) (empty (limit + t)) (is (limit + t)) i) else part.Vacant;
 }
 
+three_small : (limit : ℕ) → 2 ≤ limit → All (λ n. n ≤ limit + limit) (1 ∷ 2 ∷ (limit + 2) ∷ [])
+three_small limit enough =
+    let P : ℕ → Type 0 = λ n. n ≤ limit + limit in
+    All-cons P 1 (2 ∷ (limit + 2) ∷ []) (omega (arith, enough)) (All-cons P 2 ((limit + 2) ∷ []) (omega (arith, enough))
+    (All-cons P (limit + 2) [] (omega (arith, enough)) (λ k d below. absurd (omega (arith, below)))))
+
 pub first_small : (limit : ℕ) (ps : List (ℕ × Part)) → 2 ≤ limit → keys ps ≡ 1 ∷ 2 ∷ (limit + 2) ∷ [] → All (λ (p : ℕ × Part). p.0 ≤ limit + limit) ps
 first_small limit ps enough is =
-    all_keys (limit + limit) ps (subst (λ (ns : List ℕ). All (λ n. n ≤ limit + limit) ns) (sym is) (omega (arith, enough), omega (arith, enough), omega (arith, enough), tt))
+    all_keys (limit + limit) ps (subst (λ (ns : List ℕ). All (λ n. n ≤ limit + limit) ns) (sym is) (three_small limit enough))
 
 -- THE FIRST OBJECTS
 choose : (n k : ℕ) (P : Type 0) → ((n == k) ≡ true → P) → ((n == k) ≡ false → P) → P
@@ -111,3 +118,38 @@ core_made (Some (MadeEdt f ps n)) t calls c is =
 pub body_of_core : (program : List FunctionTree) (past : History) (t : ℕ) (c : Core) → (parts_of (setting_of program) past).core t ≡ part.Core c
     → (c.function ≡ function_in (made (setting_of program) past t)) × (c.params ≡ params_in (made (setting_of program) past t))
 body_of_core program past t c is = core_made (made (setting_of program) past t) t (edt_calls (setting_of program) past t) c is
+
+as_core_none : (x : Part) → is_core x ≡ false → is_core (as_core x) ≡ false
+as_core_none part.Vacant is = refl
+as_core_none (part.Edt slots) is = refl
+as_core_none (part.Block st) is = refl
+as_core_none (part.Template t) is = refl
+as_core_none (part.Core c) is = is
+
+-- a part of the table that is no core tells that there is no EDT
+pub no_edt : (program : List FunctionTree) (past : History) (count limit : ℕ) (places : List Part) (total t : ℕ) (x : Part) → IsGoing program past count → IsHeld program past limit places total
+    → core_at limit places t ≡ as_core x → is_core x ≡ false → is_edt past t ≡ false
+no_edt program past count limit places total t x g held is none = sym (core_known program past count limit places total t (as_core x) g held is).0 ∙ as_core_none x none
+
+pub some_map : {T : Type 0} (r : Option T) (P Q : T → Type 0) → IfSome r P → ((x : T) → P x → Q x) → IfSome r Q
+some_map None P Q is step = tt
+some_map (Some x) P Q is step = step x is
+
+pub none_map : {T : Type 0} (r : Option T) (P Q : Type 0) → IfNone r P → (P → Q) → IfNone r Q
+none_map None P Q is step = step is
+none_map (Some x) P Q is step = tt
+
+pub edt_is : (program : List FunctionTree) (past : History) (count t : ℕ) (c : Core) → IsGoing program past count → (parts_of (setting_of program) past).core t ≡ part.Core c → is_edt past t ≡ true
+edt_is program past count t c g is = sym (known (setting_of program) past t g.run).made ∙ ap is_core is
+
+-- the first turn
+no_edt_below : (u : ℕ) → u < 2 → (u == 2) ≡ true → ⊥
+no_edt_below u less is = let same : u ≡ 2 = eqb-true u 2 is in omega (arith, same, less)
+
+pub first_turn : (past : History) → past ≡ [] → IsBefore past 2
+first_turn past is = subst (λ (h : History). IsBefore h 2) (sym is) (record {
+  from_two = omega arith;
+  ended = λ u less there. absurd (no_edt_below u less there);
+  later = λ u high. refl;
+  first = λ _. refl;
+})

@@ -1,35 +1,32 @@
 -- A call of the EDT that runs, and its body.
-use Rattle.std.proofs.Common.{◌≡◌, ◌⊎◌, inl, inr, ℕ, zero, suc, ◌+◌, ◌<◌, ◌≤◌, List, [], ◌∷◌, length, take, Bool, true, false, ◌&&◌, ◌==◌, if◌then◌else◌, Option, Some, None, is_some, refl, sym, ◌∙◌, ap, subst, arith, rules}
-use Rattle.std.proofs.lemmas.Grind.{common_steps}
+use Rattle.std.proofs.Common.{◌≡◌, ◌⊎◌, inl, inr, ℕ, ◌+◌, ◌<◌, ◌≤◌, List, [], ◌∷◌, length, take, Bool, true, false, ◌&&◌, ◌==◌, if◌then◌else◌, Option, Some, None, refl, sym, ◌∙◌, ap, subst, arith, rules}
 use Rattle.std.proofs.lemmas.Bool.{eqb-true}
 use Rattle.ocr_guid.specs.declared.Code.{Code}
-use Rattle.ocr_guid.specs.declared.Code.TheVariants as code
 use Rattle.ocr_edt.specs.Edt as edt
 use Rattle.ocr_body.specs.Tree.{FunctionTree}
-use Rattle.ocr_body.specs.Behaviour.{Behaviour, Ends, Stops, IsNext, Asked}
-use Rattle.ocr_body.specs.Laws.{IsSaid, IsServed}
+use Rattle.ocr_body.specs.Behaviour.{Behaviour, IsNext}
+use Rattle.ocr_body.specs.Laws.{IsSaid}
 use Rattle.ocr_body.specs.Serving.{Body, says, StoppedBy, Rose}
 use Rattle.ocr_body.specs.declared.call.Call as body
 use Rattle.ocr_body.specs.declared.call.Answer.{Answer}
 use Rattle.ocr_body.specs.declared.call.BodyStop.{BodyStop}
 use Rattle.ocr_body.specs.declared.call.BodyStop.TheVariants as stop
-use Rattle.ocr_machine.specs.declared.entry.Entry.{Entry}
 use Rattle.ocr_machine.specs.declared.entry.Entry.TheVariants.{Call}
 use Rattle.ocr_machine.specs.declared.entry.Stop.TheVariants as by
 use Rattle.ocr_machine.specs.declared.part.Part.{Part}
 use Rattle.ocr_machine.specs.declared.part.Part.TheVariants as part
-use Rattle.ocr_machine.specs.History.{History, Setting, is_stopped, own}
+use Rattle.ocr_machine.specs.History.{History, Setting, own}
 use Rattle.ocr_machine.specs.Made.{Made, MadeBlock, MadeTemplate, MadeEdt, made, is_edt, is_done, function_in, params_in}
 use Rattle.ocr_machine.specs.Calls.{edt_calls, payloads_of}
 use Rattle.ocr_machine.specs.Edts.{IsRunning, says_next, body_of}
-use Rattle.ocr_machine.specs.Parts.{Parts, parts_of, core}
+use Rattle.ocr_machine.specs.Parts.{parts_of, core}
 use Rattle.ocr_machine.specs.Codes.{code_of}
 use Rattle.ocr_machine.specs.LegalOn.{is_running}
 use Rattle.ocr_machine.specs.Legal.{IsRun, IsLegal, is_creation}
 use Rattle.ocr_machine.specs.Laws.{is_core}
 use Rattle.ocr_machine.specs.Footprint.{weight}
 use Rattle.ocr_machine.proofs.Told.{known, told_law, body_law, done_code}
-use Rattle.ocr_run.specs.UnderWay.{setting_of, IsRunnable}
+use Rattle.ocr_run.specs.UnderWay.{setting_of}
 use Rattle.ocr_run.specs.Limits.{share}
 use Rattle.ocr_run.specs.Going.{IsOfProgram, IsGoing, IsHeld, IsServing, IsStoppable, stop_for}
 use Rattle.ocr_run.proofs.Goings.{IsAnswerOf, going_call, legal_call, serving_call, asks_served, objects_stop, memory_stop, said_stop, of_built, stop_cause, stop_next}
@@ -140,3 +137,7 @@ pub body_cause : (program : List FunctionTree) (past : History) (count t : ℕ) 
 body_cause program past count t e b g is stopped =
     let s = setting_of program in
     stop_cause (length program) (says_next s past t) e (of_built program past t g.runnable) (subst (λ (k : Body). StoppedBy (says k (own past t)) (Rose 0 0) e) is stopped)
+
+-- the count of closings stood still
+pub unrisen : (now : Behaviour) (a b : ℕ) (e : BodyStop) → a ≡ 0 → b ≡ 0 → StoppedBy now (Rose a b) e → StoppedBy now (Rose 0 0) e
+unrisen now a b e one two is = subst (λ (k : ℕ). StoppedBy now (Rose 0 k) e) two (subst (λ (k : ℕ). StoppedBy now (Rose k b) e) one is)

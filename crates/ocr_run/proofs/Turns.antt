@@ -1,10 +1,9 @@
 -- The turn of an EDT: it wakes, runs its body, and ends.
-use Rattle.std.proofs.Common.{◌≡◌, ◌≢◌, ◌⊎◌, inl, inr, ℕ, zero, suc, ◌+◌, ◌<◌, ◌≤◌, List, [], ◌∷◌, ◌++◌, length, map, Bool, true, false, ◌||◌, ◌&&◌, not, ◌==◌, if◌then◌else◌, Option, Some, None, is_some, refl, sym, ◌∙◌, ap, subst, arith, rules}
-use Rattle.std.specs.List.{filter, range_with_len}
+use Rattle.std.proofs.Common.{◌≡◌, ℕ, ◌+◌, ◌<◌, ◌≤◌, List, [], ◌∷◌, ◌++◌, length, map, Bool, true, false, ◌||◌, not, ◌==◌, if◌then◌else◌, Option, Some, None, is_some, refl, sym, ◌∙◌, ap, subst, arith, rules}
+use Rattle.std.specs.List.{filter}
 use Rattle.std.proofs.lemmas.Grind.{common_steps}
 use Rattle.std.proofs.lemmas.Bool.{eqb-true}
 use Rattle.std.proofs.lemmas.List.Elements.{filter-append}
-use Rattle.ocr_acquire.specs.declared.Mode.{Mode}
 use Rattle.ocr_acquire.specs.declared.Mode.TheVariants as mode
 use Rattle.ocr_slots.specs.declared.Slot.{Slot}
 use Rattle.ocr_slots.specs.Slots as slot
@@ -13,22 +12,21 @@ use Rattle.ocr_edt.specs.declared.Edt.{Edt}
 use Rattle.ocr_edt.specs.declared.Edt.TheVariants as phase
 use Rattle.ocr_edt.specs.Edt as edt
 use Rattle.ocr_body.specs.Tree.{FunctionTree}
-use Rattle.ocr_body.specs.Behaviour.{Behaviour, Ends}
-use Rattle.ocr_body.specs.declared.call.Call as body
+use Rattle.ocr_body.specs.Behaviour.{Ends}
 use Rattle.ocr_body.specs.declared.call.Call.TheVariants as call
 use Rattle.ocr_machine.specs.declared.entry.Entry.{Entry}
 use Rattle.ocr_machine.specs.declared.entry.Entry.TheVariants.{Call, Deliver, Acquire, Wait, StaleAcquire, Start, Free, End, Stop}
 use Rattle.ocr_machine.specs.declared.part.Part.{Part}
 use Rattle.ocr_machine.specs.declared.part.Part.TheVariants as part
-use Rattle.ocr_machine.specs.History.{History, Setting, history_of, is_stopped, own}
+use Rattle.ocr_machine.specs.History.{History, Setting, is_stopped, own}
 use Rattle.ocr_machine.specs.Made.{Made, MadeBlock, MadeTemplate, MadeEdt, made, makes, is_edt, is_done, made_edts, depc_in}
-use Rattle.ocr_machine.specs.Calls.{slot_calls, block_calls, edt_calls, payloads_of, payload_of, payload_or_null, depc_of}
-use Rattle.ocr_machine.specs.Edts.{is_started, is_ended, IsRunning, says_next}
+use Rattle.ocr_machine.specs.Calls.{slot_calls, block_calls, edt_calls, payloads_of, payload_or_null}
+use Rattle.ocr_machine.specs.Edts.{is_started, is_ended, says_next}
 use Rattle.ocr_machine.specs.Parts.{Parts, parts_of, face, core}
 use Rattle.ocr_machine.specs.Table.{is_within}
-use Rattle.ocr_machine.specs.Effects.{changed, with_edt, dropped_edt, next_on}
+use Rattle.ocr_machine.specs.Effects.{changed, with_edt, dropped_edt}
 use Rattle.ocr_machine.specs.LegalOn.{is_running, is_running_edt, holds_in, edt_holds}
-use Rattle.ocr_machine.specs.Legal.{IsRun, IsLegal, IsQuiet, IsAtEnd}
+use Rattle.ocr_machine.specs.Legal.{IsRun, IsLegal, IsQuiet}
 use Rattle.ocr_machine.specs.Laws.{is_core}
 use Rattle.ocr_machine.specs.Output.{left_edts}
 use Rattle.ocr_machine.proofs.After.{after}
@@ -326,7 +324,7 @@ all_over program past count g before =
     let ended : (u : ℕ) → is_edt past u ≡ true → is_ended past u ≡ true = all_ended program past count g before in (
       quiet_of s past g.run g.open_run ended,
       end_quiet past g.open_run
-      ∙ ap (λ (us : List ℕ). ending.Quiet (length us)) (none_left (λ t. not (is_started past t)) past (λ u is. ap not (started_of_ended s past u g.run (ended u is)))),
+          ∙ ap (λ (us : List ℕ). ending.Quiet (length us)) (none_left (λ t. not (is_started past t)) past (λ u is. ap not (started_of_ended s past u g.run (ended u is)))),
     )
 
 -- WHAT THE BODY GETS

@@ -1,5 +1,5 @@
 -- A run by one worker that goes on: it runs each EDT to its end, in the order in which they were made.
-use Rattle.std.specs.Prelude.{◌≡◌, ◌≤◌, ◌<◌, ℕ, List, [], ◌∷◌, length, Bool, true, false, ◌==◌, Option, Some, None, is_some}
+use Rattle.std.specs.Prelude.{◌≡◌, ◌≤◌, ◌<◌, ℕ, List, [], ◌∷◌, length, true, false, Option, Some, None, is_some}
 use Rattle.ocr_acquire.specs.declared.Mode.TheVariants as mode
 use Rattle.ocr_body.specs.Tree.{FunctionTree}
 use Rattle.ocr_machine.specs.declared.entry.Entry.{Entry}
@@ -10,7 +10,7 @@ use Rattle.ocr_machine.specs.declared.entry.Fault.TheVariants as kind
 use Rattle.ocr_machine.specs.declared.entry.Stop as run
 use Rattle.ocr_machine.specs.declared.entry.Stop.TheVariants as by
 use Rattle.ocr_machine.specs.declared.part.Part.{Part}
-use Rattle.ocr_machine.specs.History.{History, Setting, is_stopped, own}
+use Rattle.ocr_machine.specs.History.{History, Setting, is_stopped}
 use Rattle.ocr_machine.specs.Made.{Made, MadeBlock, MadeTemplate, MadeEdt, made, is_edt}
 use Rattle.ocr_machine.specs.Edts.{is_started, is_ended, IsRunning}
 use Rattle.ocr_machine.specs.Parts.{parts_of}

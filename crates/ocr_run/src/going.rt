@@ -69,7 +69,10 @@ impl<'a> Going<'a> {
         requires { GoesOn self.now }
         ensures { result ≡ is_edt (history_of self.now.log.entries.items) edt }
     {
-        self.core(edt).is_some()
+        match self.core(edt) {
+            Some(_) => true,
+            None => false,
+        }
     }
 
     // The core of an EDT, where the number names one.
@@ -78,7 +81,7 @@ impl<'a> Going<'a> {
         ensures some { IfSome result (λ core. (parts_of (setting_of (checked_tree self.now.program.now)) (history_of self.now.log.entries.items)).core edt ≡ Part.Core core.now) }
         ensures none { IfNone result (is_edt (history_of self.now.log.entries.items) edt ≡ false) }
     {
-        let Some(part) = self.table.core(edt.0) else {
+        let Some(part) = self.table.core(number_of(edt)) else {
             return None
         };
         core_in(part)
@@ -163,24 +166,9 @@ impl<'a> Going<'a> {
             return Err(Stop::Memory)
         };
         let value = number_of_new(makes, self.made);
-        let answer = Answer {
-            code,
-            value,
-            scope: Guid::NULL,
-            output: Guid::NULL,
-        };
-        self.enter(
-            alloc,
-            Entry::Call {
-                edt,
-                home: Guid::NULL,
-                call,
-                answer,
-                writes: Writes::none(alloc),
-            },
-        )?;
+        self.enter(alloc, call_entry(alloc, edt, call, answer_of(code, value)))?;
         self.made = count_after(makes, self.made);
-        Ok(answer)
+        Ok(answer_of(code, value))
     }
 
     /// An EDT acquires what it needs and starts. The first one needs the argument block.
@@ -234,6 +222,12 @@ impl<'a> Going<'a> {
         self.pass(alloc, Entry::End { edt, returned })?;
         Ok(())
     }
+}
+
+fn number_of(guid: Guid) -> u64
+    ensures { result ≡ guid }
+{
+    guid.0
 }
 
 // The core that a part is.
@@ -306,6 +300,31 @@ fn count_after(makes: bool, made: u64) -> u64
     ensures { result ≡ (if makes then made + 1 else made) }
 {
     if makes { made + 1 } else { made }
+}
+
+// An answer with this code and this value.
+fn answer_of(code: Code, value: u64) -> Answer
+    ensures { result ≡ record { code = code; value = value; scope = 0; output = 0 } }
+{
+    Answer {
+        code,
+        value,
+        scope: Guid::NULL,
+        output: Guid::NULL,
+    }
+}
+
+// The entry of a call.
+fn call_entry(alloc: Global, edt: Guid, call: Call, answer: Answer) -> Entry
+    ensures { result ≡ an.Call edt 0 call answer [] }
+{
+    Entry::Call {
+        edt,
+        home: Guid::NULL,
+        call,
+        answer,
+        writes: Writes::none(alloc),
+    }
 }
 
 // A copy of a call that is built.

@@ -77,11 +77,17 @@ fn stopped(log: Log, stop: Stop) -> Done
     ensures journal { result.journal ≡ log.entries.items ++ Entry.Stop stop ∷ [] }
     ensures ending { result.ending ≡ Ending.Stopped stop }
 {
-    let journal = log.stopped(stop);
+    let ending = ending_by(&stop);
     Done {
-        journal,
-        ending: Ending::Stopped(stop),
+        journal: log.stopped(stop),
+        ending,
     }
+}
+
+fn ending_by(stop: &Stop) -> Ending
+    ensures { result ≡ Ending.Stopped stop.now }
+{
+    Ending::Stopped(*stop)
 }
 
 // Runs every EDT: one that is made later has a greater number.

@@ -1,12 +1,12 @@
-use Rattle.std.proofs.Common.{rules, ◌≡◌, ◌≤◌, ◌<◌, ◌+◌, ◌∷◌, arith, refl, sym, subst}
+use Rattle.std.proofs.Common.{◌≤◌, ◌<◌, ◌+◌, arith}
 use Rattle.ocr_body.specs.Checked.{checked_tree}
 use Rattle.ocr_machine.specs.History.{History, history_of}
 use Rattle.ocr_machine.specs.declared.entry.Stop.TheVariants as by
 use Rattle.ocr_machine.specs.Footprint.{weight}
 use Rattle.ocr_run.specs.UnderWay.{setting_of}
 use Rattle.ocr_run.specs.Limits.{share}
-use Rattle.ocr_run.specs.Going.{IsHeld, IsStoppable}
-use Rattle.ocr_run.proofs.Goings.{history_more, held_next, memory_stop, events_stop, more_entries, held_entered}
+use Rattle.ocr_run.specs.Going.{IsStoppable}
+use Rattle.ocr_run.proofs.Goings.{memory_stop, events_stop, more_entries, held_entered}
 use Rattle.ocr_run.proofs.going.Going.enter.Goals as goal
 
 pub returns-then-weight-self-clause-stop : goal.returns-then-weight-self-clause-stop

@@ -1,8 +1,8 @@
-use Rattle.std.proofs.Common.{rules, ◌≡◌, ◌∷◌, ◌==◌, true, false, arith, refl, sym, ◌∙◌, ap, subst}
+use Rattle.std.proofs.Common.{sym, ◌∙◌, subst}
 use Rattle.ocr_body.specs.Checked.{checked_tree}
 use Rattle.ocr_body.specs.declared.checked.Checked.{Checked}
 use Rattle.ocr_machine.specs.declared.entry.Entry.TheVariants.{End}
-use Rattle.ocr_machine.specs.History.{History, history_of}
+use Rattle.ocr_machine.specs.History.{history_of}
 use Rattle.ocr_machine.specs.Legal.{IsLegal}
 use Rattle.ocr_run.specs.UnderWay.{setting_of}
 use Rattle.ocr_run.proofs.Turns.{free_legal, end_legal, first_over, other_over, other_end_legal}

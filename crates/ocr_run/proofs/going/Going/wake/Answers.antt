@@ -1,7 +1,7 @@
-use Rattle.std.proofs.Common.{rules, ◌≡◌, ◌∷◌, ◌==◌, true, false, arith, refl, sym, ◌∙◌, ap, subst}
+use Rattle.std.proofs.Common.{sym, ◌∙◌, subst}
 use Rattle.ocr_body.specs.Checked.{checked_tree}
 use Rattle.ocr_body.specs.declared.checked.Checked.{Checked}
-use Rattle.ocr_machine.specs.History.{History, history_of}
+use Rattle.ocr_machine.specs.History.{history_of}
 use Rattle.ocr_run.specs.UnderWay.{setting_of}
 use Rattle.ocr_run.specs.Going.{IsServing}
 use Rattle.ocr_run.proofs.Turns.{acquire_legal, start_legal, first_woken, other_legal, other_woken}
