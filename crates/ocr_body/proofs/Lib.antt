@@ -6,7 +6,6 @@ pub mod Functions
 pub mod Givens
 pub mod Laws
 pub mod Names
-pub mod Plain
 pub mod Rows
 pub mod Start
 pub mod Stopped

@@ -4,7 +4,6 @@ pub mod Checked
 pub mod Code
 pub mod Constant
 pub mod Each
-pub mod FirstForm
 pub mod Laws
 pub mod Local
 pub mod Meaning

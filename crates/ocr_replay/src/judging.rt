@@ -13,7 +13,7 @@ use std::alloc::Global;
 
 const FUEL: u64 = 1_000_000;
 
-fn same_call(left: &Call, right: &Call) -> bool
+pub(crate) fn same_call(left: &Call, right: &Call) -> bool
     ensures { Whether result (left.now ≡ right.now) }
 {
     match left {
@@ -216,7 +216,7 @@ fn is_run_by(entry: &Entry, edt: Guid) -> bool
 }
 
 /// The first place from `from` on with an entry of the EDT's body.
-fn next_own(entries: &[Entry], edt: Guid, from: usize) -> Option<usize>
+pub(crate) fn next_own(entries: &[Entry], edt: Guid, from: usize) -> Option<usize>
     requires { from ≤ length entries.now }
     ensures some { IfSome result (λ at. (from ≤ at) × (at < length entries.now) × IsIdle edt entries.now from at × ((e : _) → e ≡ slice_index_or entries.now at e → runs edt e ≡ true)) }
     ensures none { IfNone result (IsIdle edt entries.now from (length entries.now)) }

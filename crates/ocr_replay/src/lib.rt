@@ -3,6 +3,8 @@
 
 mod judging;
 mod legality;
+mod replaying;
+mod telling;
 
 pub use judging::first_unsaid;
 pub use legality::is_running_at;

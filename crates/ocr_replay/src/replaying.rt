@@ -1,0 +1,178 @@
+// Goes through a journal, entry by entry.
+ghost use Rattle.std.specs.Prelude.{◌≡◌, ◌≤◌, ◌<◌, ◌+◌, ℕ, [], length, true, false, not, take, slice_set, slice_index_or, map, vec_len, IfOk};
+ghost use Rattle.ocr_body.specs.Checked.{checked_tree};
+ghost use Rattle.ocr_machine.specs.History.{own, history_of};
+ghost use Rattle.ocr_machine.specs.Legal.{is_stop};
+ghost use Rattle.ocr_machine.specs.Whole.{all_parts, face_at, core_at};
+ghost use Rattle.ocr_machine.specs.declared.part.Part.TheVariants as part;
+ghost use Rattle.ocr_replay.specs.Judging.{Whether};
+ghost use Rattle.ocr_replay.specs.Replaying.{setting_of, function_on, params_on, payloads_in, payloads_on, body_on, entry_at, IsVerdict, verdict_at, agrees, IsReplaying, IsFirstIllegal};
+
+use crate::judging::first_unsaid;
+use crate::legality::is_legal_on;
+use ocr_body::Checked;
+use ocr_guid::{Guid, NoMemory};
+use ocr_machine::{Entry, Part, Table};
+use ocr_slots::Slots;
+use std::alloc::Global;
+
+/// The payloads of slots, each NULL_GUID where it is not set.
+fn payloads(alloc: Global, slots: &Slots) -> Result<Vec<Guid>, NoMemory>
+    ensures { IfOk result (λ v. v.items ≡ payloads_in slots.now) }
+{
+    let mut payloads = Vec::new(alloc);
+    for k in 0..slots.depc() {
+        let payload = match slots.payload(k) {
+            Some(payload) => payload,
+            None => Guid::NULL,
+        };
+        if payloads.push(payload).is_err() {
+            return Err(NoMemory);
+        }
+    }
+    Ok(payloads)
+}
+
+/// The payloads of an EDT.
+fn payloads_at(alloc: Global, table: &Table, edt: u64) -> Result<Vec<Guid>, NoMemory>
+    ensures { IfOk result (λ v. v.items ≡ payloads_on (face_at table.now.limit table.now.parts.items edt)) }
+{
+    match table.face(edt) {
+        Some(Part::Edt(slots)) => payloads(alloc, slots),
+        Some(Part::Vacant) => Ok(Vec::new(alloc)),
+        Some(Part::Block(_)) => Ok(Vec::new(alloc)),
+        Some(Part::Template(_)) => Ok(Vec::new(alloc)),
+        Some(Part::Core(_)) => Ok(Vec::new(alloc)),
+        None => Ok(Vec::new(alloc)),
+    }
+}
+
+/// The function of an EDT's body.
+fn function_at(table: &Table, edt: u64) -> u32
+    ensures { result ≡ function_on (core_at table.now.limit table.now.parts.items edt) }
+{
+    match table.core(edt) {
+        Some(Part::Core(core)) => core.function,
+        Some(Part::Vacant) => 0,
+        Some(Part::Edt(_)) => 0,
+        Some(Part::Block(_)) => 0,
+        Some(Part::Template(_)) => 0,
+        None => 0,
+    }
+}
+
+/// The parameters of an EDT's body.
+fn params_at<'a>(table: &'a Table, edt: u64) -> &'a [u64]
+    ensures { result.now ≡ params_on (core_at table.now.limit table.now.parts.items edt) }
+{
+    match table.core(edt) {
+        Some(Part::Core(core)) => core.params.as_slice(),
+        Some(Part::Vacant) => &[],
+        Some(Part::Edt(_)) => &[],
+        Some(Part::Block(_)) => &[],
+        Some(Part::Template(_)) => &[],
+        None => &[],
+    }
+}
+
+/// The verdict on an EDT that has just started.
+fn judge(
+    alloc: Global,
+    program: &Checked,
+    table: &Table,
+    entries: &[Entry],
+    edt: Guid,
+    start: usize,
+) -> Result<usize, NoMemory>
+    requires within { start ≤ length entries.now }
+    requires fresh { own (history_of (take start entries.now)) edt ≡ [] }
+    ensures { IfOk result (λ at. IsVerdict (body_on (checked_tree program.now) (face_at table.now.limit table.now.parts.items edt)
+        (core_at table.now.limit table.now.parts.items edt)) edt entries.now start at) }
+{
+    let deps = payloads_at(alloc, table, edt.0)?;
+    let function = function_at(table, edt.0);
+    let params = params_at(table, edt.0);
+    match first_unsaid(alloc, program, function, params, &deps, entries, edt, start)? {
+        Some(at) => Ok(at),
+        None => Ok(entries.len()),
+    }
+}
+
+fn verdict_of(verdicts: &[usize], edt: Guid) -> usize
+    ensures { result ≡ verdict_at verdicts.now edt }
+{
+    if edt.0 < verdicts.len() as u64 {
+        return verdicts[edt.0 as usize];
+    }
+    0
+}
+
+fn set_verdict(verdicts: &mut Vec<usize>, edt: Guid, verdict: usize)
+    requires { edt < length verdicts.old.items }
+    ensures items { verdicts.new.items ≡ slice_set verdicts.old.items edt verdict }
+{
+    verdicts[edt.0 as usize] = verdict;
+}
+
+/// Whether the verdict on the entry's EDT names another place than this.
+fn agrees_at(verdicts: &[usize], entry: &Entry, place: usize) -> bool
+    ensures { result ≡ agrees verdicts.now entry.now place }
+{
+    match entry {
+        Entry::Call {
+            edt,
+            home: _,
+            call: _,
+            answer: _,
+            writes: _,
+        } => verdict_of(verdicts, *edt) != place,
+        Entry::Free {
+            edt,
+            block: _,
+            writes: _,
+        } => verdict_of(verdicts, *edt) != place,
+        Entry::End { edt, returned: _ } => verdict_of(verdicts, *edt) != place,
+        Entry::Acquire { .. } => true,
+        Entry::Start { .. } => true,
+        Entry::Stop(_) => true,
+        Entry::Deliver { .. } => true,
+        Entry::Wait { .. } => true,
+        Entry::StaleAcquire { .. } => true,
+    }
+}
+
+/// Whether the entry at this place, which is no Stop, is legal after those before it. Where it is, it is entered.
+fn go_on(
+    alloc: Global,
+    program: &Checked,
+    args: &[u64],
+    entries: &[Entry],
+    place: usize,
+    table: &mut Table,
+    verdicts: &mut Vec<usize>,
+) -> Result<bool, NoMemory>
+    requires within { place < length entries.now }
+    requires no_stop { is_stop (entry_at entries.now place) ≡ false }
+    requires room { length verdicts.old.items ≡ table.old.limit + 1 }
+    requires replaying { IsReplaying (setting_of (checked_tree program.now) args.now table.old.limit) entries.now place table.old.parts.items verdicts.old.items }
+    ensures limit { table.new.limit ≡ table.old.limit }
+    ensures room { length verdicts.new.items ≡ length verdicts.old.items }
+    ensures legal { IfOk result (λ answer. answer ≡ true
+        → IsReplaying (setting_of (checked_tree program.now) args.now table.old.limit) entries.now (place + 1) table.new.parts.items verdicts.new.items) }
+    ensures illegal { IfOk result (λ answer. answer ≡ false
+        → IsFirstIllegal (setting_of (checked_tree program.now) args.now table.old.limit) entries.now place) }
+{
+    let entry = &entries[place];
+    if !is_legal_on(alloc, table, entry)? {
+        return Ok(false);
+    }
+    if !agrees_at(verdicts, entry, place) {
+        return Ok(false);
+    }
+    table.enter(alloc, entry)?;
+    if let Entry::Start { edt } = entry {
+        let verdict = judge(alloc, program, table, entries, *edt, place + 1)?;
+        set_verdict(verdicts, *edt, verdict);
+    }
+    Ok(true)
+}
