@@ -1,5 +1,5 @@
 -- A replay goes on by an entry, or stops at it.
-use Rattle.std.proofs.Common.{◌≡◌, ◌⊎◌, inl, inr, ℕ, ◌+◌, ◌<◌, ◌≤◌, List, [], ◌∷◌, map, take, length, slice_index_or, slice_set, Bool, true, false, not, ◌==◌, ◌||◌, if◌then◌else◌, Option, Some, None, is_some, arith, refl, sym, ◌∙◌, ap, subst, rules}
+use Rattle.std.proofs.Common.{zero, suc, ◌≡◌, ◌⊎◌, inl, inr, ℕ, ◌+◌, ◌<◌, ◌≤◌, List, [], ◌∷◌, map, take, length, slice_index_or, slice_set, Bool, true, false, not, ◌==◌, ◌||◌, ◌&&◌, if◌then◌else◌, Option, Some, None, is_some, arith, refl, sym, ◌∙◌, ap, subst, rules}
 use Rattle.std.proofs.lemmas.Grind.{common_steps}
 use Rattle.std.proofs.lemmas.Bool.{eqb-true}
 use Rattle.ocr_slots.specs.Slots as slot
@@ -15,19 +15,22 @@ use Rattle.ocr_machine.specs.declared.part.Part.TheVariants as part
 use Rattle.ocr_machine.specs.History.{History, Setting, history_of, is_stopped, own}
 use Rattle.ocr_machine.specs.Made.{Made, MadeBlock, MadeTemplate, MadeEdt, made, is_edt, depc_in, function_in, params_in}
 use Rattle.ocr_machine.specs.Calls.{slot_calls, block_calls, edt_calls, payload_or_null}
-use Rattle.ocr_machine.specs.Edts.{is_started, body_of, says_next}
+use Rattle.ocr_machine.specs.Edts.{is_started, IsRunning, body_of, says_next}
 use Rattle.ocr_machine.specs.Parts.{Parts, parts_of, face, core}
 use Rattle.ocr_machine.specs.Effects.{changed, plan_in, core_progress}
 use Rattle.ocr_machine.specs.LegalOn.{is_running, is_lent, IsStartOn, IsLegalOn}
-use Rattle.ocr_machine.specs.Table.{is_within}
-use Rattle.ocr_machine.specs.Legal.{IsRun, IsLegal, IsSaid, IsStopping, is_stop}
-use Rattle.ocr_machine.specs.Whole.{all_parts, face_at, core_at}
+use Rattle.ocr_machine.specs.Table.{keys, is_within, look, has, as_face, as_core, parts_in}
+use Rattle.ocr_machine.specs.Legal.{IsRun, IsLegal, IsStop, is_stop}
+use Rattle.ocr_machine.specs.declared.entry.Stop as run
+use Rattle.ocr_machine.specs.Whole.{part_at, all_parts, face_at, core_at}
+use Rattle.std.specs.List.{All}
+use Rattle.ocr_machine.proofs.Wholes.{all_keys}
 use Rattle.ocr_machine.proofs.After.{after}
 use Rattle.ocr_machine.proofs.Told.{known, told_law, body_law, fresh_law, begins}
 use Rattle.ocr_machine.proofs.Present.{IsPresent, IsBare, present}
 use Rattle.ocr_replay.specs.Judging.{runs, IsSaidNow, IsSaidIn, IsUnsaid, at_place, body_with}
-use Rattle.ocr_replay.specs.Replaying.{setting_of, function_on, params_on, payloads_on, body_on, IsVerdict, verdict_at, agrees, IsReplaying, IsFirstIllegal}
-use Rattle.ocr_replay.proofs.Steps.{history_next, same_item}
+use Rattle.ocr_replay.specs.Replaying.{setting_of, function_on, params_on, payloads_on, body_on, IsVerdict, verdict_at, agrees, is_undecided, stop_agrees, IsReplaying, IsFirstIllegal}
+use Rattle.ocr_replay.proofs.Steps.{history_next, item, item_is}
 
 -- NO BLOCK is on loan
 bare_unlent : (x : Part) → IsBare x → is_lent x ≡ false
@@ -247,3 +250,109 @@ start_within limit ps u legal = elim (is_within limit u) as (λ b. is_within lim
   | true ↦ λ within. grind (arith, common_steps)
   | false ↦ λ off. let none : is_some (core_progress (plan_in (face_at limit ps u)) (core_at limit ps u)) ≡ false = rw off refl in cc (none, legal.acquiring)
 ] refl
+
+-- A STOP
+after_true : (a b : Bool) → (a && b) ≡ false → a ≡ true → b ≡ false
+after_true true b off on = off
+after_true false b off on = cc
+
+both_true : (a b : Bool) → (a && b) ≡ true → (a ≡ true) × (b ≡ true)
+both_true true b is = (refl, is)
+both_true false b is = cc
+
+pub stop_illegal : (s : Setting) (xs : List Entry) (n : ℕ) (ps : List Part) (vs : List ℕ) (t : ℕ) (e : Entry) → IsReplaying s xs n ps vs → n < length xs → e ≡ slice_index_or xs n e
+    → (is_running (core_at s.limit ps t) && not (verdict_at vs t == n)) ≡ false → runs t e ≡ true
+    → (IsLegal s (history_of (take n xs)) e → IsRunning (history_of (take n xs)) t) → IsFirstIllegal s xs n
+stop_illegal s xs n ps vs t e so_far below is off mine running =
+    illegal_at s xs n ps vs e so_far below is (λ legal.
+    let on : is_running (core_at s.limit ps t) ≡ true =
+    ap (λ (f : Parts). is_running (f.core t)) so_far.parts_are ∙ (told_law s (history_of (take n xs)) t so_far.run).running.1 (running legal) in
+    verdict_unsaid s xs n ps vs t e so_far below is on (after_true _ _ off on) (legal_said s (history_of (take n xs)) e t legal mine))
+
+pub stop_legal : (s : Setting) (xs : List Entry) (n : ℕ) (ps : List Part) (vs : List ℕ) (t : ℕ) (e : Entry) → IsReplaying s xs n ps vs → n < length xs → e ≡ slice_index_or xs n e
+    → (is_running (core_at s.limit ps t) && not (verdict_at vs t == n)) ≡ true → runs t e ≡ true → IsRunning (history_of (take n xs)) t × IsSaidNow (says_next s (history_of (take n xs)) t) e
+stop_legal s xs n ps vs t e so_far below is on mine =
+    let pair = both_true _ _ on in
+    let running : is_running ((parts_of s (history_of (take n xs))).core t) ≡ true = sym (ap (λ (f : Parts). is_running (f.core t)) so_far.parts_are) ∙ pair.0 in
+    ((told_law s (history_of (take n xs)) t so_far.run).running.0 running, verdict_said s xs n ps vs t e so_far below is pair.0 mine pair.1)
+
+pub by_stop : (s : Setting) (xs : List Entry) (n : ℕ) (ps : List Part) (vs : List ℕ) (why : run.Stop) → IsReplaying s xs n ps vs → IsStop s (history_of (take n xs)) why → IsLegal s (history_of (take n xs)) (Stop why)
+by_stop s xs n ps vs why so_far stops = record { open_run = so_far.open_run; on_parts = tt; said = tt; stopping = stops }
+
+-- after a Stop nothing is legal
+pub after_stop : (s : Setting) (xs : List Entry) (n : ℕ) (why : run.Stop) → IsRun s (history_of (take n xs)) → n + 1 < length xs → Stop why ≡ slice_index_or xs n (Stop why) → IsLegal s (history_of (take n xs)) (Stop why)
+    → IsFirstIllegal s xs (n + 1)
+after_stop s xs n why run below is legal =
+    let h : history_of (take (n + 1) xs) ≡ Stop why ∷ history_of (take n xs) = history_next xs n (Stop why) (omega (arith, below)) is in
+    let e : Entry = item xs (n + 1) below in
+    record {
+      within = below;
+      run = subst (λ (h : History). IsRun s h) (sym h) (run, legal);
+      broken = λ more.
+          let next = subst (λ (h : History). IsRun s h) (history_next xs (n + 1) e below (item_is xs (n + 1) below)) more in
+          let stopped : is_stopped (history_of (take (n + 1) xs)) ≡ true = ap is_stopped h in
+          let going : is_stopped (history_of (take (n + 1) xs)) ≡ false = next.1.open_run in
+          cc (stopped, going);
+    }
+
+pub whole_run : (s : Setting) (xs : List Entry) (n : ℕ) (why : run.Stop) → IsRun s (history_of (take n xs)) → n < length xs → length xs ≤ n + 1 → Stop why ≡ slice_index_or xs n (Stop why) → IsLegal s (history_of (take n xs)) (Stop why)
+    → IsRun s (history_of xs)
+whole_run s xs n why run below last is legal =
+    let all : take (n + 1) xs ≡ xs = grind (arith, common_steps) in
+    subst (λ (l : List Entry). IsRun s (history_of l)) all (subst (λ (h : History). IsRun s h) (sym (history_next xs n (Stop why) below is)) (run, legal))
+
+pub stop_is : (xs : List Entry) (n : ℕ) (e d : Entry) → n < length xs → slice_index_or xs n d ≡ e → e ≡ slice_index_or xs n e
+stop_is xs n e d below is = grind (arith, common_steps)
+
+-- the verdict on a Stop that is decided
+pub stop_yes : (s : Setting) (xs : List Entry) (n : ℕ) (ps : List Part) (vs : List ℕ) (why : run.Stop) → IsReplaying s xs n ps vs → n < length xs → Stop why ≡ slice_index_or xs n (Stop why)
+    → is_undecided (Stop why) ≡ false → stop_agrees s.limit ps vs why n ≡ true → IsLegal s (history_of (take n xs)) (Stop why)
+stop_yes s xs n ps vs (by.Shutdown t) so_far below is decided on = by_stop s xs n ps vs (by.Shutdown t) so_far (stop_legal s xs n ps vs t (Stop (by.Shutdown t)) so_far below is on (same t))
+stop_yes s xs n ps vs (by.Abort t code) so_far below is decided on = by_stop s xs n ps vs (by.Abort t code) so_far (stop_legal s xs n ps vs t (Stop (by.Abort t code)) so_far below is on (same t))
+stop_yes s xs n ps vs (by.Fault t why) so_far below is decided on = by_stop s xs n ps vs (by.Fault t why) so_far (stop_legal s xs n ps vs t (Stop (by.Fault t why)) so_far below is on (same t))
+stop_yes s xs n ps vs by.Memory so_far below is decided on = by_stop s xs n ps vs by.Memory so_far tt
+stop_yes s xs n ps vs by.Objects so_far below is decided on = cc
+stop_yes s xs n ps vs (by.Events w k) so_far below is decided on = cc
+
+pub stop_no : (s : Setting) (xs : List Entry) (n : ℕ) (ps : List Part) (vs : List ℕ) (why : run.Stop) → IsReplaying s xs n ps vs → n < length xs → Stop why ≡ slice_index_or xs n (Stop why)
+    → stop_agrees s.limit ps vs why n ≡ false → IsFirstIllegal s xs n
+stop_no s xs n ps vs (by.Shutdown t) so_far below is off = stop_illegal s xs n ps vs t (Stop (by.Shutdown t)) so_far below is off (same t) (λ legal. legal.stopping.0)
+stop_no s xs n ps vs (by.Abort t code) so_far below is off = stop_illegal s xs n ps vs t (Stop (by.Abort t code)) so_far below is off (same t) (λ legal. legal.stopping.0)
+stop_no s xs n ps vs (by.Fault t why) so_far below is off = stop_illegal s xs n ps vs t (Stop (by.Fault t why)) so_far below is off (same t) (λ legal. legal.stopping.0)
+stop_no s xs n ps vs by.Memory so_far below is off = cc
+stop_no s xs n ps vs by.Objects so_far below is off = cc
+stop_no s xs n ps vs (by.Events w k) so_far below is off = cc
+
+-- THE OPENING. Parts that were put into a table in which nothing is made
+look_has : (ps : List (ℕ × Part)) (n : ℕ) → (if has ps n then look ps n else part.Vacant) ≡ look ps n
+look_has [] n = refl
+look_has (p ∷ rest) n = elim (p.0 == n) as (λ b. (if b || has rest n then (if b then p.1 else look rest n) else part.Vacant) ≡ (if b then p.1 else look rest n)) [ true ↦ refl | false ↦ look_has rest n ]
+
+opened_all : (limit : ℕ) (ps : List (ℕ × Part)) (qs now : List Part) → ((n : ℕ) → part_at qs n ≡ part.Vacant) → ((n : ℕ) → part_at now n ≡ (if has ps n then look ps n else part_at qs n)) → (n : ℕ) → part_at now n ≡ look ps n
+opened_all limit ps qs now empty given n = given n ∙ rw (empty n) (look_has ps n)
+
+pub opened_whole : (limit : ℕ) (ps : List (ℕ × Part)) (qs now : List Part) → ((n : ℕ) → part_at qs n ≡ part.Vacant) → ((n : ℕ) → part_at now n ≡ (if has ps n then look ps n else part_at qs n))
+    → all_parts limit now ≡ parts_in limit ps
+opened_whole limit ps qs now empty given = λ i. record {
+  face = λ g. ap (λ (x : Part). if is_within limit g then as_face x else part.Vacant) (opened_all limit ps qs now empty given g) i;
+  core = λ t. ap (λ (x : Part). if is_within limit t then as_core x else part.Vacant) (opened_all limit ps qs now empty given (limit + t)) i;
+}
+
+pub first_replaying : (s : Setting) (xs : List Entry) (ps : List Part) (vs : List ℕ) → all_parts s.limit ps ≡ parts_of s [] → IsReplaying s xs 0 ps vs
+first_replaying s xs ps vs is = record { run = tt; open_run = refl; parts_are = is; judged = λ t started. cc started }
+
+pub last_replaying : (s : Setting) (xs : List Entry) (n : ℕ) (ps : List Part) (vs : List ℕ) → IsReplaying s xs n ps vs → length xs ≤ n → IsRun s (history_of xs)
+last_replaying s xs n ps vs so_far all = let whole : take n xs ≡ xs = grind (arith, common_steps) in subst (λ (l : List Entry). IsRun s (history_of l)) whole so_far.run
+
+three_at : (most a b c : ℕ) → a ≤ most → b ≤ most → c ≤ most → (k d : ℕ) → k < length (a ∷ b ∷ c ∷ []) → slice_index_or (a ∷ b ∷ c ∷ []) k d ≤ most
+three_at most a b c first second third zero d below = first
+three_at most a b c first second third (suc zero) d below = second
+three_at most a b c first second third (suc (suc zero)) d below = third
+three_at most a b c first second third (suc (suc (suc k))) d below = absurd (omega (arith, below))
+
+three_small : (most a b c : ℕ) → a ≤ most → b ≤ most → c ≤ most → All (λ n. n ≤ most) (a ∷ b ∷ c ∷ [])
+three_small most a b c first second third = λ k d below. three_at most a b c first second third k d below
+
+pub opening_small : (limit most : ℕ) (ps : List (ℕ × Part)) → keys ps ≡ 1 ∷ 2 ∷ (limit + 2) ∷ [] → 2 ≤ limit → most ≡ limit + limit → All (λ (p : ℕ × Part). p.0 ≤ most) ps
+opening_small limit most ps are enough is =
+    all_keys most ps (subst (All (λ n. n ≤ most)) (sym are) (three_small most 1 2 (limit + 2) (omega (arith, enough, is)) (omega (arith, enough, is)) (omega (arith, enough, is))))

@@ -37,12 +37,12 @@ true_false is = cc
 add_zero : (n : ℕ) → n + 0 ≡ n
 add_zero n = omega arith
 
-item : (xs : List Entry) (i : ℕ) → i < length xs → Entry
+pub item : (xs : List Entry) (i : ℕ) → i < length xs → Entry
 item [] i below = absurd (omega arith)
 item (x ∷ xs) zero below = x
 item (x ∷ xs) (suc i) below = item xs i (omega arith)
 
-item_is : (xs : List Entry) (i : ℕ) (below : i < length xs) → item xs i below ≡ slice_index_or xs i (item xs i below)
+pub item_is : (xs : List Entry) (i : ℕ) (below : i < length xs) → item xs i below ≡ slice_index_or xs i (item xs i below)
 unfolding item
 item_is [] i below = absurd (omega arith)
 item_is (x ∷ xs) zero below = refl
@@ -105,7 +105,7 @@ next_no_end (Stops s) c h x y = x
 next_no_end (Asks m k) c h x y = cc
 next_no_end NotBuilt c h x y = x
 
-next_no_stop : (b : Behaviour) (c : body.Call) (s : _) → IsNext c b → b ≡ Stops s → ⊥
+pub next_no_stop : (b : Behaviour) (c : body.Call) (s : _) → IsNext c b → b ≡ Stops s → ⊥
 next_no_stop (Ends g) c h x y = x
 next_no_stop (Stops s) c h x y = x
 next_no_stop (Asks m k) c h x y = cc

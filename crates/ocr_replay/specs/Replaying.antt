@@ -1,10 +1,11 @@
 -- How far a replay has come, and where it stops.
-use Rattle.std.specs.Prelude.{◌≡◌, ℕ, ◌+◌, ◌<◌, ◌≤◌, List, [], length, take, map, Bool, true, false, not, ◌==◌, slice_index_or}
+use Rattle.std.specs.Prelude.{◌≡◌, ℕ, ◌+◌, ◌<◌, ◌≤◌, List, [], length, take, map, Bool, true, false, not, ◌==◌, ◌&&◌, slice_index_or}
 use Rattle.ocr_body.specs.Serving.{Body}
 use Rattle.ocr_body.specs.Tree.{FunctionTree}
 use Rattle.ocr_slots.specs.declared.Slot.{Slot}
 use Rattle.ocr_machine.specs.declared.entry.Entry.{Entry}
 use Rattle.ocr_machine.specs.declared.entry.Entry.TheVariants.{Call, Deliver, Acquire, Wait, StaleAcquire, Start, Free, End, Stop}
+use Rattle.ocr_machine.specs.declared.entry.Stop as run
 use Rattle.ocr_machine.specs.declared.entry.Stop.TheVariants as by
 use Rattle.ocr_machine.specs.declared.part.Part.{Part}
 use Rattle.ocr_machine.specs.declared.part.Part.TheVariants as part
@@ -13,7 +14,10 @@ use Rattle.ocr_machine.specs.Calls.{payload_or_null}
 use Rattle.ocr_machine.specs.Edts.{is_started, body_of}
 use Rattle.ocr_machine.specs.Parts.{parts_of}
 use Rattle.ocr_machine.specs.Legal.{IsRun}
-use Rattle.ocr_machine.specs.Whole.{all_parts}
+use Rattle.ocr_machine.specs.Whole.{all_parts, core_at}
+use Rattle.ocr_machine.specs.LegalOn.{is_running}
+use Rattle.ocr_replay.specs.declared.replaying.ReplayStop.{ReplayStop}
+use Rattle.ocr_replay.specs.declared.replaying.ReplayStop.TheVariants as why
 use Rattle.ocr_replay.specs.Judging.{IsSaidIn, IsUnsaid, body_with}
 
 -- what the run is of
@@ -81,3 +85,28 @@ pub record IsFirstIllegal (s : Setting) (entries : List Entry) (n : ℕ) : Type 
   pub within : n < length entries
   pub run : IsRun s (history_of (take n entries))
   pub broken : IsRun s (history_of (take (n + 1) entries)) → ⊥
+
+-- a Stop on which no verdict is given yet
+abbrev pub is_undecided : Entry → Bool
+is_undecided (Stop by.Objects) = true
+is_undecided (Stop (by.Events worker weight)) = true
+is_undecided other = false
+
+-- the first n entries are a run, and the next one is such a Stop
+pub record IsUndecided (s : Setting) (entries : List Entry) (n : ℕ) : Type 0 where
+  pub within : n < length entries
+  pub run : IsRun s (history_of (take n entries))
+  pub stop : is_undecided (entry_at entries n) ≡ true
+
+-- why a replay ended before the journal's end
+abbrev pub IsStoppedAt : Setting → List Entry → ReplayStop → Type 0
+IsStoppedAt s entries (why.Illegal n) = IsFirstIllegal s entries n
+IsStoppedAt s entries (why.Undecided n) = IsUndecided s entries n
+IsStoppedAt s entries why.NoMemory = Unit {0}
+
+-- the EDT of a Stop runs, and its verdict names another place
+abbrev pub stop_agrees : ℕ → List Part → List ℕ → run.Stop → ℕ → Bool
+stop_agrees limit ps vs (by.Shutdown t) n = is_running (core_at limit ps t) && not (verdict_at vs t == n)
+stop_agrees limit ps vs (by.Abort t code) n = is_running (core_at limit ps t) && not (verdict_at vs t == n)
+stop_agrees limit ps vs (by.Fault t reason) n = is_running (core_at limit ps t) && not (verdict_at vs t == n)
+stop_agrees limit ps vs other n = true

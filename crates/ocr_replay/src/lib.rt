@@ -7,4 +7,5 @@ mod replaying;
 mod telling;
 
 pub use judging::first_unsaid;
-pub use legality::is_running_at;
+pub use legality::{is_fresh, is_legal_on, is_running_at};
+pub use replaying::{ReplayStop, replay};
