@@ -6,7 +6,7 @@ ghost use Rattle.ocr_body.specs.Laws.{IsServed};
 ghost use Rattle.ocr_machine.specs.declared.entry.Entry.TheVariants as an;
 ghost use Rattle.ocr_machine.specs.History.{history_of, own};
 ghost use Rattle.ocr_machine.specs.Made.{made, is_edt, is_done, function_in, params_in};
-ghost use Rattle.ocr_machine.specs.Edts.{is_started, says_next};
+ghost use Rattle.ocr_machine.specs.Edts.{says_next};
 ghost use Rattle.ocr_machine.specs.Laws.{is_core};
 ghost use Rattle.ocr_machine.specs.Parts.{parts_of};
 ghost use Rattle.ocr_machine.specs.Legal.{IsLegal, IsRun, is_stop, is_creation};
