@@ -5,7 +5,7 @@ use Rattle.ocr_body.specs.Built.{are_built}
 use Rattle.ocr_body.specs.Rules.{are_functions_named, are_lists_short}
 use Rattle.ocr_body.specs.Serving.{number_of_main}
 use Rattle.ocr_machine.specs.History.{History, Setting, is_stopped}
-use Rattle.ocr_machine.specs.Legal.{IsRun, IsQuiet}
+use Rattle.ocr_machine.specs.Legal.{IsQuiet}
 
 -- a program without arguments, and 4,096 objects
 abbrev pub setting_of : List FunctionTree → Setting
