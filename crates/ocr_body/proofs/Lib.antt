@@ -1,12 +1,15 @@
 pub mod Blocks
+pub mod Coded
 pub mod Codes
+pub mod Creations
 pub mod Functions
+pub mod Givens
 pub mod Laws
 pub mod Names
-pub mod Plain
 pub mod Rows
 pub mod Start
 pub mod Stopped
 pub mod Turns
 pub mod Variables
 pub mod Weight
+pub mod Words

@@ -1,13 +1,15 @@
 -- Code as the plain tree that it stands for.
-use Rattle.std.specs.Prelude.{ℕ, List, [], ◌∷◌, Bool, true, ◌&&◌, not, nat_lt, bytes_eq, map, length, slice_index_or}
+use Rattle.std.specs.Prelude.{ℕ, List, [], ◌∷◌, Bool, true, ◌&&◌, not, nat_lt, ◌==◌, ◌^◌, bytes_eq, map, length, slice_index_or}
 use Rattle.std.specs.List.{list_any}
 use Rattle.ocr_body.specs.Tree as tree
 use Rattle.ocr_body.specs.declared.tree.CallName.{CallName}
 use Rattle.ocr_body.specs.declared.tree.CallName.TheVariants as call
 use Rattle.ocr_body.specs.declared.code.Node.{Node}
 use Rattle.ocr_body.specs.declared.code.Node.TheVariants as node
-use Rattle.ocr_body.specs.declared.code.Invocation.{Invocation}
-use Rattle.ocr_body.specs.declared.code.Invocation.TheVariants as invocation
+use Rattle.ocr_body.specs.declared.code.Made.{Made}
+use Rattle.ocr_body.specs.declared.code.Made.TheVariants as made
+use Rattle.ocr_body.specs.declared.code.Args.{Args}
+use Rattle.ocr_body.specs.declared.code.Args.TheVariants as args
 use Rattle.ocr_body.specs.declared.code.Step.{Step, Row_of-Step, end_of-Step, more_of-Step}
 use Rattle.ocr_body.specs.declared.code.Step.TheVariants as step
 use Rattle.ocr_body.specs.declared.code.FunctionCode.{FunctionCode}
@@ -16,9 +18,18 @@ use Rattle.ocr_body.specs.declared.code.FunctionCode.{FunctionCode}
 abbrev pub name_at : List (List ℕ) → ℕ → List ℕ
 name_at names i = slice_index_or names i []
 
-abbrev pub called : Invocation → CallName
-called invocation.Shutdown = call.Shutdown
-called (invocation.Abort' p e) = call.Abort
+abbrev pub called : Made → CallName
+called (made.TemplateCreate f n) = call.TemplateCreate
+called made.EdtCreate = call.EdtCreate
+called made.Shutdown = call.Shutdown
+called made.Abort = call.Abort
+
+-- the arguments of a call, before which the name of a function may stand
+abbrev pub given_to : Made → tree.Arguments → tree.Arguments
+given_to (made.TemplateCreate f n) xs = tree.named f xs
+given_to made.EdtCreate xs = xs
+given_to made.Shutdown xs = xs
+given_to made.Abort xs = xs
 
 abbrev mutual
   pub expression_at : List (List ℕ) → Node → tree.Expression
@@ -32,11 +43,13 @@ abbrev mutual
   expression_at names (node.Depv' p e) = tree.Depv (expression_at names e)
   expression_at names (node.Unary' op p e) = tree.Unary op (expression_at names e)
   expression_at names (node.Binary' op p a q b) = tree.Binary op (expression_at names a) (expression_at names b)
-  expression_at names (node.Invoke made) = tree.Invoked (called made) (arguments_at names made)
+  expression_at names (node.Invoke m xs) = tree.Invoked (called m) (given_to m (arguments_at names xs))
 
-  pub arguments_at : List (List ℕ) → Invocation → tree.Arguments
-  arguments_at names invocation.Shutdown = tree.empty
-  arguments_at names (invocation.Abort' p e) = tree.value (expression_at names e) tree.empty
+  pub arguments_at : List (List ℕ) → Args → tree.Arguments
+  arguments_at names args.End = tree.empty
+  arguments_at names (args.Output i) = tree.named (name_at names i) tree.empty
+  arguments_at names (args.Value' p e q rest) = tree.value (expression_at names e) (arguments_at names rest)
+  arguments_at names (args.List' p es q rest) = tree.list (arguments_at names es) (arguments_at names rest)
 
 abbrev mutual
   pub statement_at : List (List ℕ) → Step → tree.Statement
@@ -46,7 +59,7 @@ abbrev mutual
   statement_at names (step.While' e m body) = tree.While (expression_at names e) (row_at names body)
   statement_at names (step.Print e) = tree.Print (expression_at names e)
   statement_at names (step.Return e) = tree.Return (expression_at names e)
-  statement_at names (step.Invoke made) = tree.Do (called made) (arguments_at names made)
+  statement_at names (step.Invoke m xs) = tree.Do (called m) (given_to m (arguments_at names xs))
 
   pub row_at : {m : _} → List (List ℕ) → Row_of-Step m → tree.Statements
   row_at names end_of-Step = tree.nothing
@@ -57,55 +70,64 @@ abbrev pub statements_in : List (List ℕ) → List Step → tree.Statements
 statements_in names [] = tree.nothing
 statements_in names (s ∷ rest) = tree.statement (statement_at names s) (statements_in names rest)
 
--- every variable has a name
+-- the function of a call has its number
+abbrev pub is_numbered : (List ℕ → ℕ) → Made → Bool
+is_numbered numbers (made.TemplateCreate f n) = numbers f == n
+is_numbered numbers made.EdtCreate = true
+is_numbered numbers made.Shutdown = true
+is_numbered numbers made.Abort = true
+
+-- every variable has a name, of so many names, every function has its number, and every number has 64 bits
 abbrev mutual
-  pub is_placed : ℕ → Node → Bool
-  is_placed n (node.Number v) = true
-  is_placed n (node.Constant c) = true
-  is_placed n (node.Variable i) = nat_lt i n
-  is_placed n node.Paramc = true
-  is_placed n node.Depc = true
-  is_placed n node.LastCode = true
-  is_placed n (node.Paramv' p e) = is_placed n e
-  is_placed n (node.Depv' p e) = is_placed n e
-  is_placed n (node.Unary' op p e) = is_placed n e
-  is_placed n (node.Binary' op p a q b) = is_placed n a && is_placed n b
-  is_placed n (node.Invoke made) = is_call_placed n made
+  pub is_placed : (List ℕ → ℕ) → ℕ → Node → Bool
+  is_placed numbers n (node.Number v) = nat_lt v (2 ^ 64)
+  is_placed numbers n (node.Constant c) = true
+  is_placed numbers n (node.Variable i) = nat_lt i n
+  is_placed numbers n node.Paramc = true
+  is_placed numbers n node.Depc = true
+  is_placed numbers n node.LastCode = true
+  is_placed numbers n (node.Paramv' p e) = is_placed numbers n e
+  is_placed numbers n (node.Depv' p e) = is_placed numbers n e
+  is_placed numbers n (node.Unary' op p e) = is_placed numbers n e
+  is_placed numbers n (node.Binary' op p a q b) = is_placed numbers n a && is_placed numbers n b
+  is_placed numbers n (node.Invoke m xs) = is_numbered numbers m && are_args_placed numbers n xs
 
-  pub is_call_placed : ℕ → Invocation → Bool
-  is_call_placed n invocation.Shutdown = true
-  is_call_placed n (invocation.Abort' p e) = is_placed n e
+  pub are_args_placed : (List ℕ → ℕ) → ℕ → Args → Bool
+  are_args_placed numbers n args.End = true
+  are_args_placed numbers n (args.Output i) = nat_lt i n
+  are_args_placed numbers n (args.Value' p e q rest) = is_placed numbers n e && are_args_placed numbers n rest
+  are_args_placed numbers n (args.List' p es q rest) = are_args_placed numbers n es && are_args_placed numbers n rest
 
 abbrev mutual
-  pub is_step_placed : ℕ → Step → Bool
-  is_step_placed n (step.Let i e) = nat_lt i n && is_placed n e
-  is_step_placed n (step.Assign i e) = nat_lt i n && is_placed n e
-  is_step_placed n (step.If' e m first k second) = is_placed n e && (is_row_placed n first && is_row_placed n second)
-  is_step_placed n (step.While' e m body) = is_placed n e && is_row_placed n body
-  is_step_placed n (step.Print e) = is_placed n e
-  is_step_placed n (step.Return e) = is_placed n e
-  is_step_placed n (step.Invoke made) = is_call_placed n made
+  pub is_step_placed : (List ℕ → ℕ) → ℕ → Step → Bool
+  is_step_placed numbers n (step.Let i e) = nat_lt i n && is_placed numbers n e
+  is_step_placed numbers n (step.Assign i e) = nat_lt i n && is_placed numbers n e
+  is_step_placed numbers n (step.If' e m first k second) = is_placed numbers n e && (is_row_placed numbers n first && is_row_placed numbers n second)
+  is_step_placed numbers n (step.While' e m body) = is_placed numbers n e && is_row_placed numbers n body
+  is_step_placed numbers n (step.Print e) = is_placed numbers n e
+  is_step_placed numbers n (step.Return e) = is_placed numbers n e
+  is_step_placed numbers n (step.Invoke m xs) = is_numbered numbers m && are_args_placed numbers n xs
 
-  pub is_row_placed : {m : _} → ℕ → Row_of-Step m → Bool
-  is_row_placed n end_of-Step = true
-  is_row_placed n (more_of-Step s rest) = is_step_placed n s && is_row_placed n rest
+  pub is_row_placed : {m : _} → (List ℕ → ℕ) → ℕ → Row_of-Step m → Bool
+  is_row_placed numbers n end_of-Step = true
+  is_row_placed numbers n (more_of-Step s rest) = is_step_placed numbers n s && is_row_placed numbers n rest
 
-abbrev pub are_placed : ℕ → List Step → Bool
-are_placed n [] = true
-are_placed n (s ∷ rest) = is_step_placed n s && are_placed n rest
+abbrev pub are_placed : (List ℕ → ℕ) → ℕ → List Step → Bool
+are_placed numbers n [] = true
+are_placed numbers n (s ∷ rest) = is_step_placed numbers n s && are_placed numbers n rest
 
 -- all names differ
 abbrev pub are_distinct : List (List ℕ) → Bool
 are_distinct [] = true
 are_distinct (x ∷ xs) = not (list_any (bytes_eq x) xs) && are_distinct xs
 
--- code whose names differ, and whose variables all have a name
-abbrev pub is_sound : FunctionCode → Bool
-is_sound f = are_distinct f.names.items && are_placed (length f.names.items) f.body.items
+-- code whose names differ, whose variables all have a name, whose functions have their numbers, and whose numbers have 64 bits
+abbrev pub is_sound : (List ℕ → ℕ) → FunctionCode → Bool
+is_sound numbers f = are_distinct f.names.items && are_placed numbers (length f.names.items) f.body.items
 
-abbrev pub are_sound : List FunctionCode → Bool
-are_sound [] = true
-are_sound (f ∷ rest) = is_sound f && are_sound rest
+abbrev pub are_sound : (List ℕ → ℕ) → List FunctionCode → Bool
+are_sound numbers [] = true
+are_sound numbers (f ∷ rest) = is_sound numbers f && are_sound numbers rest
 
 -- the body of a function's code
 abbrev pub body_in : FunctionCode → tree.Statements

@@ -3,11 +3,13 @@ pub mod Built
 pub mod Checked
 pub mod Code
 pub mod Constant
-pub mod FirstForm
+pub mod Each
 pub mod Laws
 pub mod Local
 pub mod Meaning
 pub mod Resolved
+pub mod Rules
 pub mod Serving
 pub mod Tree
 pub mod View
+pub mod Words

@@ -1,12 +1,15 @@
 -- What the walker keeps, as the meaning names it.
-use Rattle.std.specs.Prelude.{◌≡◌, ℕ, List, [], ◌∷◌, bytes_eq, if◌then◌else◌}
+use Rattle.std.specs.Prelude.{◌≡◌, ℕ, List, [], ◌∷◌, Option, None, Some, bytes_eq, if◌then◌else◌}
 use Rattle.ocr_body.specs.Behaviour.{Behaviour, Ends}
-use Rattle.ocr_body.specs.Serving.{IsDone}
-use Rattle.ocr_body.specs.Meaning.{State, Frame}
+use Rattle.ocr_body.specs.Serving.{IsDone, numbers_in}
+use Rattle.ocr_body.specs.Checked.{checked_tree}
+use Rattle.ocr_body.specs.Code.{name_at}
+use Rattle.ocr_body.specs.Meaning.{State, Frame, Given}
 use Rattle.ocr_body.specs.declared.local.Flow.{Flow}
 use Rattle.ocr_body.specs.declared.local.Flow.TheVariants.{Next, Returned}
 use Rattle.ocr_body.specs.declared.local.Local.{Local}
 use Rattle.ocr_body.specs.declared.local.Frame as walker
+use Rattle.ocr_body.specs.declared.given.Given as found
 
 -- the value of a name, by the places of the names
 abbrev pub value_in : List (List ℕ) → List ℕ → List ℕ → ℕ
@@ -17,8 +20,21 @@ value_in (x ∷ names) (v ∷ values) y = if bytes_eq x y then v else value_in n
 abbrev pub state_of : List (List ℕ) → Local → State
 state_of names local = record { fuel = local.fuel; code = local.code; variables = λ y. value_in names local.values.items y }
 
+-- the numbers of the functions of a frame's program
+abbrev pub numbers_of : walker.Frame → List ℕ → ℕ
+numbers_of f = numbers_in (checked_tree f.program.now)
+
 abbrev pub frame_of : walker.Frame → Frame
-frame_of f = record { params = f.params.now; depv = f.deps.now }
+frame_of f = record { params = f.params.now; depv = f.deps.now; function_of = numbers_of f }
+
+-- what the walker found the arguments of a call to be
+abbrev pub given_of : found.Given → Given
+given_of g = record { values = g.values.items; lists = g.lists.items }
+
+-- the variable after `&`, by its place
+abbrev pub output_at : List (List ℕ) → Option ℕ → List (List ℕ)
+output_at names None = []
+output_at names (Some i) = name_at names i ∷ []
 
 -- statements were done, or ended the body
 abbrev pub Flows : Behaviour → ((State → Behaviour) → Behaviour) → Flow → State → Behaviour → Type 0

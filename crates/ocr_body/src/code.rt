@@ -1,4 +1,8 @@
 // The code of a function: its tree with each variable by its place among the function's names.
+ghost use Rattle.std.specs.Prelude.{◌≡◌, ◌<◌, ℕ, List, true, IfSome};
+ghost use Rattle.ocr_body.specs.Code.{arguments_at, are_args_placed};
+ghost use Rattle.ocr_body.specs.Local.{output_at};
+ghost use Rattle.ocr_body.specs.Meaning.{names_in};
 
 use crate::tree::{BinaryOp, Constant, Name, UnaryOp};
 
@@ -16,15 +20,43 @@ pub enum Node {
     Depv(Box<Node>),
     Unary(UnaryOp, Box<Node>),
     Binary(BinaryOp, Box<Node>, Box<Node>),
-    Invoke(Invocation),
+    Invoke(Made, Args),
+}
+
+/// The arguments of a call of the code, from the first on, but for the name of a function.
+#[cycle(node)]
+#[derive(Drop)]
+pub enum Args {
+    End,
+    /// The variable after `&`, which stands last.
+    Output(usize),
+    Value(Box<Node>, Box<Args>),
+    List(Box<Args>, Box<Args>),
+}
+
+impl Args {
+    /// The place of the variable after `&`, where one stands.
+    #[cycle(output)]
+    pub fn output(&self) -> Option<usize>
+        ensures names { (names : List (List ℕ)) → names_in (arguments_at names self.now) ≡ output_at names result }
+        ensures placed { (numbers : List ℕ → ℕ) (n : ℕ) → are_args_placed numbers n self.now ≡ true → IfSome result (λ place. place < n) }
+    {
+        match self {
+            Args::End => None,
+            Args::Output(place) => Some(*place),
+            Args::Value(_, rest) | Args::List(_, rest) => rest.output(),
+        }
+    }
 }
 
 /// A call of the code, of those that are built.
-#[cycle(node)]
 #[derive(Drop)]
-pub enum Invocation {
+pub enum Made {
+    /// The function's name, and its number from 1 in the order of the text.
+    TemplateCreate(Name, u32),
+    EdtCreate,
     Shutdown,
-    Abort(Box<Node>),
+    Abort,
 }
 
 /// A statement of the code.
@@ -36,7 +68,7 @@ pub enum Step {
     While(Node, Vec<Step>),
     Print(Node),
     Return(Node),
-    Invoke(Invocation),
+    Invoke(Made, Args),
 }
 
 /// The names of a function, all different, and its statements.

@@ -7,8 +7,10 @@ ghost use Rattle.ocr_body.specs.Meaning as meaning;
 ghost use Rattle.ocr_body.specs.Local.{state_of};
 
 use crate::call::BodyStop;
+use crate::checked::Checked;
 use crate::tree::Name;
 use ocr_guid::Guid;
+use std::alloc::Global;
 
 // What the walker keeps of a body: its fuel, the code of its last call, and its variables by their places.
 #[derive(Drop)]
@@ -18,9 +20,11 @@ pub struct Local {
     pub values: Vec<u64>,
 }
 
-// What a body was given, and the names of its variables.
+// What a body was given, its program, and the names of its variables.
 #[derive(Clone, Copy)]
 pub struct Frame<'a> {
+    pub alloc: Global,
+    pub program: &'a Checked,
     pub params: &'a [u64],
     pub deps: &'a [Guid],
     pub names: &'a [Name],

@@ -1,13 +1,17 @@
 // The code of a program: each variable by the place of its name among its function's names.
-ghost use Rattle.std.specs.Prelude.{◌≡◌, true, false, map, length, IfOk, OnOk, IfSome, IfNone};
+ghost use Rattle.std.specs.Prelude.{◌≡◌, ◌<◌, ◌+◌, ◌^◌, ℕ, List, true, false, map, length, IfOk, OnOk, IfSome, IfNone};
 ghost use Rattle.std.specs.List.{list_any};
 ghost use Rattle.std.specs.Prelude.{bytes_eq};
 ghost use Rattle.ocr_body.specs.Built.{is_built, is_call_built, are_arguments_built, is_statement_built, are_statements_built, are_built};
 ghost use Rattle.ocr_body.specs.Code.{are_distinct, body_in, bodies_in, is_sound, are_sound};
-ghost use Rattle.ocr_body.specs.Resolved.{Grew, IsPlace, IsExpression, IsCall, IsStatement, AreStatements};
-ghost use Rattle.ocr_body.specs.View.{expression_of, name_of, arguments_of, statement_of, statements_of, functions_of, tree_of};
+ghost use Rattle.ocr_body.specs.Serving.{numbers_in};
+ghost use Rattle.ocr_body.specs.Tree as tree;
+ghost use Rattle.ocr_body.specs.Tree.{Arguments};
+ghost use Rattle.ocr_body.specs.Resolved.{Grew, IsPlace, IsExpression, IsArguments, IsCall, IsStatement, AreStatements};
+ghost use Rattle.ocr_body.specs.View.{expression_of, name_of, arguments_of, members_of, output_of, statement_of, statements_of, functions_of, tree_of};
 
-use crate::code::{FunctionCode, Invocation, Node, Step};
+use crate::code::{Args, FunctionCode, Made, Node, Step};
+use crate::numbers::number_named;
 use crate::tree::{Expr, Function, Invoke, Name, Program, Stmt};
 use ocr_guid::NoMemory;
 use std::alloc::Global;
@@ -48,6 +52,16 @@ fn place(alloc: Global, name: &Name, names: &mut Vec<Name>) -> Result<usize, NoM
     Ok(place)
 }
 
+// A name of its own memory.
+fn copy(alloc: Global, name: &Name) -> Result<Name, NoMemory>
+    ensures { IfOk result (λ n. n ≡ name.now) }
+{
+    match Vec::from_slice(alloc, name.as_bytes()) {
+        Ok(text) => Ok(Name::from_vec(text)),
+        Err(_) => Err(NoMemory),
+    }
+}
+
 // A node with memory of its own.
 fn boxed(alloc: Global, node: Node) -> Result<Box<Node>, NoMemory>
     ensures { IfOk result (λ b. b.value ≡ node) }
@@ -58,15 +72,59 @@ fn boxed(alloc: Global, node: Node) -> Result<Box<Node>, NoMemory>
     }
 }
 
+// Arguments with memory of their own.
+fn boxed_args(alloc: Global, args: Args) -> Result<Box<Args>, NoMemory>
+    ensures { IfOk result (λ b. b.value ≡ args) }
+{
+    match Box::new(alloc, args) {
+        Ok(args) => Ok(args),
+        Err(_) => Err(NoMemory),
+    }
+}
+
+// A list before other arguments.
+fn list(alloc: Global, list: Args, rest: Args) -> Result<Args, NoMemory>
+    ensures { IfOk result (λ args. (numbers : List ℕ → ℕ) (names : List (List ℕ)) (xs ys : Arguments) → IsArguments numbers names list xs
+        → IsArguments numbers names rest ys → IsArguments numbers names args (tree.list xs ys)) }
+{
+    let list = boxed_args(alloc, list)?;
+    let rest = boxed_args(alloc, rest)?;
+    Ok(Args::List(list, rest))
+}
+
+// The end of a call's arguments, where a variable may stand behind `&`.
+#[tactic(auto, using(crate::proofs::Names::grew_same))]
+fn output_variable(
+    alloc: Global,
+    output: &Option<Name>,
+    names: &mut Vec<Name>,
+) -> Result<Args, NoMemory>
+    requires distinct { are_distinct names.old.items ≡ true }
+    ensures distinct { OnOk result (are_distinct names.new.items ≡ true) }
+    ensures grew { OnOk result (Grew names.old.items names.new.items) }
+    ensures ok { IfOk result (λ args. (numbers : List ℕ → ℕ) → IsArguments numbers names.new.items args (output_of output.now)) }
+{
+    match output {
+        None => Ok(Args::End),
+        Some(name) => Ok(Args::Output(place(alloc, name, names)?)),
+    }
+}
+
 // The code of an expression.
 #[tactic(auto, using(crate::proofs::Names::grew_same, crate::proofs::Names::grew_twice))]
 #[cycle(expression)]
-fn expression(alloc: Global, expr: &Expr, names: &mut Vec<Name>) -> Result<Node, NoMemory>
+fn expression(
+    alloc: Global,
+    functions: &[Function],
+    expr: &Expr,
+    names: &mut Vec<Name>,
+) -> Result<Node, NoMemory>
+    requires few { length functions.now + 1 < 2 ^ 32 }
     requires distinct { are_distinct names.old.items ≡ true }
     requires built { is_built (expression_of expr.now) ≡ true }
     ensures distinct { OnOk result (are_distinct names.new.items ≡ true) }
     ensures grew { OnOk result (Grew names.old.items names.new.items) }
-    ensures ok { IfOk result (λ node. IsExpression names.new.items node (expression_of expr.now)) }
+    ensures ok { IfOk result (λ node. IsExpression (numbers_in (functions_of functions.now)) names.new.items node (expression_of expr.now)) }
 {
     match expr {
         Expr::Number(n) => Ok(Node::Number(*n)),
@@ -76,101 +134,203 @@ fn expression(alloc: Global, expr: &Expr, names: &mut Vec<Name>) -> Result<Node,
         Expr::Depc => Ok(Node::Depc),
         Expr::Code => Ok(Node::LastCode),
         Expr::Paramv(index) => {
-            let index = expression(alloc, index, names)?;
+            let index = expression(alloc, functions, index, names)?;
             Ok(Node::Paramv(boxed(alloc, index)?))
         }
         Expr::Depv(index) => {
-            let index = expression(alloc, index, names)?;
+            let index = expression(alloc, functions, index, names)?;
             Ok(Node::Depv(boxed(alloc, index)?))
         }
         Expr::Unary(op, operand) => {
-            let operand = expression(alloc, operand, names)?;
+            let operand = expression(alloc, functions, operand, names)?;
             Ok(Node::Unary(*op, boxed(alloc, operand)?))
         }
         Expr::Binary(op, left, right) => {
-            let left = expression(alloc, left, names)?;
+            let left = expression(alloc, functions, left, names)?;
             let left = boxed(alloc, left)?;
-            let right = expression(alloc, right, names)?;
+            let right = expression(alloc, functions, right, names)?;
             let right = boxed(alloc, right)?;
             Ok(Node::Binary(*op, left, right))
         }
-        Expr::Invoke(made) => Ok(Node::Invoke(invocation(alloc, made, names)?)),
+        Expr::Invoke(made) => {
+            let (made, args) = invocation(alloc, functions, made, names)?;
+            Ok(Node::Invoke(made, args))
+        }
     }
 }
 
-// The code of a call.
+// The code of a call. Its lists are resolved first, and then its other arguments from the last on.
 #[tactic(auto, using(crate::proofs::Names::grew_same, crate::proofs::Names::grew_twice))]
 #[cycle(expression)]
-fn invocation(alloc: Global, made: &Invoke, names: &mut Vec<Name>) -> Result<Invocation, NoMemory>
+fn invocation(
+    alloc: Global,
+    functions: &[Function],
+    made: &Invoke,
+    names: &mut Vec<Name>,
+) -> Result<(Made, Args), NoMemory>
+    requires few { length functions.now + 1 < 2 ^ 32 }
     requires distinct { are_distinct names.old.items ≡ true }
     requires call { is_call_built (name_of made.now) (arguments_of made.now) ≡ true }
     requires arguments { are_arguments_built (arguments_of made.now) ≡ true }
     ensures distinct { OnOk result (are_distinct names.new.items ≡ true) }
     ensures grew { OnOk result (Grew names.old.items names.new.items) }
-    ensures ok { IfOk result (λ code. IsCall names.new.items code (name_of made.now) (arguments_of made.now)) }
+    ensures ok { IfOk result (λ code. IsCall (numbers_in (functions_of functions.now)) names.new.items code.0 code.1 (name_of made.now) (arguments_of made.now)) }
 {
     match made {
-        Invoke::Shutdown => Ok(Invocation::Shutdown),
+        Invoke::TemplateCreate {
+            function,
+            paramc,
+            depc,
+        } => {
+            let args = value(alloc, functions, depc, Args::End, names)?;
+            let args = value(alloc, functions, paramc, args, names)?;
+            let number = number_named(functions, function.as_bytes()) as u32;
+            Ok((Made::TemplateCreate(copy(alloc, function)?, number), args))
+        }
+        Invoke::EdtCreate {
+            template,
+            paramc,
+            params,
+            depc,
+            deps,
+            flags,
+            output,
+        } => {
+            let params = members(alloc, functions, params, names)?;
+            let deps = members(alloc, functions, deps, names)?;
+            let args = output_variable(alloc, output, names)?;
+            let args = value(alloc, functions, flags, args, names)?;
+            let args = list(alloc, deps, args)?;
+            let args = value(alloc, functions, depc, args, names)?;
+            let args = list(alloc, params, args)?;
+            let args = value(alloc, functions, paramc, args, names)?;
+            let args = value(alloc, functions, template, args, names)?;
+            Ok((Made::EdtCreate, args))
+        }
+        Invoke::Shutdown => Ok((Made::Shutdown, Args::End)),
         Invoke::Abort { code } => {
-            let code = expression(alloc, code, names)?;
-            Ok(Invocation::Abort(boxed(alloc, code)?))
+            let args = value(alloc, functions, code, Args::End, names)?;
+            Ok((Made::Abort, args))
         }
         _ => unreachable!(),
     }
 }
 
+// A value before other arguments.
+#[tactic(auto, using(crate::proofs::Names::grew_same, crate::proofs::Names::grew_twice))]
+#[cycle(expression)]
+fn value(
+    alloc: Global,
+    functions: &[Function],
+    expr: &Expr,
+    rest: Args,
+    names: &mut Vec<Name>,
+) -> Result<Args, NoMemory>
+    requires few { length functions.now + 1 < 2 ^ 32 }
+    requires distinct { are_distinct names.old.items ≡ true }
+    requires built { is_built (expression_of expr.now) ≡ true }
+    ensures distinct { OnOk result (are_distinct names.new.items ≡ true) }
+    ensures grew { OnOk result (Grew names.old.items names.new.items) }
+    ensures ok { IfOk result (λ args. (xs : Arguments) → IsArguments (numbers_in (functions_of functions.now)) names.old.items rest xs
+        → IsArguments (numbers_in (functions_of functions.now)) names.new.items args (tree.value (expression_of expr.now) xs)) }
+{
+    let node = expression(alloc, functions, expr, names)?;
+    let node = boxed(alloc, node)?;
+    let rest = boxed_args(alloc, rest)?;
+    Ok(Args::Value(node, rest))
+}
+
+// The members of a list, from the last on.
+#[tactic(auto, using(crate::proofs::Names::grew_same, crate::proofs::Names::grew_twice))]
+#[cycle(expression)]
+fn members(
+    alloc: Global,
+    functions: &[Function],
+    exprs: &[Expr],
+    names: &mut Vec<Name>,
+) -> Result<Args, NoMemory>
+    requires few { length functions.now + 1 < 2 ^ 32 }
+    requires distinct { are_distinct names.old.items ≡ true }
+    requires built { are_arguments_built (members_of exprs.now) ≡ true }
+    ensures distinct { OnOk result (are_distinct names.new.items ≡ true) }
+    ensures grew { OnOk result (Grew names.old.items names.new.items) }
+    ensures ok { IfOk result (λ args. IsArguments (numbers_in (functions_of functions.now)) names.new.items args (members_of exprs.now)) }
+{
+    let mut args = Args::End;
+    for i in 0..exprs.len() {
+        let expr = &exprs[exprs.len() - 1 - i];
+        args = value(alloc, functions, expr, args, names)?;
+    }
+    Ok(args)
+}
+
 // The code of a statement.
 #[tactic(auto, using(crate::proofs::Names::grew_same, crate::proofs::Blocks::no_statements))]
 #[cycle(statement)]
-fn statement(alloc: Global, stmt: &Stmt, names: &mut Vec<Name>) -> Result<Step, NoMemory>
+fn statement(
+    alloc: Global,
+    functions: &[Function],
+    stmt: &Stmt,
+    names: &mut Vec<Name>,
+) -> Result<Step, NoMemory>
+    requires few { length functions.now + 1 < 2 ^ 32 }
     requires distinct { are_distinct names.old.items ≡ true }
     requires built { is_statement_built (statement_of stmt.now) ≡ true }
     ensures distinct { OnOk result (are_distinct names.new.items ≡ true) }
     ensures grew { OnOk result (Grew names.old.items names.new.items) }
-    ensures ok { IfOk result (λ step. IsStatement names.new.items step (statement_of stmt.now)) }
+    ensures ok { IfOk result (λ step. IsStatement (numbers_in (functions_of functions.now)) names.new.items step (statement_of stmt.now)) }
 {
     match stmt {
         Stmt::Let { name, value } => {
             let place = place(alloc, name, names)?;
-            Ok(Step::Let(place, expression(alloc, value, names)?))
+            Ok(Step::Let(place, expression(alloc, functions, value, names)?))
         }
         Stmt::Assign { name, value } => {
             let place = place(alloc, name, names)?;
-            Ok(Step::Assign(place, expression(alloc, value, names)?))
+            Ok(Step::Assign(place, expression(alloc, functions, value, names)?))
         }
         Stmt::If { test, yes, no } => {
-            let test = expression(alloc, test, names)?;
-            let yes = statements(alloc, yes, names)?;
-            let no = statements(alloc, no, names)?;
+            let test = expression(alloc, functions, test, names)?;
+            let yes = statements(alloc, functions, yes, names)?;
+            let no = statements(alloc, functions, no, names)?;
             Ok(Step::If(test, yes, no))
         }
         Stmt::While { test, body } => {
-            let test = expression(alloc, test, names)?;
-            let body = statements(alloc, body, names)?;
+            let test = expression(alloc, functions, test, names)?;
+            let body = statements(alloc, functions, body, names)?;
             Ok(Step::While(test, body))
         }
-        Stmt::Print { value } => Ok(Step::Print(expression(alloc, value, names)?)),
-        Stmt::Return { value } => Ok(Step::Return(expression(alloc, value, names)?)),
-        Stmt::Invoke(made) => Ok(Step::Invoke(invocation(alloc, made, names)?)),
+        Stmt::Print { value } => Ok(Step::Print(expression(alloc, functions, value, names)?)),
+        Stmt::Return { value } => Ok(Step::Return(expression(alloc, functions, value, names)?)),
+        Stmt::Invoke(made) => {
+            let (made, args) = invocation(alloc, functions, made, names)?;
+            Ok(Step::Invoke(made, args))
+        }
     }
 }
 
 // The code of statements.
 #[tactic(auto, using(crate::proofs::Names::grew_same, crate::proofs::Blocks::no_statements))]
 #[cycle(statement)]
-fn statements(alloc: Global, stmts: &[Stmt], names: &mut Vec<Name>) -> Result<Vec<Step>, NoMemory>
+fn statements(
+    alloc: Global,
+    functions: &[Function],
+    stmts: &[Stmt],
+    names: &mut Vec<Name>,
+) -> Result<Vec<Step>, NoMemory>
+    requires few { length functions.now + 1 < 2 ^ 32 }
     requires distinct { are_distinct names.old.items ≡ true }
     requires built { are_statements_built (statements_of stmts.now) ≡ true }
     ensures distinct { OnOk result (are_distinct names.new.items ≡ true) }
     ensures grew { OnOk result (Grew names.old.items names.new.items) }
-    ensures ok { IfOk result (λ steps. AreStatements names.new.items steps.items (statements_of stmts.now)) }
+    ensures ok { IfOk result (λ steps. AreStatements (numbers_in (functions_of functions.now)) names.new.items steps.items (statements_of stmts.now)) }
 {
     let mut steps = Vec::new(alloc);
     for stmt in stmts {
         if steps.reserve(1).is_err() {
             return Err(NoMemory);
         }
-        let step = statement(alloc, stmt, names)?;
+        let step = statement(alloc, functions, stmt, names)?;
         steps.push_reserved(step);
     }
     Ok(steps)
@@ -178,22 +338,28 @@ fn statements(alloc: Global, stmts: &[Stmt], names: &mut Vec<Name>) -> Result<Ve
 
 // The code of a function.
 #[tactic(auto, using(crate::proofs::Names::both))]
-fn function(alloc: Global, function: &Function) -> Result<FunctionCode, NoMemory>
+fn function(
+    alloc: Global,
+    functions: &[Function],
+    function: &Function,
+) -> Result<FunctionCode, NoMemory>
+    requires few { length functions.now + 1 < 2 ^ 32 }
     requires built { are_statements_built (statements_of function.now.body.items) ≡ true }
     ensures body { IfOk result (λ code. body_in code ≡ statements_of function.now.body.items) }
-    ensures sound { IfOk result (λ code. is_sound code ≡ true) }
+    ensures sound { IfOk result (λ code. is_sound (numbers_in (functions_of functions.now)) code ≡ true) }
 {
     let mut names = Vec::new(alloc);
-    let body = statements(alloc, &function.body, &mut names)?;
+    let body = statements(alloc, functions, &function.body, &mut names)?;
     Ok(FunctionCode { names, body })
 }
 
 /// The code of each function of a program whose calls are all built.
 #[tactic(auto, using(crate::proofs::Codes::pushed_bodies, crate::proofs::Codes::all_bodies, crate::proofs::Codes::pushed_sound, crate::proofs::Codes::function_built, crate::proofs::Codes::functions_built))]
 pub fn resolve(alloc: Global, program: &Program) -> Result<Vec<FunctionCode>, NoMemory>
-    requires { are_built (tree_of program.now) ≡ true }
+    requires built { are_built (tree_of program.now) ≡ true }
+    requires few { length (tree_of program.now) + 1 < 2 ^ 32 }
     ensures bodies { IfOk result (λ codes. bodies_in codes.items ≡ map (λ f. f.body) (tree_of program.now)) }
-    ensures sound { IfOk result (λ codes. are_sound codes.items ≡ true) }
+    ensures sound { IfOk result (λ codes. are_sound (numbers_in (tree_of program.now)) codes.items ≡ true) }
 {
     let functions = program.functions.as_slice();
     let mut codes = Vec::new(alloc);
@@ -201,7 +367,7 @@ pub fn resolve(alloc: Global, program: &Program) -> Result<Vec<FunctionCode>, No
         if codes.reserve(1).is_err() {
             return Err(NoMemory);
         }
-        let code = function(alloc, f)?;
+        let code = function(alloc, functions, f)?;
         codes.push_reserved(code);
     }
     Ok(codes)

@@ -1,21 +1,23 @@
 // The walker, which runs a body by one plain walk over its code.
-ghost use Rattle.std.specs.Prelude.{◌≡◌, ◌&&◌, ◌≤◌, ◌<◌, ◌+◌, [], true, List, ℕ, IfOk, OnOk, OnErr, IfErr, length, replicate};
+ghost use Rattle.std.specs.Prelude.{◌≡◌, ◌&&◌, ◌≤◌, ◌<◌, ◌+◌, [], true, List, ℕ, IfOk, OnOk, OnErr, IfErr, IfSome, length, replicate};
 ghost use Rattle.ocr_body.specs.Behaviour.{Behaviour, Ends, Stops};
 ghost use Rattle.ocr_body.specs.Checked.{checked_tree};
-ghost use Rattle.ocr_body.specs.Code.{are_distinct, is_placed, is_call_placed, is_step_placed, are_placed, expression_at, called, arguments_at, statement_at, statements_in};
-ghost use Rattle.ocr_body.specs.Local.{state_of, frame_of, Flows};
+ghost use Rattle.ocr_body.specs.Code.{are_distinct, is_placed, is_numbered, are_args_placed, is_step_placed, are_placed, expression_at, called, given_to, arguments_at, statement_at, statements_in};
+ghost use Rattle.ocr_body.specs.Local.{state_of, frame_of, numbers_of, given_of, output_at, Flows};
 ghost use Rattle.ocr_body.specs.Meaning.{State, Value};
 ghost use Rattle.ocr_body.specs.Meaning as meaning;
 ghost use Rattle.ocr_body.specs.Tree.{While};
-ghost use Rattle.ocr_body.specs.Serving.{Body, says, behaviour, IsTrace, Begins, BeginsValue, IsDone, HasValue, Rose, StoppedBy};
+ghost use Rattle.ocr_body.specs.Serving.{Body, says, behaviour, IsTrace, Begins, BeginsValue, BeginsGiven, IsDone, HasValue, IsGiven, Rose, StoppedBy};
 
 use crate::api::Api;
 use crate::call::{BodyStop, Call};
 use crate::checked::Checked;
-use crate::code::{Invocation, Node, Step};
+use crate::code::{Args, Made, Node, Step};
+use crate::given::{Given, edt_create, template_create};
 use crate::local::{Flow, Frame, Local, read, spend, write};
 use crate::operators::{apply, operate};
 use ocr_guid::{Guid, NoMemory};
+use ocr_list::Seq;
 use std::alloc::Global;
 
 // The value of an expression.
@@ -25,7 +27,7 @@ fn eval<A: Api>(frame: &Frame, node: &Node, local: &mut Local, api: &mut A) -> R
     requires ready { A.is_ready api.old }
     requires distinct { are_distinct frame.now.names.now ≡ true }
     requires room { length local.old.values.items ≡ length frame.now.names.now }
-    requires placed { is_placed (length frame.now.names.now) node.now ≡ true }
+    requires placed { is_placed (numbers_of frame.now) (length frame.now.names.now) node.now ≡ true }
     requires begins { BeginsValue (says (A.serves api.old) (A.log api.old))
         (meaning.eval (frame_of frame.now) (expression_at frame.now.names.now node.now) (state_of frame.now.names.now local.old)) }
     ensures ready { A.is_ready api.new }
@@ -42,8 +44,8 @@ fn eval<A: Api>(frame: &Frame, node: &Node, local: &mut Local, api: &mut A) -> R
         (Rose (A.closed api.old) (A.closed api.new))) }
     ensures later { A.closed api.old ≤ A.closed api.new }
 {
-    if let Node::Invoke(made) = node {
-        return invoke(frame, made, local, api);
+    if let Node::Invoke(made, args) = node {
+        return invoke(frame, made, args, local, api);
     }
     spend(local)?;
     match node {
@@ -77,7 +79,7 @@ fn eval<A: Api>(frame: &Frame, node: &Node, local: &mut Local, api: &mut A) -> R
             let y = eval(frame, right, local, api)?;
             operate(*op, x, y)
         }
-        Node::Invoke(_) => unreachable!(),
+        Node::Invoke(_, _) => unreachable!(),
     }
 }
 
@@ -86,16 +88,18 @@ fn eval<A: Api>(frame: &Frame, node: &Node, local: &mut Local, api: &mut A) -> R
 #[cycle(eval)]
 fn invoke<A: Api>(
     frame: &Frame,
-    made: &Invocation,
+    made: &Made,
+    args: &Args,
     local: &mut Local,
     api: &mut A,
 ) -> Result<u64, BodyStop>
     requires ready { A.is_ready api.old }
     requires distinct { are_distinct frame.now.names.now ≡ true }
     requires room { length local.old.values.items ≡ length frame.now.names.now }
-    requires placed { is_call_placed (length frame.now.names.now) made.now ≡ true }
+    requires numbered { is_numbered (numbers_of frame.now) made.now ≡ true }
+    requires placed { are_args_placed (numbers_of frame.now) (length frame.now.names.now) args.now ≡ true }
     requires begins { BeginsValue (says (A.serves api.old) (A.log api.old))
-        (meaning.invoke (frame_of frame.now) (called made.now) (arguments_at frame.now.names.now made.now) (state_of frame.now.names.now local.old)) }
+        (meaning.invoke (frame_of frame.now) (called made.now) (given_to made.now (arguments_at frame.now.names.now args.now)) (state_of frame.now.names.now local.old)) }
     ensures ready { A.is_ready api.new }
     ensures serves { A.serves api.new ≡ A.serves api.old }
     ensures kept { A.kept api.new ≡ A.kept api.old }
@@ -104,20 +108,113 @@ fn invoke<A: Api>(
     ensures room { length local.new.values.items ≡ length frame.now.names.now }
     ensures fuel { local.new.fuel ≤ local.old.fuel }
     ensures ok { IfOk result (λ v. HasValue (says (A.serves api.old) (A.log api.old))
-        (meaning.invoke (frame_of frame.now) (called made.now) (arguments_at frame.now.names.now made.now) (state_of frame.now.names.now local.old)) v (state_of frame.now.names.now local.new)
+        (meaning.invoke (frame_of frame.now) (called made.now) (given_to made.now (arguments_at frame.now.names.now args.now)) (state_of frame.now.names.now local.old)) v (state_of frame.now.names.now local.new)
         (says (A.serves api.old) (A.log api.new))) }
     ensures err { IfErr result (StoppedBy (says (A.serves api.old) (A.log api.new))
         (Rose (A.closed api.old) (A.closed api.new))) }
     ensures later { A.closed api.old ≤ A.closed api.new }
 {
     spend(local)?;
+    let mut given = Given::new(frame.alloc);
+    eval_all(frame, args, &mut given, local, api)?;
     match made {
-        Invocation::Shutdown => Err(BodyStop::Shutdown),
-        Invocation::Abort(code) => {
-            let code = eval(frame, code, local, api)?;
-            Err(BodyStop::Abort(code))
+        Made::TemplateCreate(_, function) => {
+            let call = template_create(*function, &given);
+            ask(frame, &call, None, local, api)
+        }
+        Made::EdtCreate => {
+            let output = args.output();
+            let Ok(call) = edt_create(frame.alloc, &given, output.is_some()) else {
+                return Err(BodyStop::NoMemory)
+            };
+            ask(frame, &call, output, local, api)
+        }
+        Made::Shutdown => Err(BodyStop::Shutdown),
+        Made::Abort => Err(BodyStop::Abort(given.value(0))),
+    }
+}
+
+// What the arguments of a call are, from left to right.
+#[tactic(auto, using(crate::proofs::Stopped::stopped_later, crate::proofs::Stopped::stopped_by_body, crate::proofs::Stopped::eval_stopped, crate::proofs::Stopped::exec_stopped, crate::proofs::Stopped::says_more, crate::proofs::Stopped::stopped_by_refusal, crate::proofs::Variables::first_of, crate::proofs::Variables::second_of))]
+#[cycle(eval)]
+fn eval_all<A: Api>(
+    frame: &Frame,
+    args: &Args,
+    given: &mut Given,
+    local: &mut Local,
+    api: &mut A,
+) -> Result<(), BodyStop>
+    requires ready { A.is_ready api.old }
+    requires distinct { are_distinct frame.now.names.now ≡ true }
+    requires room { length local.old.values.items ≡ length frame.now.names.now }
+    requires placed { are_args_placed (numbers_of frame.now) (length frame.now.names.now) args.now ≡ true }
+    requires begins { BeginsGiven (says (A.serves api.old) (A.log api.old))
+        (meaning.eval_all (frame_of frame.now) (arguments_at frame.now.names.now args.now) (given_of given.old) (state_of frame.now.names.now local.old)) }
+    ensures ready { A.is_ready api.new }
+    ensures serves { A.serves api.new ≡ A.serves api.old }
+    ensures kept { A.kept api.new ≡ A.kept api.old }
+    ensures trace { IsTrace (behaviour (A.serves api.old)) (A.log api.old) →
+        IsTrace (behaviour (A.serves api.old)) (A.log api.new) }
+    ensures room { length local.new.values.items ≡ length frame.now.names.now }
+    ensures fuel { local.new.fuel ≤ local.old.fuel }
+    ensures ok { OnOk result (IsGiven (says (A.serves api.old) (A.log api.old))
+        (meaning.eval_all (frame_of frame.now) (arguments_at frame.now.names.now args.now) (given_of given.old) (state_of frame.now.names.now local.old)) (given_of given.new) (state_of frame.now.names.now local.new)
+        (says (A.serves api.old) (A.log api.new))) }
+    ensures err { IfErr result (StoppedBy (says (A.serves api.old) (A.log api.new))
+        (Rose (A.closed api.old) (A.closed api.new))) }
+    ensures later { A.closed api.old ≤ A.closed api.new }
+{
+    match args {
+        Args::End | Args::Output(_) => Ok(()),
+        Args::Value(value, rest) => {
+            let value = eval(frame, value, local, api)?;
+            given.add_value(value)?;
+            eval_all(frame, rest, given, local, api)
+        }
+        Args::List(list, rest) => {
+            let mut inner = Given::new(frame.alloc);
+            eval_all(frame, list, &mut inner, local, api)?;
+            given.add_list(Seq::from_vec(inner.values))?;
+            eval_all(frame, rest, given, local, api)
         }
     }
+}
+
+// A call that has codes.
+#[tactic(auto, using(crate::proofs::Stopped::says_more, crate::proofs::Stopped::stopped_by_refusal))]
+fn ask<A: Api>(
+    frame: &Frame,
+    call: &Call,
+    output: Option<usize>,
+    local: &mut Local,
+    api: &mut A,
+) -> Result<u64, BodyStop>
+    requires ready { A.is_ready api.old }
+    requires distinct { are_distinct frame.now.names.now ≡ true }
+    requires room { length local.old.values.items ≡ length frame.now.names.now }
+    requires output { IfSome output (λ place. place < length frame.now.names.now) }
+    requires begins { BeginsValue (says (A.serves api.old) (A.log api.old))
+        (meaning.coded call.now (output_at frame.now.names.now output) (state_of frame.now.names.now local.old)) }
+    ensures ready { A.is_ready api.new }
+    ensures serves { A.serves api.new ≡ A.serves api.old }
+    ensures kept { A.kept api.new ≡ A.kept api.old }
+    ensures trace { IsTrace (behaviour (A.serves api.old)) (A.log api.old) →
+        IsTrace (behaviour (A.serves api.old)) (A.log api.new) }
+    ensures room { length local.new.values.items ≡ length frame.now.names.now }
+    ensures fuel { local.new.fuel ≤ local.old.fuel }
+    ensures ok { IfOk result (λ v. HasValue (says (A.serves api.old) (A.log api.old))
+        (meaning.coded call.now (output_at frame.now.names.now output) (state_of frame.now.names.now local.old)) v (state_of frame.now.names.now local.new)
+        (says (A.serves api.old) (A.log api.new))) }
+    ensures err { IfErr result (StoppedBy (says (A.serves api.old) (A.log api.new))
+        (Rose (A.closed api.old) (A.closed api.new))) }
+    ensures later { A.closed api.old ≤ A.closed api.new }
+{
+    let answer = api.call(call)?;
+    local.code = answer.code.number();
+    if let Some(place) = output {
+        write(frame, place, answer.output.0, local);
+    }
+    Ok(answer.value)
 }
 
 // A call of print.
@@ -155,7 +252,7 @@ fn exec<A: Api>(
     requires ready { A.is_ready api.old }
     requires distinct { are_distinct frame.now.names.now ≡ true }
     requires room { length local.old.values.items ≡ length frame.now.names.now }
-    requires placed { is_step_placed (length frame.now.names.now) step.now ≡ true }
+    requires placed { is_step_placed (numbers_of frame.now) (length frame.now.names.now) step.now ≡ true }
     requires begins { Begins (says (A.serves api.old) (A.log api.old))
         (meaning.exec (frame_of frame.now) (statement_at frame.now.names.now step.now) (state_of frame.now.names.now local.old)) }
     ensures ready { A.is_ready api.new }
@@ -199,8 +296,8 @@ fn exec<A: Api>(
             let value = eval(frame, value, local, api)?;
             Ok(Flow::Returned(Guid(value)))
         }
-        Step::Invoke(made) => {
-            invoke(frame, made, local, api)?;
+        Step::Invoke(made, args) => {
+            invoke(frame, made, args, local, api)?;
             Ok(Flow::Next)
         }
         Step::While(_, _) => unreachable!(),
@@ -220,7 +317,7 @@ fn repeat<A: Api>(
     requires ready { A.is_ready api.old }
     requires distinct { are_distinct frame.now.names.now ≡ true }
     requires room { length local.old.values.items ≡ length frame.now.names.now }
-    requires placed { (is_placed (length frame.now.names.now) test.now && are_placed (length frame.now.names.now) steps.now) ≡ true }
+    requires placed { (is_placed (numbers_of frame.now) (length frame.now.names.now) test.now && are_placed (numbers_of frame.now) (length frame.now.names.now) steps.now) ≡ true }
     requires begins { Begins (says (A.serves api.old) (A.log api.old))
         (meaning.exec (frame_of frame.now) (While (expression_at frame.now.names.now test.now) (statements_in frame.now.names.now steps.now)) (state_of frame.now.names.now local.old)) }
     ensures ready { A.is_ready api.new }
@@ -261,7 +358,7 @@ fn exec_all<A: Api>(
     requires ready { A.is_ready api.old }
     requires distinct { are_distinct frame.now.names.now ≡ true }
     requires room { length local.old.values.items ≡ length frame.now.names.now }
-    requires placed { are_placed (length frame.now.names.now) steps.now ≡ true }
+    requires placed { are_placed (numbers_of frame.now) (length frame.now.names.now) steps.now ≡ true }
     requires begins { Begins (says (A.serves api.old) (A.log api.old))
         (meaning.exec_all (frame_of frame.now) (statements_in frame.now.names.now steps.now) (state_of frame.now.names.now local.old)) }
     ensures ready { A.is_ready api.new }
@@ -338,6 +435,8 @@ pub fn walk<A: Api>(
         values,
     };
     let frame = Frame {
+        alloc,
+        program,
         params,
         deps,
         names: &code.names,

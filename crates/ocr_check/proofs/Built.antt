@@ -1,9 +1,14 @@
--- A function that breaks no rule has all its calls built.
-use Rattle.std.proofs.Common.{◌≡◌, ℕ, Bool, true, false, ◌&&◌, cond, List, [], ◌∷◌, Option, None, Some, refl}
+-- In a function that breaks no rule all calls are built, the functions that they name are there, and their lists are short.
+use Rattle.std.proofs.Common.{◌≡◌, ◌≤◌, ◌+◌, ℕ, suc, nat_le, Bool, true, false, ◌&&◌, ◌||◌, if◌then◌else◌, cond, List, [], ◌∷◌, length, Option, None, Some, refl, bytes_eq, arith}
+use Rattle.std.proofs.lemmas.Bool.{le-leb}
 use Rattle.std.specs.Option.{option_or}
 use Rattle.ocr_body.specs.Tree.{Expression, Arguments, Statement, Statements, FunctionTree}
 use Rattle.ocr_body.specs.Tree as tree
-use Rattle.ocr_body.specs.Built.{is_built, are_arguments_built, is_call_built, is_statement_built, are_statements_built, are_built}
+use Rattle.ocr_body.specs.Each.{is_each_call, is_each_call_of_all, is_each_call_in, is_each_call_in_all, is_each_call_of}
+use Rattle.ocr_body.specs.Built.{is_call_built, is_function_and_counts, are_built}
+use Rattle.ocr_body.specs.Rules.{is_function_named, are_functions_named, are_short, is_list_short, are_lists_short}
+use Rattle.ocr_body.specs.Serving.{number_named}
+use Rattle.ocr_body.specs.declared.tree.CallName.TheVariants as name
 use Rattle.ocr_body.specs.declared.tree.CallName.{CallName}
 use Rattle.ocr_check.specs.Check.{FailsNowhere, Breaks, BreaksSome}
 use Rattle.ocr_check.specs.Check as check
@@ -24,47 +29,52 @@ right_none : (a b : Option ℕ) → option_or a b ≡ None → b ≡ None
 right_none None b e = e
 right_none (Some r) b e = absurd (cc)
 
--- a call that breaks no rule is built
-call_keeps : (b : Bool) → cond b (let n : Option ℕ = None in n) (Some 8) ≡ None → b ≡ true
-call_keeps true e = refl
-call_keeps false e = absurd (cc)
+-- what breaks no rule holds
+held : (b : Bool) (rule : ℕ) → cond b (let n : Option ℕ = None in n) (Some rule) ≡ None → b ≡ true
+held true rule e = refl
+held false rule e = absurd (cc)
+
+-- each call that breaks no rule is so
+abbrev pub IsKept : (known : List ℕ → Bool) → (CallName → Arguments → Bool) → Type 0
+IsKept known p = (declared : List ℕ → Bool) (call : CallName) (xs : Arguments) → event_rule known declared (check.Called call xs) ≡ None
+    → arguments_rule known declared call Parameters xs ≡ None → p call xs ≡ true
 
 mutual
-  expression_keeps : (known declared : List ℕ → Bool) (e : Expression) → expression_rule known declared e ≡ None → is_built e ≡ true
-  expression_keeps known declared (tree.Number n) h = refl
-  expression_keeps known declared (tree.Named c) h = refl
-  expression_keeps known declared (tree.Var x) h = refl
-  expression_keeps known declared tree.Paramc h = refl
-  expression_keeps known declared tree.Depc h = refl
-  expression_keeps known declared tree.LastCode h = refl
-  expression_keeps known declared (tree.Paramv e) h = expression_keeps known declared e h
-  expression_keeps known declared (tree.Depv e) h = expression_keeps known declared e h
-  expression_keeps known declared (tree.Unary op e) h = expression_keeps known declared e h
-  expression_keeps known declared (tree.Binary op a b) h =
-      both_true (is_built a) (is_built b)
-      (expression_keeps known declared a (left_none (expression_rule known declared a) (expression_rule known declared b) h))
-      (expression_keeps known declared b (right_none (expression_rule known declared a) (expression_rule known declared b) h))
-  expression_keeps known declared (tree.Invoked call xs) h =
+  expression_keeps : (known : List ℕ → Bool) (p : CallName → Arguments → Bool) (kept : IsKept known p) (declared : List ℕ → Bool) (e : Expression) → expression_rule known declared e ≡ None → is_each_call p e ≡ true
+  expression_keeps known p kept declared (tree.Number n) h = refl
+  expression_keeps known p kept declared (tree.Named c) h = refl
+  expression_keeps known p kept declared (tree.Var x) h = refl
+  expression_keeps known p kept declared tree.Paramc h = refl
+  expression_keeps known p kept declared tree.Depc h = refl
+  expression_keeps known p kept declared tree.LastCode h = refl
+  expression_keeps known p kept declared (tree.Paramv e) h = expression_keeps known p kept declared e h
+  expression_keeps known p kept declared (tree.Depv e) h = expression_keeps known p kept declared e h
+  expression_keeps known p kept declared (tree.Unary op e) h = expression_keeps known p kept declared e h
+  expression_keeps known p kept declared (tree.Binary op a b) h =
+      both_true (is_each_call p a) (is_each_call p b)
+      (expression_keeps known p kept declared a (left_none (expression_rule known declared a) (expression_rule known declared b) h))
+      (expression_keeps known p kept declared b (right_none (expression_rule known declared a) (expression_rule known declared b) h))
+  expression_keeps known p kept declared (tree.Invoked call xs) h =
       let called : Option ℕ = event_rule known declared (check.Called call xs) in
-      both_true (is_call_built call xs) (are_arguments_built xs)
-      (call_keeps (is_call_built call xs) (left_none called (arguments_rule known declared call Parameters xs) h))
-      (arguments_keep known declared call Parameters xs (right_none called (arguments_rule known declared call Parameters xs) h))
+      let arguments : Option ℕ = arguments_rule known declared call Parameters xs in
+      both_true (p call xs) (is_each_call_of_all p xs) (kept declared call xs (left_none called arguments h) (right_none called arguments h))
+      (arguments_keep known p kept declared call Parameters xs (right_none called arguments h))
 
-  arguments_keep : (known declared : List ℕ → Bool) (call : CallName) (kind : ListKind) (xs : Arguments) → arguments_rule known declared call kind xs ≡ None → are_arguments_built xs ≡ true
-  arguments_keep known declared call kind tree.empty h = refl
-  arguments_keep known declared call kind (tree.value e rest) h =
-      both_true (is_built e) (are_arguments_built rest)
-      (expression_keeps known declared e (left_none (expression_rule known declared e) (arguments_rule known declared call kind rest) h))
-      (arguments_keep known declared call kind rest (right_none (expression_rule known declared e) (arguments_rule known declared call kind rest) h))
-  arguments_keep known declared call kind (tree.list es rest) h =
+  arguments_keep : (known : List ℕ → Bool) (p : CallName → Arguments → Bool) (kept : IsKept known p) (declared : List ℕ → Bool) (call : CallName) (kind : ListKind) (xs : Arguments) → arguments_rule known declared call kind xs ≡ None → is_each_call_of_all p xs ≡ true
+  arguments_keep known p kept declared call kind tree.empty h = refl
+  arguments_keep known p kept declared call kind (tree.value e rest) h =
+      both_true (is_each_call p e) (is_each_call_of_all p rest)
+      (expression_keeps known p kept declared e (left_none (expression_rule known declared e) (arguments_rule known declared call kind rest) h))
+      (arguments_keep known p kept declared call kind rest (right_none (expression_rule known declared e) (arguments_rule known declared call kind rest) h))
+  arguments_keep known p kept declared call kind (tree.list es rest) h =
       let members : Option ℕ = arguments_rule known declared call kind es in
       let closed : Option ℕ = event_rule known declared (check.ListClosed kind (check.count_of es)) in
       let others : Option ℕ = arguments_rule known declared call Dependences rest in
-      both_true (are_arguments_built es) (are_arguments_built rest)
-      (arguments_keep known declared call kind es (left_none members (option_or closed others) h))
-      (arguments_keep known declared call Dependences rest (right_none closed others (right_none members (option_or closed others) h)))
-  arguments_keep known declared call kind (tree.named x rest) h =
-      arguments_keep known declared call kind rest
+      both_true (is_each_call_of_all p es) (is_each_call_of_all p rest)
+      (arguments_keep known p kept declared call kind es (left_none members (option_or closed others) h))
+      (arguments_keep known p kept declared call Dependences rest (right_none closed others (right_none members (option_or closed others) h)))
+  arguments_keep known p kept declared call kind (tree.named x rest) h =
+      arguments_keep known p kept declared call kind rest
       (right_none (event_rule known declared (check.naming call x)) (arguments_rule known declared call kind rest) h)
 
 -- a part that passes tells no rule
@@ -81,55 +91,111 @@ inner_passes : (k m : Kept) (o : Outcome) → leaving k o ≡ Passed m → (n : 
 inner_passes k m (Passed n) e = (n, refl)
 inner_passes k m (Broken r) e = absurd (cc)
 
-value_keeps : (known : List ℕ → Bool) (k m : Kept) (e : Expression) → told k (value_rule known k e) ≡ Passed m → is_built e ≡ true
-value_keeps known k m e h = expression_keeps known (λ x. check.is_among x k.declared) e (told_passes k m (value_rule known k e) h)
+value_keeps : (known : List ℕ → Bool) (p : CallName → Arguments → Bool) (kept : IsKept known p) (k m : Kept) (e : Expression) → told k (value_rule known k e) ≡ Passed m → is_each_call p e ≡ true
+value_keeps known p kept k m e h = expression_keeps known p kept (λ x. check.is_among x k.declared) e (told_passes k m (value_rule known k e) h)
 
 mutual
-  statement_keeps : (known : List ℕ → Bool) (s : Statement) (k m : Kept) → statement_outcome known s k ≡ Passed m → is_statement_built s ≡ true
-  statement_keeps known (tree.Let x e) k m h =
+  statement_keeps : (known : List ℕ → Bool) (p : CallName → Arguments → Bool) (kept : IsKept known p) (s : Statement) (k m : Kept) → statement_outcome known s k ≡ Passed m → is_each_call_in p s ≡ true
+  statement_keeps known p kept (tree.Let x e) k m h =
       let part = first_passes (told k (option_or (let_rule k x) (value_rule known k e))) (λ n. Passed (with_name n x)) m h in
-      expression_keeps known (λ y. check.is_among y k.declared) e
+      expression_keeps known p kept (λ y. check.is_among y k.declared) e
       (right_none (let_rule k x) (value_rule known k e) (told_passes k part.0 (option_or (let_rule k x) (value_rule known k e)) part.1))
-  statement_keeps known (tree.Assign x e) k m h =
+  statement_keeps known p kept (tree.Assign x e) k m h =
       let used : Option ℕ = event_rule known (λ y. check.is_among y k.declared) (check.Used x) in
-      expression_keeps known (λ y. check.is_among y k.declared) e
+      expression_keeps known p kept (λ y. check.is_among y k.declared) e
       (right_none used (value_rule known k e) (told_passes k m (option_or used (value_rule known k e)) h))
-  statement_keeps known (tree.If e first second) k m h =
+  statement_keeps known p kept (tree.If e first second) k m h =
       let test = first_passes (told k (value_rule known k e))
       (λ n. and_then (leaving n (statements_outcome known first n)) (λ o. leaving o (statements_outcome known second o))) m h in
       let branch = first_passes (leaving test.0 (statements_outcome known first test.0)) (λ o. leaving o (statements_outcome known second o)) m test.2 in
       let inner = inner_passes test.0 branch.0 (statements_outcome known first test.0) branch.1 in
       let other = inner_passes branch.0 m (statements_outcome known second branch.0) branch.2 in
-      both_true (is_built e) (are_statements_built first && are_statements_built second) (value_keeps known k test.0 e test.1)
-      (both_true (are_statements_built first) (are_statements_built second)
-      (statements_keep known first test.0 inner.0 inner.1) (statements_keep known second branch.0 other.0 other.1))
-  statement_keeps known (tree.While e body) k m h =
+      both_true (is_each_call p e) (is_each_call_in_all p first && is_each_call_in_all p second) (value_keeps known p kept k test.0 e test.1)
+      (both_true (is_each_call_in_all p first) (is_each_call_in_all p second)
+      (statements_keep known p kept first test.0 inner.0 inner.1) (statements_keep known p kept second branch.0 other.0 other.1))
+  statement_keeps known p kept (tree.While e body) k m h =
       let test = first_passes (told k (value_rule known k e)) (λ n. leaving n (statements_outcome known body n)) m h in
       let inner = inner_passes test.0 m (statements_outcome known body test.0) test.2 in
-      both_true (is_built e) (are_statements_built body) (value_keeps known k test.0 e test.1) (statements_keep known body test.0 inner.0 inner.1)
-  statement_keeps known (tree.Print e) k m h = value_keeps known k m e h
-  statement_keeps known (tree.Return e) k m h = value_keeps known k m e h
-  statement_keeps known (tree.Do call xs) k m h = value_keeps known k m (tree.Invoked call xs) h
+      both_true (is_each_call p e) (is_each_call_in_all p body) (value_keeps known p kept k test.0 e test.1) (statements_keep known p kept body test.0 inner.0 inner.1)
+  statement_keeps known p kept (tree.Print e) k m h = value_keeps known p kept k m e h
+  statement_keeps known p kept (tree.Return e) k m h = value_keeps known p kept k m e h
+  statement_keeps known p kept (tree.Do call xs) k m h = value_keeps known p kept k m (tree.Invoked call xs) h
 
-  statements_keep : (known : List ℕ → Bool) (ss : Statements) (k m : Kept) → statements_outcome known ss k ≡ Passed m → are_statements_built ss ≡ true
-  statements_keep known tree.nothing k m h = refl
-  statements_keep known (tree.statement s rest) k m h =
+  statements_keep : (known : List ℕ → Bool) (p : CallName → Arguments → Bool) (kept : IsKept known p) (ss : Statements) (k m : Kept) → statements_outcome known ss k ≡ Passed m → is_each_call_in_all p ss ≡ true
+  statements_keep known p kept tree.nothing k m h = refl
+  statements_keep known p kept (tree.statement s rest) k m h =
       let part = first_passes (statement_outcome known s k) (λ n. statements_outcome known rest n) m h in
-      both_true (is_statement_built s) (are_statements_built rest) (statement_keeps known s k part.0 part.1) (statements_keep known rest part.0 m part.2)
+      both_true (is_each_call_in p s) (is_each_call_in_all p rest) (statement_keeps known p kept s k part.0 part.1) (statements_keep known p kept rest part.0 m part.2)
 
-passed_or_broken : (known : List ℕ → Bool) (ss : Statements) (o : Outcome) → statements_outcome known ss nothing_kept ≡ o → rule_of o ≡ None → are_statements_built ss ≡ true
-passed_or_broken known ss (Passed m) is h = statements_keep known ss nothing_kept m is
-passed_or_broken known ss (Broken r) is h = absurd (cc)
+passed_or_broken : (known : List ℕ → Bool) (p : CallName → Arguments → Bool) (kept : IsKept known p) (ss : Statements) (o : Outcome) → statements_outcome known ss nothing_kept ≡ o → rule_of o ≡ None → is_each_call_in_all p ss ≡ true
+passed_or_broken known p kept ss (Passed m) is h = statements_keep known p kept ss nothing_kept m is
+passed_or_broken known p kept ss (Broken r) is h = absurd (cc)
 
 -- a function that breaks no rule, by whether it does
-function_built : (names : List (List ℕ)) (f : FunctionTree) (o : Option ℕ) → function_rule (known_of names) f ≡ o → (BreaksSome names [] f → ⊥) → are_statements_built f.body ≡ true
-function_built names f None is keeps = passed_or_broken (known_of names) f.body (statements_outcome (known_of names) f.body nothing_kept) refl is
-function_built names f (Some r) is keeps = absurd (keeps (r, function_stops (known_of names) names (λ x. refl) f r is))
+function_keeps : (names : List (List ℕ)) (p : CallName → Arguments → Bool) (kept : IsKept (known_of names) p) (f : FunctionTree) (o : Option ℕ) → function_rule (known_of names) f ≡ o → (BreaksSome names [] f → ⊥)
+    → is_each_call_in_all p f.body ≡ true
+function_keeps names p kept f None is keeps = passed_or_broken (known_of names) p kept f.body (statements_outcome (known_of names) f.body nothing_kept) refl is
+function_keeps names p kept f (Some r) is keeps = absurd (keeps (r, function_stops (known_of names) names (λ x. refl) f r is))
 
--- where no function breaks a rule, all calls are built
+-- where no function breaks a rule, each call is so
+keeps_each : (names : List (List ℕ)) (p : CallName → Arguments → Bool) (kept : IsKept (known_of names) p) (fs : List FunctionTree) → FailsNowhere (BreaksSome names) fs → is_each_call_of p fs ≡ true
+keeps_each names p kept [] none = refl
+keeps_each names p kept (f ∷ fs) none =
+    both_true (is_each_call_in_all p f.body) (is_each_call_of p fs)
+    (function_keeps names p kept f (function_rule (known_of names) f) refl (none [] fs f refl))
+    (keeps_each names p kept fs (λ before after g is b. none (f ∷ before) after g (λ i. f ∷ is i) b))
+
+-- BUILT
+built_kept : (known : List ℕ → Bool) → IsKept known is_call_built
+built_kept known declared call xs called arguments = held (is_call_built call xs) 8 called
+
 pub keeps_built : (names : List (List ℕ)) (fs : List FunctionTree) → FailsNowhere (BreaksSome names) fs → are_built fs ≡ true
-keeps_built names [] none = refl
-keeps_built names (f ∷ fs) none =
-    both_true (are_statements_built f.body) (are_built fs)
-    (function_built names f (function_rule (known_of names) f) refl (none [] fs f refl))
-    (keeps_built names fs (λ before after g is b. none (f ∷ before) after g (λ i. f ∷ is i) b))
+keeps_built names fs none = keeps_each names is_call_built (built_kept (known_of names)) fs none
+
+-- NAMED
+here : (b c : Bool) (n most : ℕ) → (b || c) ≡ true → (c ≡ true → n ≤ most) → (if b then 1 else n + 1) ≤ suc most
+here true c n most among rest = omega arith
+here false c n most among rest = omega (arith, rest among)
+
+-- a function that is there has a number
+pub named_within : (name : List ℕ) (program : List FunctionTree) → check.is_among name (check.names_of program) ≡ true → number_named name program ≤ length program
+named_within name [] among = cc among
+named_within name (f ∷ rest) among =
+    here (bytes_eq f.name name) (check.is_among name (check.names_of rest)) (number_named name rest) (length rest) among (named_within name rest)
+
+template_named : (program : List FunctionTree) (declared : List ℕ → Bool) (xs : Arguments) → is_function_and_counts xs ≡ true
+    → arguments_rule (known_of (check.names_of program)) declared name.TemplateCreate Parameters xs ≡ None → is_function_named program name.TemplateCreate xs ≡ true
+template_named program declared (tree.named f (tree.value c (tree.value d tree.empty))) shape arguments =
+    let known = known_of (check.names_of program) in
+    let rest : Option ℕ = arguments_rule known declared name.TemplateCreate Parameters (tree.value c (tree.value d tree.empty)) in
+    le-leb (number_named f program) (length program) (named_within f program (held (known f) 5 (left_none (event_rule known declared (check.FunctionNamed f)) rest arguments)))
+template_named program declared other shape arguments = cc shape
+
+named_kept : (program : List FunctionTree) → IsKept (known_of (check.names_of program)) (is_function_named program)
+named_kept program declared name.TemplateCreate xs called arguments =
+    template_named program declared xs (held (is_function_and_counts xs) 8 called) arguments
+named_kept program declared other xs called arguments = refl
+
+pub keeps_named : (fs : List FunctionTree) → FailsNowhere (BreaksSome (check.names_of fs)) fs → are_functions_named fs ≡ true
+keeps_named fs none = keeps_each (check.names_of fs) (is_function_named fs) (named_kept fs) fs none
+
+-- SHORT
+short_arguments : (known declared : List ℕ → Bool) (call : CallName) (kind : ListKind) (xs : Arguments) → arguments_rule known declared call kind xs ≡ None → are_short (check.most_members kind) xs ≡ true
+short_arguments known declared call kind tree.empty h = refl
+short_arguments known declared call kind (tree.value e rest) h =
+    short_arguments known declared call kind rest (right_none (expression_rule known declared e) (arguments_rule known declared call kind rest) h)
+short_arguments known declared call kind (tree.list es rest) h =
+    let members : Option ℕ = arguments_rule known declared call kind es in
+    let closed : Option ℕ = event_rule known declared (check.ListClosed kind (check.count_of es)) in
+    let others : Option ℕ = arguments_rule known declared call Dependences rest in
+    both_true (nat_le (check.count_of es) (check.most_members kind)) (are_short 32 rest)
+    (held (nat_le (check.count_of es) (check.most_members kind)) 6 (left_none closed others (right_none members (option_or closed others) h)))
+    (short_arguments known declared call Dependences rest (right_none closed others (right_none members (option_or closed others) h)))
+short_arguments known declared call kind (tree.named x rest) h =
+    short_arguments known declared call kind rest (right_none (event_rule known declared (check.naming call x)) (arguments_rule known declared call kind rest) h)
+
+short_kept : (known : List ℕ → Bool) → IsKept known is_list_short
+short_kept known declared call xs called arguments = short_arguments known declared call Parameters xs arguments
+
+pub keeps_short : (names : List (List ℕ)) (fs : List FunctionTree) → FailsNowhere (BreaksSome names) fs → are_lists_short fs ≡ true
+keeps_short names fs none = keeps_each names is_list_short (short_kept (known_of names)) fs none

@@ -4,6 +4,7 @@ pub mod First
 pub mod Judging
 pub mod Names
 pub mod Parts
+pub mod Plain
 pub mod Rows
 pub mod Blocks
 pub mod Outcomes

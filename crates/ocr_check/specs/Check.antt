@@ -7,6 +7,7 @@ use Rattle.std.specs.List.{list_any}
 use Rattle.ocr_body.specs.Tree.{Expression, Arguments, Statement, Statements, FunctionTree}
 use Rattle.ocr_body.specs.Tree as tree
 use Rattle.ocr_body.specs.Built.{is_call_built}
+pub use Rattle.ocr_body.specs.Rules.{count_of}
 use Rattle.ocr_body.specs.declared.tree.CallName.{CallName}
 use Rattle.ocr_body.specs.declared.tree.CallName.TheVariants as name
 use Rattle.ocr_check.specs.declared.scope.ListKind.{ListKind}
@@ -68,13 +69,6 @@ naming name.Shutdown x = Used x
 naming name.Abort x = Used x
 naming name.Load x = Used x
 naming name.Store x = Used x
-
--- how many members a list has
-abbrev pub count_of : Arguments → ℕ
-count_of tree.empty = 0
-count_of (tree.value e rest) = suc (count_of rest)
-count_of (tree.list members rest) = suc (count_of rest)
-count_of (tree.named x rest) = suc (count_of rest)
 
 abbrev mutual
   pub events_of_expression : Expression → List Event

@@ -4,6 +4,7 @@ ghost use Rattle.ocr_check.specs.Check.{FailsNowhere, HasNamesake, BreaksNoRule,
 ghost use Rattle.ocr_check.specs.Check.{names_of as names_in};
 ghost use Rattle.ocr_check.specs.Scope.{knows, IsStopOf};
 ghost use Rattle.ocr_body.specs.Built.{are_built};
+ghost use Rattle.ocr_body.specs.Rules.{are_functions_named, are_lists_short};
 ghost use Rattle.ocr_body.specs.Checked.{checked_tree};
 ghost use Rattle.ocr_body.specs.View.{functions_of, tree_of};
 
@@ -84,6 +85,8 @@ fn judge(alloc: Global, functions: &[Function]) -> Result<(), CheckStop>
     requires { length functions.now < 2 ^ 32 }
     ensures ok { OnOk result (BreaksNoRule (functions_of functions.now)) }
     ensures built { OnOk result (are_built (functions_of functions.now) ≡ true) }
+    ensures named { OnOk result (are_functions_named (functions_of functions.now) ≡ true) }
+    ensures short { OnOk result (are_lists_short (functions_of functions.now) ≡ true) }
     ensures main { OnOk result (is_among main_name (names_in (functions_of functions.now)) ≡ true) }
     ensures err { IfErr result (IsStopOf (functions_of functions.now)) }
 {
@@ -102,15 +105,17 @@ fn judge(alloc: Global, functions: &[Function]) -> Result<(), CheckStop>
 
 /// Makes a program ready to be run where it breaks no rule. Otherwise the fault is its first breach: two functions of one name are looked
 /// for first, then whether there is a `mainEdt`, and then each function is walked in the order of the text.
-/// `NoMemory` is also the answer to more functions than a fault can number, which is 2^32 or more.
+/// `NoMemory` is also the answer to more functions than a fault can number, which is 2^32 - 1 or more.
 pub fn check(alloc: Global, program: Program) -> Result<Checked, CheckStop>
     ensures tree { IfOk result (λ checked. checked_tree checked ≡ tree_of program) }
     ensures ok { OnOk result (BreaksNoRule (tree_of program)) }
     ensures built { OnOk result (are_built (tree_of program) ≡ true) }
+    ensures named { OnOk result (are_functions_named (tree_of program) ≡ true) }
+    ensures short { OnOk result (are_lists_short (tree_of program) ≡ true) }
     ensures main { OnOk result (is_among main_name (names_in (tree_of program)) ≡ true) }
     ensures fault { IfErr result (IsStopOf (tree_of program)) }
 {
-    if program.functions.len() > u32::MAX as usize {
+    if program.functions.len() >= u32::MAX as usize {
         return Err(CheckStop::NoMemory);
     }
     judge(alloc, &program.functions)?;

@@ -1,5 +1,5 @@
 // The walk of a function in the order of its text, with the names that were let.
-ghost use Rattle.std.specs.Prelude.{◌≡◌, ℕ, List, None, IfErr, OnOk};
+ghost use Rattle.std.specs.Prelude.{◌≡◌, ◌&&◌, ℕ, List, None, IfErr, OnOk};
 ghost use Rattle.ocr_check.specs.Check.{Used, FunctionNamed};
 ghost use Rattle.ocr_check.specs.declared.scope.ListKind.TheVariants.{Parameters, Dependences};
 ghost use Rattle.ocr_body.specs.declared.tree.CallName.TheVariants.{EdtCreate};
@@ -7,7 +7,8 @@ ghost use Rattle.ocr_check.specs.Check.{is_among as among, is_built as built};
 ghost use Rattle.ocr_check.specs.Checking.{event_rule, expression_rule, arguments_rule, call_rule, let_rule, with_name, nothing_kept, Passed, leaving, statement_outcome, statements_outcome, function_rule};
 ghost use Rattle.ocr_check.specs.Scope.{texts, known_in, declared_in, kept_in, knows, members_rule, assign_rule, IsFaultIn, IsStopIn, IsStopAt, IsSameFunction};
 ghost use Rattle.ocr_body.specs.Tree.{Let};
-ghost use Rattle.ocr_body.specs.View.{expression_of, name_of, arguments_of, output_of, statement_of, statements_of, function_of};
+ghost use Rattle.ocr_body.specs.Built.{is_none};
+ghost use Rattle.ocr_body.specs.View.{expression_of, name_of, arguments_of, members_of, output_of, statement_of, statements_of, function_of};
 
 use crate::rules::{CheckFault, CheckStop};
 use ocr_body::{Expr, Function, Invoke, Name, Stmt};
@@ -64,6 +65,14 @@ fn is_among(name: &[u8], others: &[&[u8]]) -> bool
     others.contains(&name)
 }
 
+// Whether a creation asks for no dependences and no output event.
+#[tactic(auto, using(crate::proofs::Plain::no_members, crate::proofs::Plain::no_output))]
+fn is_plain(deps: &[Expr], output: &Option<Name>) -> bool
+    ensures { result ≡ (is_none (members_of deps.now) && is_none (output_of output.now)) }
+{
+    deps.is_empty() && output.is_none()
+}
+
 // Whether a call can be made already.
 fn is_built(call: &Invoke) -> bool
     ensures { result ≡ built (name_of call.now) (arguments_of call.now) }
@@ -78,9 +87,9 @@ fn is_built(call: &Invoke) -> bool
         Invoke::Satisfy { .. } => false,
         Invoke::SatisfySlot { .. } => false,
         Invoke::AddDependence { .. } => false,
-        Invoke::TemplateCreate { .. } => false,
+        Invoke::TemplateCreate { .. } => true,
         Invoke::TemplateDestroy { .. } => false,
-        Invoke::EdtCreate { .. } => false,
+        Invoke::EdtCreate { deps, output, .. } => is_plain(deps, output),
         Invoke::Shutdown => true,
         Invoke::Abort { .. } => true,
         Invoke::Load { .. } => false,

@@ -1,1 +1,11 @@
-pub mod Starts
+pub mod After
+pub mod Arguments
+pub mod Footprints
+pub mod Going
+pub mod Keeping
+pub mod Local
+pub mod Next
+pub mod Places
+pub mod Present
+pub mod Told
+pub mod Wholes

@@ -1,6 +1,17 @@
 pub mod Blocks
+pub mod Calls
+pub mod Codes
 pub mod Edts
+pub mod Effects
+pub mod Footprint
 pub mod History
 pub mod Laws
 pub mod Legal
+pub mod LegalOn
+pub mod Made
+pub mod Messages
+pub mod New
 pub mod Output
+pub mod Parts
+pub mod Table
+pub mod Whole

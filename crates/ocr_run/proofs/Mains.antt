@@ -1,17 +1,9 @@
 -- The number of `mainEdt` in a program that has it.
-use Rattle.std.proofs.Common.{◌≡◌, ◌≤◌, ◌<◌, ◌+◌, ℕ, suc, List, [], ◌∷◌, Bool, true, false, ◌||◌, if◌then◌else◌, bytes_eq, length, arith}
+use Rattle.std.proofs.Common.{◌≡◌, ◌≤◌, ◌<◌, ◌+◌, ℕ, List, [], ◌∷◌, Bool, true, false, if◌then◌else◌, bytes_eq, length, arith}
 use Rattle.ocr_body.specs.Tree.{FunctionTree}
 use Rattle.ocr_body.specs.Serving.{number_named, number_of_main}
 use Rattle.ocr_check.specs.Check.{is_among, names_of, main_name}
-
-here : (b c : Bool) (n most : ℕ) → (b || c) ≡ true → (c ≡ true → n ≤ most) → (if b then 1 else n + 1) ≤ suc most
-here true c n most among rest = omega arith
-here false c n most among rest = omega (arith, rest among)
-
-named_within : (name : List ℕ) (program : List FunctionTree) → is_among name (names_of program) ≡ true → number_named name program ≤ length program
-named_within name [] among = cc among
-named_within name (f ∷ rest) among =
-    here (bytes_eq f.name name) (is_among name (names_of rest)) (number_named name rest) (length rest) among (named_within name rest)
+use Rattle.ocr_check.proofs.Built.{named_within}
 
 pub main_within : (program : List FunctionTree) → is_among main_name (names_of program) ≡ true → number_of_main program ≤ length program
 main_within program among = named_within main_name program among

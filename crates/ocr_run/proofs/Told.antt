@@ -10,7 +10,7 @@ use Rattle.ocr_machine.specs.History.{history_of}
 use Rattle.ocr_machine.specs.Output.{ending_of}
 use Rattle.ocr_run.specs.declared.text.TextFault.{TextFault}
 use Rattle.ocr_run.specs.Lines.{ending_line}
-use Rattle.ocr_run.specs.UnderWay.{IsMet, shut_down, aborted, faulted, out_of_memory}
+use Rattle.ocr_run.specs.UnderWay.{IsMet, shut_down, aborted, faulted, out_of_memory, limited}
 use Rattle.ocr_run.specs.Headline as headline
 use Rattle.ocr_run.specs.Headline.{IsTold, IsStatus, IsStatusOf, IsCaused, IsWritten, whole, front, nothing, CameTo, is_unrun, ran, refused, no_program, read_failed, write_failed, IsAllOf, IsLine, of_run, words_refused, text_too_big, text_refused, read_fault, write_fault, want_of_memory}
 
@@ -70,6 +70,7 @@ met_status status shut_down = ran
 met_status status aborted = headline.aborted
 met_status status faulted = headline.faulted
 met_status status out_of_memory = headline.out_of_memory
+met_status status limited = headline.limited
 
 or_cases : (a b : Bool) → (a || b) ≡ true → (a ≡ true) ⊎ (b ≡ true)
 or_cases true b is = inl refl
@@ -104,7 +105,7 @@ unrun_of : (n status : ℕ) → is_unrun n ≡ false → is_unrun status ≡ tru
 unrun_of n status never is = (λ same. absurd (not_unrun n status never is same), λ both. absurd both.0)
 
 pub unrun_caused : (journal : Option (List Entry)) (status : ℕ) → IsNone journal → is_unrun status ≡ true → IsCaused journal status
-unrun_caused None status none is = record { ended = unrun_of 0 status refl is; aborted = unrun_of 5 status refl is; faulted = unrun_of 6 status refl is }
+unrun_caused None status none is = record { ended = unrun_of 0 status refl is; aborted = unrun_of 5 status refl is; faulted = unrun_of 6 status refl is; limited = unrun_of 10 status refl is }
 unrun_caused (Some entries) status none is = cc none
 
 -- the status of a run that was written
@@ -128,6 +129,7 @@ run_caused journal entries old new fault text ending status given came written =
   ended = status_of_run journal entries old new fault text ending status 0 (λ is. omega (arith, is)) (λ is. omega (arith, is)) given came written;
   aborted = status_of_run journal entries old new fault text ending status 5 (λ is. omega (arith, is)) (λ is. omega (arith, is)) given came written;
   faulted = status_of_run journal entries old new fault text ending status 6 (λ is. omega (arith, is)) (λ is. omega (arith, is)) given came written;
+  limited = status_of_run journal entries old new fault text ending status 10 (λ is. omega (arith, is)) (λ is. omega (arith, is)) given came written;
 }
 
 not_eight : (status : ℕ) → IsMet status → status ≡ 8 → ⊥
@@ -135,16 +137,18 @@ not_eight status shut_down is = omega (arith, is)
 not_eight status aborted is = omega (arith, is)
 not_eight status faulted is = omega (arith, is)
 not_eight status out_of_memory is = omega (arith, is)
+not_eight status limited is = omega (arith, is)
 
 -- the statuses of runs that were written
 abbrev pub is_run_status : ℕ → Bool
-is_run_status n = (n == 0) || ((n == 5) || ((n == 6) || ((n == 8) || (n == 9))))
+is_run_status n = (n == 0) || ((n == 5) || ((n == 6) || ((n == 8) || ((n == 9) || (n == 10)))))
 
 met_run : (status : ℕ) → IsMet status → is_run_status status ≡ true
 met_run status shut_down = refl
 met_run status aborted = refl
 met_run status faulted = refl
 met_run status out_of_memory = refl
+met_run status limited = refl
 
 run_status : (old new : Option (List ℕ)) (fault : Type 0) (text : List ℕ) (ending status : ℕ) → IsMet ending → IsWritten old new fault text ending status → is_run_status status ≡ true
 run_status old new fault text ending status met (whole other appends) = met_run ending met

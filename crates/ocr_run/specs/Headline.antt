@@ -10,19 +10,21 @@ use Rattle.ocr_machine.specs.Legal.{IsRun, IsQuiet}
 use Rattle.ocr_machine.specs.Laws.{StartsOnce, LeavesOpen}
 use Rattle.ocr_machine.specs.Output.{printed, ending_of}
 use Rattle.ocr_run.specs.declared.text.TextFault.{TextFault}
+use Rattle.ocr_run.specs.Limits.{IsLimited}
 use Rattle.ocr_run.specs.Lines.{ending_line, fault_line}
 use Rattle.ocr_run.specs.ProgramText.{IsProgramText, IsNoProgram, most_bytes}
 use Rattle.ocr_run.specs.UnderWay.{setting_of, IsFinished}
 
--- these bytes are a program, this is the journal of a run of it that came to its end, this text is the run's output,
--- and this is its status
+-- these bytes are a program, this is the journal of a run of it that came to its end and kept the limits, this text is the
+-- run's output, and this is its status
 pub record IsExecuted (bytes : List ℕ) (journal : List Entry) (text : List ℕ) (status : ℕ) : Type 0 where
   pub program : List FunctionTree
   pub is_program : IsProgramText bytes program
   pub run : IsRun (setting_of program) (history_of journal)
   pub finished : IsFinished (setting_of program) (history_of journal)
   pub once : StartsOnce (history_of journal)
-  pub left : IsQuiet (setting_of program) (history_of journal) → LeavesOpen (history_of journal)
+  pub left : IsQuiet (setting_of program) (history_of journal) → LeavesOpen (setting_of program) (history_of journal)
+  pub limited : IsLimited (setting_of program) (history_of journal)
   pub output : text ≡ printed (history_of journal)
   pub ending : status ≡ ending_of (history_of journal)
 
@@ -59,11 +61,12 @@ CameTo (Some journal) n = ending_of (history_of journal) ≡ n
 abbrev pub IsStatusOf : Option (List Entry) → ℕ → ℕ → Type 0
 IsStatusOf journal status n = (status ≡ n) ↔ (CameTo journal n × (status ≢ 8))
 
--- the statuses of runs come exactly from their ends: quiet or a shutdown, an abort, a fault in a body
+-- the statuses of runs come exactly from their ends: quiet or a shutdown, an abort, a fault in a body, a limit
 pub record IsCaused (journal : Option (List Entry)) (status : ℕ) : Type 0 where
   pub ended : IsStatusOf journal status 0
   pub aborted : IsStatusOf journal status 5
   pub faulted : IsStatusOf journal status 6
+  pub limited : IsStatusOf journal status 10
 
 -- the one word that is taken
 abbrev pub AreRun : List (List ℕ) → Type 0
@@ -110,6 +113,7 @@ pub data IsStatus : ℕ → Type 0 where
   read_failed : IsStatus 7
   write_failed : IsStatus 8
   out_of_memory : IsStatus 9
+  limited : IsStatus 10
 
 -- the statuses without a run
 abbrev pub is_unrun : ℕ → Bool

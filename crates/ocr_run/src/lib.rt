@@ -4,6 +4,7 @@
 mod desk;
 mod ending;
 mod execute;
+mod going;
 mod lines;
 mod log;
 mod output;

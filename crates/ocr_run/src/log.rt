@@ -1,5 +1,5 @@
 // The entries of a run that goes on.
-ghost use Rattle.std.specs.Prelude.{◌≡◌, ◌<◌, ◌++◌, ◌∷◌, [], vec_len, vec_capacity, IfOk, OnOk, OnErr};
+ghost use Rattle.std.specs.Prelude.{◌≡◌, ◌<◌, ◌+◌, ◌++◌, ◌∷◌, [], vec_len, vec_capacity, IfOk, OnOk};
 
 use ocr_guid::NoMemory;
 use ocr_machine::{Entry, Journal, Stop};
@@ -22,16 +22,23 @@ impl Log {
         }
     }
 
-    /// Enters an entry. Where memory is refused, the entries are as they were.
-    pub fn push(&mut self, entry: Entry) -> Result<(), NoMemory>
-        ensures ok { OnOk result (self.new.entries.items ≡ self.old.entries.items ++ entry ∷ []) }
-        ensures err { OnErr result (self.new.entries.items ≡ self.old.entries.items) }
+    /// Makes room for one more entry.
+    pub fn reserve(&mut self) -> Result<(), NoMemory>
+        ensures same { self.new.entries.items ≡ self.old.entries.items }
+        ensures room { OnOk result (vec_len self.new.entries + 1 < vec_capacity self.new.entries) }
     {
-        if self.entries.reserve(2).is_err() {
-            return Err(NoMemory);
+        match self.entries.reserve(2) {
+            Ok(()) => Ok(()),
+            Err(_) => Err(NoMemory),
         }
+    }
+
+    /// Enters an entry, for which there is room.
+    pub fn enter(&mut self, entry: Entry)
+        requires { vec_len self.old.entries + 1 < vec_capacity self.old.entries }
+        ensures { self.new.entries.items ≡ self.old.entries.items ++ entry ∷ [] }
+    {
         self.entries.push_reserved(entry);
-        Ok(())
     }
 
     /// The journal that ends with a Stop, which takes no memory.

@@ -141,8 +141,8 @@ fn answer<O: Sink, E: Sink>(alloc: Global, bytes: &[u8], out: &mut O, err: &mut 
 /// The program: looks at the words, reads the input, runs the task program that it is, and writes what it prints.
 ///
 /// The one word that is taken is `run`. The status is that of docs/SPECIFICATION.md, "The program", and the line that
-/// goes with it is written to `err`. The journal is given with each of the statuses 0, 5, 6 and 8, may be given with 9,
-/// and is not given with 2, 3 and 7.
+/// goes with it is written to `err`. The journal is given with each of the statuses 0, 5, 6, 8 and 10, may be given with
+/// 9, and is not given with 2, 3 and 7.
 pub fn ocr_main<S: Source, O: Sink, E: Sink>(
     alloc: Global,
     words: &[String],
@@ -150,11 +150,11 @@ pub fn ocr_main<S: Source, O: Sink, E: Sink>(
     out: &mut O,
     err: &mut E,
 ) -> Ended
-    // The headline: all bytes of the source are a program, the journal is a run of it that came to its end, and the
-    // bytes written are the journal's output.
+    // The headline: all bytes of the source are a program, the journal is a run of it that came to its end and kept the
+    // limits, and the bytes written are the journal's output.
     ensures headline { IfSome result.journal (IsHeadline (S.left input.old) (S.left input.new) (O.taken out.old) (O.taken out.new)
         (Rose (O.failures out.old) (O.failures out.new)) result.status) }
-    ensures given { (result.status ≡ 0) ⊎ (result.status ≡ 5) ⊎ (result.status ≡ 6) ⊎ (result.status ≡ 8) → IsSome result.journal }
+    ensures given { (result.status ≡ 0) ⊎ (result.status ≡ 5) ⊎ (result.status ≡ 6) ⊎ (result.status ≡ 8) ⊎ (result.status ≡ 10) → IsSome result.journal }
     ensures silent { IfNone result.journal (Keeps (O.taken out.old) (O.taken out.new)) }
 
     // Each status has its cause.

@@ -1,20 +1,25 @@
 // The one worker.
-ghost use Rattle.std.specs.Prelude.{true, ◌≡◌, ◌⊎◌, ◌++◌, ◌∷◌, [], OnOk, OnErr, IfOk};
-ghost use Rattle.ocr_body.specs.Behaviour.{Stops};
+ghost use Rattle.std.specs.Prelude.{◌≡◌, ◌==◌, if◌then◌else◌, ◌⊎◌, ◌+◌, ◌++◌, ◌∷◌, [], true, None, OnOk, IfErr, IfOk};
+ghost use Rattle.ocr_body.specs.Behaviour.{Ends, Stops};
 ghost use Rattle.ocr_body.specs.Checked.{checked_tree};
 ghost use Rattle.ocr_body.specs.Laws.{IsSaid};
-ghost use Rattle.ocr_machine.specs.History.{history_of, own, is_stopped, Setting};
+ghost use Rattle.ocr_machine.specs.History.{history_of, own};
 ghost use Rattle.ocr_machine.specs.Edts.{says_next};
+ghost use Rattle.ocr_machine.specs.Made.{is_edt};
 ghost use Rattle.ocr_machine.specs.Legal.{IsRun};
+ghost use Rattle.ocr_run.specs.Going.{IsBefore, IsServing, stop_for};
 ghost use Rattle.ocr_run.specs.Lines.{end_of, end_status};
-ghost use Rattle.ocr_run.specs.UnderWay.{setting_of, stop_for, IsMet, IsRunnable, IsOpenRun, IsUnderWay, IsFinished};
+ghost use Rattle.ocr_run.specs.Limits.{IsLimited};
+ghost use Rattle.ocr_run.specs.Serving.{GoesOn, MayStop};
+ghost use Rattle.ocr_run.specs.UnderWay.{setting_of, IsMet, IsRunnable, IsFinished};
 
-use crate::desk::{ARGUMENTS, Desk, MAIN_EDT};
+use crate::desk::Desk;
 use crate::ending::Ending;
+use crate::going::{ARGUMENTS, Going, LIMIT, MAIN_EDT};
 use crate::log::Log;
 use ocr_body::{BodyStop, Checked, walk};
 use ocr_guid::{Guid, NoMemory};
-use ocr_machine::{Entry, Fault, Journal, Stop, Writes};
+use ocr_machine::{Entry, Fault, Journal, Stop};
 use std::alloc::Global;
 
 const FUEL: u64 = 1_000_000;
@@ -26,68 +31,161 @@ pub struct Done {
     pub ending: Ending,
 }
 
-#[tactic(auto, using(crate::proofs::Steps::history_more, crate::proofs::Steps::opened_under_way))]
-/// Runs a program with one worker. Where memory is refused in the run, the journal ends with the Stop Memory.
+/// Runs a program with one worker: each EDT in the order in which they were made. Where memory is refused in the run,
+/// the journal ends with the Stop Memory.
 pub fn run(alloc: Global, program: &Checked) -> Result<Done, NoMemory>
     requires { IsRunnable (checked_tree program.now) }
     ensures run { IfOk result (λ done. IsRun (setting_of (checked_tree program.now)) (history_of done.journal)) }
     ensures finished { IfOk result (λ done. IsFinished (setting_of (checked_tree program.now)) (history_of done.journal)) }
+    ensures limits { IfOk result (λ done. IsLimited (setting_of (checked_tree program.now)) (history_of done.journal)) }
     ensures ending { IfOk result (λ done. done.ending ≡ end_of (history_of done.journal)) }
     ensures met { IfOk result (λ done. IsMet (end_status done.ending)) }
 {
-    let mut log = Log::new(alloc)?;
-    if let Err(NoMemory) = begin(&mut log) {
-        return Ok(stopped(log, BodyStop::NoMemory));
-    }
     let mut desk = Desk {
         alloc,
-        program,
-        log,
+        edt: MAIN_EDT,
+        going: Going::opened(alloc, program)?,
+        stop: None,
+        closings: 0,
     };
-    let main = program.main_function();
-    let ending = walk(alloc, program, main, &[], &[ARGUMENTS], FUEL, &mut desk);
+    let ended = run_all(&mut desk);
     let Desk {
         alloc: _,
-        program: _,
-        mut log,
+        edt: _,
+        going,
+        stop: _,
+        closings: _,
     } = desk;
-    match ending {
-        Ok(returned) => {
-            if let Err(NoMemory) = end(alloc, &mut log, returned) {
-                return Ok(stopped(log, BodyStop::NoMemory));
-            }
-            Ok(Done {
-                journal: log.finished(),
-                ending: Ending::Quiet(0),
-            })
-        }
+    let Going {
+        program: _,
+        log,
+        weight: _,
+        table: _,
+        made: _,
+    } = going;
+    match ended {
+        Ok(()) => Ok(Done {
+            journal: log.finished(),
+            ending: Ending::Quiet(0),
+        }),
         Err(stop) => Ok(stopped(log, stop)),
     }
 }
 
-fn fault(fault: Fault) -> Stop
-    ensures { result ≡ Stop.Fault 2 fault }
+// The run ends by a Stop.
+fn stopped(log: Log, stop: Stop) -> Done
+    ensures journal { result.journal ≡ log.entries.items ++ Entry.Stop stop ∷ [] }
+    ensures ending { result.ending ≡ Ending.Stopped stop }
 {
-    Stop::Fault {
-        edt: MAIN_EDT,
-        fault,
+    let ending = ending_by(&stop);
+    Done {
+        journal: log.stopped(stop),
+        ending,
     }
 }
 
-// The stop of a run whose first EDT's body stopped so.
-fn stop_of(stop: BodyStop) -> Stop
+fn ending_by(stop: &Stop) -> Ending
+    ensures { result ≡ Ending.Stopped stop.now }
+{
+    Ending::Stopped(*stop)
+}
+
+// Runs every EDT: one that is made later has a greater number.
+fn run_all(desk: &mut Desk) -> Result<(), Stop>
+    requires going { GoesOn desk.old.going }
+    requires first { desk.old.going.log.entries.items ≡ [] }
+    requires open_run { desk.old.stop ≡ None }
+    requires unclosed { desk.old.closings ≡ 0 }
+    ensures program { desk.new.going.program.now ≡ desk.old.going.program.now }
+    ensures going { OnOk result (GoesOn desk.new.going) }
+    ensures before { OnOk result (IsBefore (history_of desk.new.going.log.entries.items) 4097) }
+    ensures stop { IfErr result (MayStop desk.new.going) }
+{
+    for edt in 2..LIMIT + 1 {
+        if desk.going.is_edt(Guid(edt)) {
+            run_edt(desk, Guid(edt))?;
+        }
+    }
+    Ok(())
+}
+
+// Runs one EDT, from its waking to its end.
+fn run_edt(desk: &mut Desk, edt: Guid) -> Result<(), Stop>
+    requires going { GoesOn desk.old.going }
+    requires made { is_edt (history_of desk.old.going.log.entries.items) edt ≡ true }
+    requires before { IsBefore (history_of desk.old.going.log.entries.items) edt }
+    requires open_run { desk.old.stop ≡ None }
+    requires unclosed { desk.old.closings ≡ 0 }
+    ensures program { desk.new.going.program.now ≡ desk.old.going.program.now }
+    ensures going { OnOk result (GoesOn desk.new.going) }
+    ensures before { OnOk result (IsBefore (history_of desk.new.going.log.entries.items) (edt + 1)) }
+    ensures open_run { OnOk result (desk.new.stop ≡ None) }
+    ensures unclosed { OnOk result (desk.new.closings ≡ 0) }
+    ensures stop { IfErr result (MayStop desk.new.going) }
+{
+    desk.going.wake(desk.alloc, edt)?;
+    let returned = run_body(desk, edt)?;
+    desk.going.finish(desk.alloc, edt, returned)
+}
+
+// Runs the body of an EDT.
+fn run_body(desk: &mut Desk, edt: Guid) -> Result<Guid, Stop>
+    requires going { GoesOn desk.old.going }
+    requires serving { IsServing (setting_of (checked_tree desk.old.going.program.now)) (history_of desk.old.going.log.entries.items) edt }
+    requires fresh { own (history_of desk.old.going.log.entries.items) edt ≡ [] }
+    requires open_run { desk.old.stop ≡ None }
+    requires unclosed { desk.old.closings ≡ 0 }
+    ensures program { desk.new.going.program.now ≡ desk.old.going.program.now }
+    ensures going { OnOk result (GoesOn desk.new.going) }
+    ensures serving { OnOk result (IsServing (setting_of (checked_tree desk.new.going.program.now)) (history_of desk.new.going.log.entries.items) edt) }
+    ensures ended { IfOk result (λ g. says_next (setting_of (checked_tree desk.new.going.program.now)) (history_of desk.new.going.log.entries.items) edt ≡ Ends g) }
+    ensures open_run { OnOk result (desk.new.stop ≡ None) }
+    ensures unclosed { OnOk result (desk.new.closings ≡ 0) }
+    ensures stop { IfErr result (MayStop desk.new.going) }
+{
+    let Ok((function, params)) = desk.going.body(desk.alloc, edt) else {
+        return Err(Stop::Memory)
+    };
+    desk.edt = edt;
+    let payloads = [ARGUMENTS];
+    let program = desk.going.program;
+    let alloc = desk.alloc;
+    let ending = walk(
+        alloc,
+        program,
+        function,
+        &params,
+        &payloads[..slots_of(edt)],
+        FUEL,
+        desk,
+    );
+    match desk.stop {
+        Some(stop) => Err(stop),
+        None => match ending {
+            Ok(returned) => Ok(returned),
+            Err(stop) => Err(stop_of(edt, stop)),
+        },
+    }
+}
+
+// How many slots an EDT has. Only the first one has a slot.
+fn slots_of(edt: Guid) -> usize
+    ensures { result ≡ (if edt == 2 then 1 else 0) }
+{
+    if edt == MAIN_EDT { 1 } else { 0 }
+}
+
+// The stop of a run where the body of the EDT stopped so.
+fn stop_of(edt: Guid, stop: BodyStop) -> Stop
     requires { (stop ≡ BodyStop.NoMemory) ⊎ IsSaid stop }
-    ensures { result ≡ stop_for stop }
+    ensures { result ≡ stop_for edt stop }
 {
     match stop {
-        BodyStop::Shutdown => Stop::Shutdown { edt: MAIN_EDT },
-        BodyStop::Abort(code) => Stop::Abort {
-            edt: MAIN_EDT,
-            code,
-        },
-        BodyStop::ZeroDivisor => fault(Fault::ZeroDivisor),
-        BodyStop::BadIndex => fault(Fault::BadIndex),
-        BodyStop::Fuel => fault(Fault::Fuel),
+        BodyStop::Shutdown => Stop::Shutdown { edt },
+        BodyStop::Abort(code) => Stop::Abort { edt, code },
+        BodyStop::ZeroDivisor => fault(edt, Fault::ZeroDivisor),
+        BodyStop::BadIndex => fault(edt, Fault::BadIndex),
+        BodyStop::Fuel => fault(edt, Fault::Fuel),
         BodyStop::NoMemory => Stop::Memory,
         BodyStop::NotHeld => unreachable!(),
         BodyStop::NotWritable => unreachable!(),
@@ -95,51 +193,8 @@ fn stop_of(stop: BodyStop) -> Stop
     }
 }
 
-// The run ends by a Stop.
-#[tactic(auto, using(crate::proofs::Steps::history_more, crate::proofs::Steps::memory_run, crate::proofs::Steps::said_run, crate::proofs::Steps::met_stop))]
-fn stopped(log: Log, stop: BodyStop) -> Done
-    requires { (stop ≡ BodyStop.NoMemory) ⊎ IsSaid stop }
-    ensures memory { (s : Setting) → stop ≡ BodyStop.NoMemory → IsOpenRun s (history_of log.entries.items)
-        → IsRun s (history_of result.journal) }
-    ensures said { (s : Setting) → IsSaid stop → IsUnderWay s (history_of log.entries.items)
-        → says_next s (history_of log.entries.items) 2 ≡ Stops stop → IsRun s (history_of result.journal) }
-    ensures stopped { is_stopped (history_of result.journal) ≡ true }
-    ensures ending { result.ending ≡ end_of (history_of result.journal) }
-    ensures met { IsMet (end_status result.ending) }
+fn fault(edt: Guid, fault: Fault) -> Stop
+    ensures { result ≡ Stop.Fault edt fault }
 {
-    Done {
-        journal: log.stopped(stop_of(stop)),
-        ending: Ending::Stopped(stop_of(stop)),
-    }
-}
-
-// The first EDT acquires the argument block and starts.
-fn begin(log: &mut Log) -> Result<(), NoMemory>
-    requires { log.old.entries.items ≡ [] }
-    ensures ok { OnOk result ((s : Setting) → IsUnderWay s (history_of log.new.entries.items)) }
-    ensures fresh { OnOk result (own (history_of log.new.entries.items) 2 ≡ []) }
-    ensures err { OnErr result ((s : Setting) → IsOpenRun s (history_of log.new.entries.items)) }
-{
-    log.push(Entry::Acquire {
-        edt: MAIN_EDT,
-        block: ARGUMENTS,
-    })?;
-    log.push(Entry::Start { edt: MAIN_EDT })
-}
-
-// The body of the first EDT has ended: it gives the argument block back, and ends.
-fn end(alloc: Global, log: &mut Log, returned: Guid) -> Result<(), NoMemory>
-    ensures ok { OnOk result (history_of log.new.entries.items ≡ Entry.End 2 returned ∷ Entry.Free 2 1 [] ∷ history_of log.old.entries.items) }
-    ensures err { OnErr result ((history_of log.new.entries.items ≡ history_of log.old.entries.items)
-        ⊎ (history_of log.new.entries.items ≡ Entry.Free 2 1 [] ∷ history_of log.old.entries.items)) }
-{
-    log.push(Entry::Free {
-        edt: MAIN_EDT,
-        block: ARGUMENTS,
-        writes: Writes::none(alloc),
-    })?;
-    log.push(Entry::End {
-        edt: MAIN_EDT,
-        returned,
-    })
+    Stop::Fault { edt, fault }
 }

@@ -214,6 +214,135 @@ fn operators_have_their_values_at_the_edges(rt: HostRuntime) -> Result<(), Fail>
 }
 
 #[test]
+fn edts_run_in_the_order_in_which_they_were_made(rt: HostRuntime) -> Result<(), Fail> {
+    let rows: [(&[u8], &[u8]); 3] = [
+        (
+            b"fn one { print paramv[0]; }
+fn mainEdt {
+  ocrEdtCreate(ocrEdtTemplateCreate(one, 1, 0), EDT_PARAM_DEF, [7], EDT_PARAM_DEF, [], 0);
+}",
+            b"7\n",
+        ),
+        (
+            b"fn down { print paramv[0]; if paramv[0] { ocrEdtCreate(paramv[1], 2, [paramv[0] - 1, paramv[1]], 0, [], 0); } }
+fn mainEdt {
+  let t = ocrEdtTemplateCreate(down, 2, 0);
+  ocrEdtCreate(t, 2, [1, t], 0, [], 0); ocrEdtCreate(t, 2, [3, t], 0, [], 0); print 9;
+}",
+            b"9\n1\n3\n0\n2\n1\n0\n",
+        ),
+        (
+            b"fn last { print paramc; print depc; print code; ocrShutdown(); }
+fn mainEdt {
+  let t = ocrEdtTemplateCreate(last, EDT_PARAM_UNK, 0);
+  print ocrEdtCreate(t, 16, [1, 2, 3, 4, 5, 6, 7, 8, 9, 10, 11, 12, 13, 14, 15, 16], 0, [], 0);
+  ocrEdtCreate(t, 0, [], 0, [], 0);
+}",
+            b"4\n16\n0\n0\n",
+        ),
+    ];
+    for (text, out) in rows {
+        let done = run(rt.alloc(), text, NO_FAULTS)?;
+        assert_eq!(rt; done.ended.status, 0);
+        assert_eq!(rt; done.out.bytes(), out);
+    }
+    Ok(())
+}
+
+// Each creation with what it answers and the code behind it. The first free number is 6.
+const CREATIONS: &[u8] = b"fn one { print paramc; }
+fn mainEdt {
+  let t = ocrEdtTemplateCreate(one, 1, 0);
+  let u = ocrEdtTemplateCreate(one, EDT_PARAM_UNK, EDT_PARAM_UNK);
+  let s = ocrEdtTemplateCreate(one, 0, 1);
+  print ocrEdtTemplateCreate(one, 17, 0); print code;
+  print ocrEdtTemplateCreate(one, 16, 33); print code;
+  print ocrEdtTemplateCreate(one, EDT_PARAM_DEF, 0); print code;
+  print ocrEdtCreate(NULL_GUID, 1, [7], 0, [], 2); print code;
+  print ocrEdtCreate(UNINITIALIZED_GUID, 1, [7], 0, [], 0); print code;
+  print ocrEdtCreate(6, 1, [7], 0, [], 0); print code;
+  print ocrEdtCreate(4098, 1, [7], 0, [], 0); print code;
+  print ocrEdtCreate(1, 1, [7], 0, [], 0); print code;
+  print ocrEdtCreate(2, 1, [7], 0, [], 0); print code;
+  print ocrEdtCreate(t, 2, [7, 8], 0, [], 0); print code;
+  print ocrEdtCreate(t, 1, [], 0, [], 0); print code;
+  print ocrEdtCreate(t, EDT_PARAM_DEF, [7], EDT_PARAM_DEF, [], 1); print code;
+  print ocrEdtCreate(u, EDT_PARAM_DEF, [], 0, [], 0); print code;
+  print ocrEdtCreate(u, 0, [], 1, [], 0); print code;
+  print ocrEdtCreate(s, 0, [], EDT_PARAM_DEF, [], 0); print code;
+  print ocrEdtCreate(u, 2, [8, 9], 0, [], 0); print code;
+  print ocrEdtCreate(t, EDT_PARAM_DEF, [7], EDT_PARAM_DEF, [], 0); print code;
+}";
+
+const CREATIONS_OUT: &[u8] = b"0
+22
+0
+22
+0
+22
+0
+2
+0
+2
+0
+2
+0
+2
+0
+22
+0
+22
+0
+22
+0
+22
+0
+22
+0
+22
+0
+22
+0
+22
+6
+0
+7
+0
+2
+1
+";
+
+#[test]
+fn creations_are_refused_in_their_order(rt: HostRuntime) -> Result<(), Fail> {
+    let done = run(rt.alloc(), CREATIONS, NO_FAULTS)?;
+    assert_eq!(rt; done.ended.status, 0);
+    assert_eq!(rt; done.out.bytes(), CREATIONS_OUT);
+    Ok(())
+}
+
+#[test]
+fn limits_stop_a_run(rt: HostRuntime) -> Result<(), Fail> {
+    let alloc = rt.alloc();
+    let objects = b"fn a { ocrEdtCreate(ocrEdtTemplateCreate(a, 0, 0), EDT_PARAM_DEF, [], EDT_PARAM_DEF, [], 0); }
+fn mainEdt { ocrEdtCreate(ocrEdtTemplateCreate(a, 0, 0), EDT_PARAM_DEF, [], EDT_PARAM_DEF, [], 0); }";
+    let done = run(alloc, objects, NO_FAULTS)?;
+    assert_eq!(rt; done.ended.status, 10);
+    assert_eq!(rt; done.err.bytes(), b"limit: objects\n".as_slice());
+    // The first EDT's 6 entries, 4 of each of the 2,046 others that end, the start of the last, and the Stop.
+    let journal = done.ended.journal.ok_or("a journal")?;
+    assert_eq!(rt; journal.entries().len(), 6 + 4 * 2046 + 2);
+
+    let events = b"fn a { let i = 0; while i < 90000 { print 1; i = i + 1; } ocrEdtCreate(paramv[0], 1, [paramv[0]], 0, [], 0); }
+fn mainEdt { let t = ocrEdtTemplateCreate(a, 1, 0); ocrEdtCreate(t, 1, [t], 0, [], 0); }";
+    let done = outcome_of(alloc, &["run"], events.to_vec(alloc)?, 500_000, NO_FAULTS)?;
+    assert_eq!(rt; done.ended.status, 10);
+    assert_eq!(rt; done.err.bytes(), b"limit: events of worker 1\n".as_slice());
+    // Of 200,000 entries 13 are no prints.
+    assert_eq!(rt; done.out.bytes().len(), 2 * 199_987);
+    Ok(())
+}
+
+#[test]
 fn other_words_are_refused(rt: HostRuntime) -> Result<(), Fail> {
     let alloc = rt.alloc();
     let none = outcome_of(alloc, &[], FIRST.to_vec(alloc)?, 1000, NO_FAULTS)?;

@@ -4,7 +4,7 @@ use Rattle.ocr_body.specs.Behaviour.{Behaviour, Stops}
 use Rattle.ocr_body.specs.Tree as tree
 use Rattle.ocr_body.specs.Code.{statement_at, statements_in, expression_at, is_step_placed, is_placed, are_placed}
 use Rattle.ocr_body.specs.Meaning as meaning
-use Rattle.ocr_body.specs.Local.{state_of, frame_of}
+use Rattle.ocr_body.specs.Local.{state_of, frame_of, numbers_of}
 use Rattle.ocr_body.specs.Serving.{Body, says, behaviour, Begins, IsTrace, IsDone, StoppedBy, Rose}
 use Rattle.ocr_body.specs.declared.code.Step.{Step}
 use Rattle.ocr_body.proofs.Weight.{weight, weights, weight_at}
@@ -21,9 +21,9 @@ exec-repeat-requires g t c = λ κs l.
     let view : statement_at names c.args.step.now ≡ tree.While (expression_at names c.in-While.test) (statements_in names c.deref.result.now) =
     ap (statement_at names) c.in-While.is ∙ while_view names c.in-While.test c.in-While.body
     ∙ ap (λ (ss : List Step). tree.While (expression_at names c.in-While.test) (statements_in names ss)) (sym items) in
-    let placed : (is_placed (length names) c.in-While.test && are_placed (length names) c.deref.result.now) ≡ true =
-    ap (λ (ss : List Step). is_placed (length names) c.in-While.test && are_placed (length names) ss) items
-    ∙ sym (ap (is_step_placed (length names)) c.in-While.is ∙ while_placed (length names) c.in-While.test c.in-While.body) ∙ c.requires.placed in
+    let placed : (is_placed (numbers_of c.args.frame.now) (length names) c.in-While.test && are_placed (numbers_of c.args.frame.now) (length names) c.deref.result.now) ≡ true =
+    ap (λ (ss : List Step). is_placed (numbers_of c.args.frame.now) (length names) c.in-While.test && are_placed (numbers_of c.args.frame.now) (length names) ss) items
+    ∙ sym (ap (is_step_placed (numbers_of c.args.frame.now) (length names)) c.in-While.is ∙ while_placed (numbers_of c.args.frame.now) (length names) c.in-While.test c.in-While.body) ∙ c.requires.placed in
     let P : tree.Statement → Type 0 = λ s. Begins (says (g.A.Api.serves c.args.api.now) (g.A.Api.log c.args.api.now)) (meaning.exec (frame_of c.args.frame.now) s (state_of names c.args.local.now)) in
     (omega (arith, ap weight view), (l.0, (l.1, (c.requires.ready, (c.requires.distinct, (c.requires.room, (placed, subst P view c.requires.begins)))))))
 
@@ -175,9 +175,9 @@ exec-exec_all-requires g t c = λ κs l.
     let items : c.deref-then-value-eq0.result.now ≡ c.in-If.no.items = c.deref-then-value-eq0.ensures.value in
     let view : statement_at names c.args.step.now ≡ tree.If (expression_at names c.in-If.test) (statements_in names c.in-If.yes.items) (statements_in names c.in-If.no.items) =
     ap (statement_at names) c.in-If.is ∙ if_view names c.in-If.test c.in-If.yes c.in-If.no in
-    let parts : (is_placed (length names) c.in-If.test && (are_placed (length names) c.in-If.yes.items && are_placed (length names) c.in-If.no.items)) ≡ true =
-    sym (ap (is_step_placed (length names)) c.in-If.is ∙ if_placed (length names) c.in-If.test c.in-If.yes c.in-If.no) ∙ c.requires.placed in
-    let placed : are_placed (length names) c.deref-then-value-eq0.result.now ≡ true = ap (are_placed (length names)) items ∙ second_of _ _ (second_of _ _ parts) in
+    let parts : (is_placed (numbers_of c.args.frame.now) (length names) c.in-If.test && (are_placed (numbers_of c.args.frame.now) (length names) c.in-If.yes.items && are_placed (numbers_of c.args.frame.now) (length names) c.in-If.no.items)) ≡ true =
+    sym (ap (is_step_placed (numbers_of c.args.frame.now) (length names)) c.in-If.is ∙ if_placed (numbers_of c.args.frame.now) (length names) c.in-If.test c.in-If.yes c.in-If.no) ∙ c.requires.placed in
+    let placed : are_placed (numbers_of c.args.frame.now) (length names) c.deref-then-value-eq0.result.now ≡ true = ap (are_placed (numbers_of c.args.frame.now) (length names)) items ∙ second_of _ _ (second_of _ _ parts) in
     let P : tree.Statement → Type 0 = λ s. Begins (says (g.A.Api.serves c.args.api.now) (g.A.Api.log c.args.api.now)) (meaning.exec (frame_of c.args.frame.now) s (state_of names c.args.local.now)) in
     let b = subst P view c.requires.begins in
     (omega (arith, ap weight view, ap (λ (ss : List Step). weights (statements_in names ss)) items), (l.0, (l.1, (c.in_ok-value-in-If.ensures.ready, (c.requires.distinct, (c.in_ok-value-in-If.ensures.room, (placed, search (rules, b))))))))
@@ -188,9 +188,9 @@ exec-exec_all-requires-else-value-eq0 g t c = λ κs l.
     let items : c.deref-else-value-eq0.result.now ≡ c.in-If.yes.items = c.deref-else-value-eq0.ensures.value in
     let view : statement_at names c.args.step.now ≡ tree.If (expression_at names c.in-If.test) (statements_in names c.in-If.yes.items) (statements_in names c.in-If.no.items) =
     ap (statement_at names) c.in-If.is ∙ if_view names c.in-If.test c.in-If.yes c.in-If.no in
-    let parts : (is_placed (length names) c.in-If.test && (are_placed (length names) c.in-If.yes.items && are_placed (length names) c.in-If.no.items)) ≡ true =
-    sym (ap (is_step_placed (length names)) c.in-If.is ∙ if_placed (length names) c.in-If.test c.in-If.yes c.in-If.no) ∙ c.requires.placed in
-    let placed : are_placed (length names) c.deref-else-value-eq0.result.now ≡ true = ap (are_placed (length names)) items ∙ first_of _ _ (second_of _ _ parts) in
+    let parts : (is_placed (numbers_of c.args.frame.now) (length names) c.in-If.test && (are_placed (numbers_of c.args.frame.now) (length names) c.in-If.yes.items && are_placed (numbers_of c.args.frame.now) (length names) c.in-If.no.items)) ≡ true =
+    sym (ap (is_step_placed (numbers_of c.args.frame.now) (length names)) c.in-If.is ∙ if_placed (numbers_of c.args.frame.now) (length names) c.in-If.test c.in-If.yes c.in-If.no) ∙ c.requires.placed in
+    let placed : are_placed (numbers_of c.args.frame.now) (length names) c.deref-else-value-eq0.result.now ≡ true = ap (are_placed (numbers_of c.args.frame.now) (length names)) items ∙ first_of _ _ (second_of _ _ parts) in
     let P : tree.Statement → Type 0 = λ s. Begins (says (g.A.Api.serves c.args.api.now) (g.A.Api.log c.args.api.now)) (meaning.exec (frame_of c.args.frame.now) s (state_of names c.args.local.now)) in
     let b = subst P view c.requires.begins in
     (omega (arith, ap weight view, ap (λ (ss : List Step). weights (statements_in names ss)) items), (l.0, (l.1, (c.in_ok-value-in-If.ensures.ready, (c.requires.distinct, (c.in_ok-value-in-If.ensures.room, (placed, search (rules, b))))))))
@@ -205,8 +205,8 @@ pub exec_all-exec-requires : goal.exec_all-exec-requires
 exec_all-exec-requires g t c = λ κs l.
     let names = c.args.frame.now.names.now in
     let rest : drop c.loop-step.step-index c.args.steps.now ≡ c.step-item.result ∷ drop (c.loop-step.step-index + 1) c.args.steps.now = search (rules, common_steps) in
-    let placed : (is_step_placed (length names) c.step-item.result && are_placed (length names) (drop (c.loop-step.step-index + 1) c.args.steps.now)) ≡ true =
-    sym (ap (are_placed (length names)) rest) ∙ c.loop-step.invariant.placed in
+    let placed : (is_step_placed (numbers_of c.args.frame.now) (length names) c.step-item.result && are_placed (numbers_of c.args.frame.now) (length names) (drop (c.loop-step.step-index + 1) c.args.steps.now)) ≡ true =
+    sym (ap (are_placed (numbers_of c.args.frame.now) (length names)) rest) ∙ c.loop-step.invariant.placed in
     let here : says (g.A.Api.serves c.loop-step.api) (g.A.Api.log c.loop-step.api) ≡ meaning.exec_all (frame_of c.args.frame.now) (statements_in names (drop c.loop-step.step-index c.args.steps.now)) (state_of names c.loop-step.local) c.requires.begins.0 =
     ap (λ (b : Body). says b (g.A.Api.log c.loop-step.api)) c.loop-step.invariant.serves ∙ c.loop-step.invariant.goes_on c.requires.begins.0 c.requires.begins.1 in (
       omega (arith, weight_at names c.args.steps.now c.loop-step.step-index c.step-item.result c.loop-step-test.true, ap (λ (s : Step). weight (statement_at names s)) c.step-item.is),

@@ -5,7 +5,7 @@ use Rattle.ocr_check.specs.Check.{BreaksSome, FailsNowhere, is_among, main_name,
 use Rattle.ocr_check.specs.Scope.{knows}
 use Rattle.ocr_body.specs.View.{function_of, functions_of}
 use Rattle.ocr_body.specs.declared.tree.Function.{Function}
-use Rattle.ocr_check.proofs.Built.{keeps_built}
+use Rattle.ocr_check.proofs.Built.{keeps_built, keeps_named, keeps_short}
 use Rattle.ocr_check.proofs.First.{FailsNowhere-nil}
 use Rattle.ocr_check.proofs.Programs.{none_more, function_sound, walk_stops}
 use Rattle.ocr_check.proofs.rules.judge.Goals as goal
@@ -43,3 +43,17 @@ returns-clause-built c =
 pub returns-clause-main : goal.returns-clause-main
 returns-clause-main c =
     sym (c.in_ok-names.ensures.names main_name) ∙ ap (λ (x : List ℕ). knows c.in_ok-names.names x) (sym c.as_slice.ensures) ∙ sym c.contains.ensures ∙ c.if-not-contains.false
+
+pub returns-clause-named : goal.returns-clause-named
+returns-clause-named c =
+    let fs : List Function = c.args.functions.now in
+    let outside : length fs ≤ c.loop-i.i = omega (arith, c.loop-i-test.false) in
+    keeps_named (functions_of fs)
+    (subst (λ (gs : List Function). FailsNowhere (BreaksSome (names_of (functions_of fs))) (functions_of gs)) (take_all c.loop-i.i fs outside) c.loop-i.invariant)
+
+pub returns-clause-short : goal.returns-clause-short
+returns-clause-short c =
+    let fs : List Function = c.args.functions.now in
+    let outside : length fs ≤ c.loop-i.i = omega (arith, c.loop-i-test.false) in
+    keeps_short (names_of (functions_of fs)) (functions_of fs)
+    (subst (λ (gs : List Function). FailsNowhere (BreaksSome (names_of (functions_of fs))) (functions_of gs)) (take_all c.loop-i.i fs outside) c.loop-i.invariant)

@@ -1,47 +1,26 @@
-use Rattle.std.proofs.Common.{◌<◌, ◌≤◌, ℕ, length, inl, inr, refl, sym, subst}
+use Rattle.std.proofs.Common.{inr, List, sym, ◌∙◌, ap, subst}
 use Rattle.ocr_body.specs.Checked.{checked_tree}
 use Rattle.ocr_body.specs.declared.checked.Checked.{Checked}
+use Rattle.ocr_machine.specs.declared.entry.Entry.{Entry}
 use Rattle.ocr_machine.specs.History.{history_of}
-use Rattle.ocr_machine.specs.Edts.{says_next}
-use Rattle.ocr_run.specs.UnderWay.{setting_of, IsUnderWay, shut_down}
-use Rattle.ocr_run.proofs.Mains.{some_main}
-use Rattle.ocr_run.proofs.Steps.{of_built, said_stop, said_next, ending_open, open_of}
+use Rattle.ocr_machine.specs.Legal.{IsQuiet}
+use Rattle.ocr_run.specs.Lines.{end_of}
+use Rattle.ocr_run.specs.UnderWay.{setting_of, shut_down}
+use Rattle.ocr_run.proofs.Turns.{all_over}
 use Rattle.ocr_run.proofs.worker.run.Goals as goal
 
-pub returns-in-Err-clause-run : goal.returns-in-Err-clause-run
-returns-in-Err-clause-run c =
-    let s = setting_of (checked_tree c.args.program.now) in c.stopped.ensures.memory s refl (c.in-Err.ensures.err s)
+pub returns-in-Ok-clause-finished : goal.returns-in-Ok-clause-finished
+returns-in-Ok-clause-finished c =
+    let going = c.run_all-ended.new.desk.going in
+    let over = all_over (checked_tree going.program.now) (history_of going.log.entries.items) going.made c.in-Ok.ensures.going.0 c.in-Ok.ensures.before in
+    inr (subst (λ (entries : List Entry). IsQuiet (setting_of (checked_tree c.args.program.now)) (history_of entries)) (sym c.finished.ensures)
+    (subst (λ (p : Checked). IsQuiet (setting_of (checked_tree p)) (history_of going.log.entries.items)) (c.in-Ok.ensures.program ∙ c.in_ok-opened.ensures.program) over.0))
 
-pub walk-ending-requires-clause-ready : goal.walk-ending-requires-clause-ready
-walk-ending-requires-clause-ready c = (c.requires, c.in_default.ensures.ok (setting_of (checked_tree c.args.program.now)))
+pub returns-in-Ok-clause-ending : goal.returns-in-Ok-clause-ending
+returns-in-Ok-clause-ending c =
+    let going = c.run_all-ended.new.desk.going in
+    let over = all_over (checked_tree going.program.now) (history_of going.log.entries.items) going.made c.in-Ok.ensures.going.0 c.in-Ok.ensures.before in
+    sym over.1 ∙ ap (λ (entries : List Entry). end_of (history_of entries)) (sym c.finished.ensures)
 
-pub returns-in-Err-end-clause-run : goal.returns-in-Err-end-clause-run
-returns-in-Err-end-clause-run c =
-    let s = setting_of (checked_tree c.args.program.now) in
-    let under_way : IsUnderWay s (history_of c.walk-ending.new.api.log.entries.items) =
-    subst (λ (p : Checked). IsUnderWay (setting_of (checked_tree p)) (history_of c.walk-ending.new.api.log.entries.items)) c.in-Ok.ensures.kept c.in-Ok.ensures.ready.1 in
-    c.stopped-in-Err-end.ensures.memory s refl (ending_open s (history_of c.walk-ending.new.api.log.entries.items) _ c.in-Ok.returned under_way c.in-Ok.ensures.ok c.in-Err-end.ensures.err)
-
-pub stopped-requires-in-Err-ending : goal.stopped-requires-in-Err-ending
-stopped-requires-in-Err-ending c =
-    said_stop _ c.in-Err-ending.stop (of_built (checked_tree c.args.program.now) (history_of c.walk-ending.new.api.log.entries.items) c.requires) c.in-Err-ending.ensures.err
-
-pub returns-in-Err-ending-clause-run : goal.returns-in-Err-ending-clause-run
-returns-in-Err-ending-clause-run c =
-    let s = setting_of (checked_tree c.args.program.now) in
-    let past = history_of c.walk-ending.new.api.log.entries.items in
-    let under_way : IsUnderWay s past =
-    subst (λ (p : Checked). IsUnderWay (setting_of (checked_tree p)) past) c.in-Err-ending.ensures.kept c.in-Err-ending.ensures.ready.1 in
-    let built = of_built (checked_tree c.args.program.now) past c.requires in
-    elim (said_stop (says_next s past 2) c.in-Err-ending.stop built c.in-Err-ending.ensures.err) [
-      | inl memory ↦ c.stopped-in-Err-ending.ensures.memory s memory (open_of s past under_way)
-      | inr said ↦ c.stopped-in-Err-ending.ensures.said s said under_way (said_next (says_next s past 2) c.in-Err-ending.stop c.in-Err-ending.ensures.err said)
-    ]
-
-pub walk-ending-requires-clause-exists : goal.walk-ending-requires-clause-exists
-walk-ending-requires-clause-exists c =
-    let program = checked_tree c.args.program.now in
-    (subst (λ (n : ℕ). 0 < n) (sym c.main_function-main.ensures) (some_main program), subst (λ (n : ℕ). n ≤ length program) (sym c.main_function-main.ensures) c.requires.has_main)
-
-pub returns-in_default-end-clause-met : goal.returns-in_default-end-clause-met
-returns-in_default-end-clause-met c = shut_down
+pub returns-in-Ok-clause-met : goal.returns-in-Ok-clause-met
+returns-in-Ok-clause-met c = shut_down

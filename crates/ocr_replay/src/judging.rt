@@ -1,0 +1,435 @@
+// Runs the body of one EDT against its entries in a journal.
+ghost use Rattle.std.specs.Prelude.{◌≡◌, ◌≤◌, ◌<◌, ℕ, length, true, false, IfSome, IfNone, slice_index_or, [], take, IfOk};
+ghost use Rattle.ocr_body.specs.Checked.{checked_tree};
+ghost use Rattle.ocr_body.specs.Serving.{Body};
+ghost use Rattle.ocr_machine.specs.History.{own, history_of};
+ghost use Rattle.ocr_machine.specs.Legal.{faulted};
+ghost use Rattle.ocr_replay.specs.Judging.{Whether, runs, IsIdle, IsSaidIn, IsWrong, IsSaidNow, IsUnsaid, at_place, body_with, ended_as};
+
+use ocr_body::{Answer, Api, BodyStop, Call, Checked, walk};
+use ocr_guid::{Guid, NoMemory};
+use ocr_machine::{Entry, Fault, Journal, Stop};
+use std::alloc::Global;
+
+const FUEL: u64 = 1_000_000;
+
+pub(crate) fn same_call(left: &Call, right: &Call) -> bool
+    ensures { Whether result (left.now ≡ right.now) }
+{
+    match left {
+        Call::DbCreate { length, flags } => match right {
+            Call::DbCreate {
+                length: o_length,
+                flags: o_flags,
+            } => *length == *o_length && *flags == *o_flags,
+            _ => false,
+        },
+        Call::DbRelease { block } => match right {
+            Call::DbRelease { block: o_block } => *block == *o_block,
+            _ => false,
+        },
+        Call::DbDestroy { block } => match right {
+            Call::DbDestroy { block: o_block } => *block == *o_block,
+            _ => false,
+        },
+        Call::EventCreate { kind, flags } => match right {
+            Call::EventCreate {
+                kind: o_kind,
+                flags: o_flags,
+            } => *kind == *o_kind && *flags == *o_flags,
+            _ => false,
+        },
+        Call::EventCreateParams {
+            kind,
+            flags,
+            max_gen,
+            nb_sat,
+            nb_deps,
+        } => match right {
+            Call::EventCreateParams {
+                kind: o_kind,
+                flags: o_flags,
+                max_gen: o_max_gen,
+                nb_sat: o_nb_sat,
+                nb_deps: o_nb_deps,
+            } => *kind == *o_kind
+                && *flags == *o_flags
+                && *max_gen == *o_max_gen
+                && *nb_sat == *o_nb_sat
+                && *nb_deps == *o_nb_deps,
+            _ => false,
+        },
+        Call::EventDestroy { event } => match right {
+            Call::EventDestroy { event: o_event } => *event == *o_event,
+            _ => false,
+        },
+        Call::Satisfy {
+            event,
+            payload,
+            slot,
+        } => match right {
+            Call::Satisfy {
+                event: o_event,
+                payload: o_payload,
+                slot: o_slot,
+            } => *event == *o_event && *payload == *o_payload && *slot == *o_slot,
+            _ => false,
+        },
+        Call::AddDependence {
+            source,
+            target,
+            slot,
+            mode,
+        } => match right {
+            Call::AddDependence {
+                source: o_source,
+                target: o_target,
+                slot: o_slot,
+                mode: o_mode,
+            } => *source == *o_source
+                && *target == *o_target
+                && *slot == *o_slot
+                && *mode == *o_mode,
+            _ => false,
+        },
+        Call::TemplateCreate {
+            function,
+            paramc,
+            depc,
+        } => match right {
+            Call::TemplateCreate {
+                function: o_function,
+                paramc: o_paramc,
+                depc: o_depc,
+            } => *function == *o_function && *paramc == *o_paramc && *depc == *o_depc,
+            _ => false,
+        },
+        Call::TemplateDestroy { template } => match right {
+            Call::TemplateDestroy {
+                template: o_template,
+            } => *template == *o_template,
+            _ => false,
+        },
+        Call::EdtCreate {
+            template,
+            paramc,
+            params,
+            depc,
+            deps,
+            flags,
+            output,
+        } => match right {
+            Call::EdtCreate {
+                template: o_template,
+                paramc: o_paramc,
+                params: o_params,
+                depc: o_depc,
+                deps: o_deps,
+                flags: o_flags,
+                output: o_output,
+            } => *template == *o_template
+                && *paramc == *o_paramc
+                && same_numbers(params.as_slice(), o_params.as_slice())
+                && *depc == *o_depc
+                && same_numbers(deps.as_slice(), o_deps.as_slice())
+                && *flags == *o_flags
+                && *output == *o_output,
+            _ => false,
+        },
+        Call::Shutdown => match right {
+            Call::Shutdown => true,
+            _ => false,
+        },
+        Call::Abort { code } => match right {
+            Call::Abort { code: o_code } => *code == *o_code,
+            _ => false,
+        },
+        Call::Load { block, word } => match right {
+            Call::Load {
+                block: o_block,
+                word: o_word,
+            } => *block == *o_block && *word == *o_word,
+            _ => false,
+        },
+        Call::Store { block, word, value } => match right {
+            Call::Store {
+                block: o_block,
+                word: o_word,
+                value: o_value,
+            } => *block == *o_block && *word == *o_word && *value == *o_value,
+            _ => false,
+        },
+        Call::Print { value } => match right {
+            Call::Print { value: o_value } => *value == *o_value,
+            _ => false,
+        },
+    }
+}
+
+fn same_numbers(left: &[u64], right: &[u64]) -> bool
+    ensures { Whether result (left.now ≡ right.now) }
+{
+    *left == *right
+}
+
+/// Whether the entry is one of this EDT's body.
+fn is_run_by(entry: &Entry, edt: Guid) -> bool
+    ensures { result ≡ runs edt entry.now }
+{
+    match entry {
+        Entry::Call {
+            edt: by,
+            home: _,
+            call: _,
+            answer: _,
+            writes: _,
+        } => *by == edt,
+        Entry::Free {
+            edt: by,
+            block: _,
+            writes: _,
+        } => *by == edt,
+        Entry::End {
+            edt: by,
+            returned: _,
+        } => *by == edt,
+        Entry::Stop(Stop::Shutdown { edt: by }) => *by == edt,
+        Entry::Stop(Stop::Abort { edt: by, code: _ }) => *by == edt,
+        Entry::Stop(Stop::Fault { edt: by, fault: _ }) => *by == edt,
+        Entry::Stop(Stop::Objects) => false,
+        Entry::Stop(
+            Stop::Events {
+                worker: _,
+                weight: _,
+            },
+        ) => false,
+        Entry::Stop(Stop::Memory) => false,
+        Entry::Deliver {
+            message: _,
+            code: _,
+        } => false,
+        Entry::Acquire { edt: _, block: _ } => false,
+        Entry::Wait { edt: _, block: _ } => false,
+        Entry::StaleAcquire { edt: _, block: _ } => false,
+        Entry::Start { edt: _ } => false,
+    }
+}
+
+/// The first place from `from` on with an entry of the EDT's body.
+pub(crate) fn next_own(entries: &[Entry], edt: Guid, from: usize) -> Option<usize>
+    requires { from ≤ length entries.now }
+    ensures some { IfSome result (λ at. (from ≤ at) × (at < length entries.now) × IsIdle edt entries.now from at × ((e : _) → e ≡ slice_index_or entries.now at e → runs edt e ≡ true)) }
+    ensures none { IfNone result (IsIdle edt entries.now from (length entries.now)) }
+{
+    for i in from..entries.len() {
+        if is_run_by(&entries[i], edt) {
+            return Some(i);
+        }
+    }
+    None
+}
+
+/// The machine, as the entries of a journal answer for it.
+pub struct Judge<'a> {
+    pub program: &'a Checked,
+    pub function: u32,
+    pub params: &'a [u64],
+    pub deps: &'a [Guid],
+    pub entries: &'a [Entry],
+    pub edt: Guid,
+    pub start: usize,
+    pub place: usize,
+    pub refusals: u64,
+}
+
+impl<'a> Api for Judge<'a> {
+    ghost use Rattle.std.specs.Prelude.{take};
+    ghost use Rattle.ocr_body.specs.Checked.{checked_tree};
+    ghost use Rattle.ocr_machine.specs.History.{own, history_of};
+    ghost use Rattle.ocr_replay.specs.Judging.{IsJudging, body_with};
+
+    type Kept = (Journal, Guid, usize);
+
+    ghost kept = { λ j. (j.entries.now, j.edt, j.start) };
+
+    ghost serves = { λ j. body_with (checked_tree j.program.now) j.function j.params.now j.deps.now };
+
+    ghost log = { λ j. own (history_of (take j.place j.entries.now)) j.edt };
+
+    ghost is_ready = { λ j. IsJudging (body_with (checked_tree j.program.now) j.function j.params.now j.deps.now) j.edt j.entries.now j.start j.place j.refusals };
+
+    ghost closed = { λ j. j.refusals };
+
+    fn call(&mut self, call: &Call) -> Result<Answer, BodyStop> {
+        if let Some(at) = next_own(self.entries, self.edt, self.place) {
+            if let Entry::Call {
+                edt: _,
+                home: _,
+                call: made,
+                answer,
+                writes: _,
+            } = &self.entries[at]
+            {
+                if same_call(made, call) {
+                    self.place = at + 1;
+                    return Ok(*answer);
+                }
+            }
+        }
+        self.refusals = self.refusals.saturating_add(1);
+        Err(BodyStop::Closed)
+    }
+
+    fn closings(&self) -> u64 {
+        self.refusals
+    }
+}
+
+#[derive(Clone, Copy)]
+enum Ending {
+    Ended(Guid),
+    Stopped(BodyStop),
+}
+
+fn is_shutdown(stop: BodyStop) -> bool
+    ensures { Whether result (stop ≡ BodyStop.Shutdown) }
+{
+    matches!(stop, BodyStop::Shutdown)
+}
+
+fn is_abort(stop: BodyStop, code: u64) -> bool
+    ensures { Whether result (stop ≡ BodyStop.Abort code) }
+{
+    match stop {
+        BodyStop::Abort(other) => other == code,
+        _ => false,
+    }
+}
+
+fn is_fault(stop: BodyStop, fault: Fault) -> bool
+    ensures { Whether result (stop ≡ faulted fault) }
+{
+    match fault {
+        Fault::ZeroDivisor => matches!(stop, BodyStop::ZeroDivisor),
+        Fault::BadIndex => matches!(stop, BodyStop::BadIndex),
+        Fault::NotHeld => matches!(stop, BodyStop::NotHeld),
+        Fault::NotWritable => matches!(stop, BodyStop::NotWritable),
+        Fault::Fuel => matches!(stop, BodyStop::Fuel),
+    }
+}
+
+/// Whether a body that ended like this makes this entry.
+fn makes(ending: &Ending, entry: &Entry) -> bool
+    ensures { Whether result (IsSaidNow (ended_as ending.now) entry.now) }
+{
+    match ending {
+        Ending::Ended(guid) => match entry {
+            Entry::End { edt: _, returned } => *returned == *guid,
+            Entry::Call {
+                edt: _,
+                home: _,
+                call: _,
+                answer: _,
+                writes: _,
+            } => false,
+            Entry::Stop(Stop::Shutdown { edt: _ }) => false,
+            Entry::Stop(Stop::Abort { edt: _, code: _ }) => false,
+            Entry::Stop(Stop::Fault { edt: _, fault: _ }) => false,
+            _ => true,
+        },
+        Ending::Stopped(stop) => match entry {
+            Entry::End {
+                edt: _,
+                returned: _,
+            } => false,
+            Entry::Free {
+                edt: _,
+                block: _,
+                writes: _,
+            } => false,
+            Entry::Call {
+                edt: _,
+                home: _,
+                call: _,
+                answer: _,
+                writes: _,
+            } => false,
+            Entry::Stop(Stop::Shutdown { edt: _ }) => is_shutdown(*stop),
+            Entry::Stop(Stop::Abort { edt: _, code }) => is_abort(*stop, *code),
+            Entry::Stop(Stop::Fault { edt: _, fault }) => is_fault(*stop, *fault),
+            _ => true,
+        },
+    }
+}
+
+/// The first place of an entry that a body that ended does not make.
+fn unsaid_after(entries: &[Entry], edt: Guid, from: usize, ending: &Ending) -> Option<usize>
+    requires { from ≤ length entries.now }
+    ensures some { (b : Body) → at_place b edt entries.now from ≡ ended_as ending.now
+        → IfSome result (λ at. (from ≤ at) × (at < length entries.now) × IsSaidIn b edt entries.now from at × IsUnsaid b edt entries.now at) }
+    ensures none { (b : Body) → at_place b edt entries.now from ≡ ended_as ending.now → IfNone result (IsSaidIn b edt entries.now from (length entries.now)) }
+{
+    for i in from..entries.len() {
+        let entry = &entries[i];
+        if is_run_by(entry, edt) {
+            if !makes(ending, entry) {
+                return Some(i);
+            }
+        }
+    }
+    None
+}
+
+/// The first place from `start` on with an entry that the body of the EDT does not make.
+pub fn first_unsaid(
+    alloc: Global,
+    program: &Checked,
+    function: u32,
+    params: &[u64],
+    deps: &[Guid],
+    entries: &[Entry],
+    edt: Guid,
+    start: usize,
+) -> Result<Option<usize>, NoMemory>
+    requires within { start ≤ length entries.now }
+    requires fresh { own (history_of (take start entries.now)) edt ≡ [] }
+    ensures some { IfOk result (λ r. IfSome r (λ at.
+        IsWrong (body_with (checked_tree program.now) function params.now deps.now) edt entries.now start at)) }
+    ensures none { IfOk result (λ r. IfNone r
+        (IsSaidIn (body_with (checked_tree program.now) function params.now deps.now) edt entries.now start (length entries.now))) }
+{
+    if function == 0 || function as usize > program.count() {
+        return Ok(unsaid_after(entries, edt, start, &Ending::Ended(Guid::NULL)));
+    }
+    let mut judge = Judge {
+        program,
+        function,
+        params,
+        deps,
+        entries,
+        edt,
+        start,
+        place: start,
+        refusals: 0,
+    };
+    let ending = walk(alloc, program, function, params, deps, FUEL, &mut judge);
+    let Judge {
+        program: _,
+        function: _,
+        params: _,
+        deps: _,
+        entries: _,
+        edt: _,
+        start: _,
+        place,
+        refusals: _,
+    } = judge;
+    match ending {
+        Ok(returned) => Ok(unsaid_after(entries, edt, place, &Ending::Ended(returned))),
+        Err(stop) => match stop {
+            BodyStop::NoMemory => Err(NoMemory),
+            BodyStop::Closed => Ok(next_own(entries, edt, place)),
+            _ => Ok(unsaid_after(entries, edt, place, &Ending::Stopped(stop))),
+        },
+    }
+}
