@@ -1,6 +1,5 @@
 -- What can be entered, and what a body does next.
-use Rattle.std.proofs.Common.{◌≡◌, ◌-◌, ◌⊎◌, inl, inr, ℕ, ◌+◌, ◌<◌, ◌≤◌, List, [], ◌∷◌, take, length, slice_index_or, Bool, true, false, not, ◌==◌, ◌||◌, ◌&&◌, zero, suc, arith, refl, sym, ◌∙◌, ap, subst, rules}
-use Rattle.std.proofs.lemmas.Grind.{common_steps}
+use Rattle.std.proofs.Common.{◌≡◌, ◌-◌, ◌⊎◌, inl, inr, ℕ, ◌+◌, ◌<◌, ◌≤◌, List, length, slice_index_or, Bool, true, false, not, ◌==◌, ◌||◌, ◌&&◌, zero, suc, arith, refl, sym, ◌∙◌, ap, subst}
 use Rattle.std.proofs.lemmas.Bool.{eqb-true}
 use Rattle.std.proofs.lemmas.List.{nil_from_length}
 use Rattle.ocr_guid.specs.declared.Code.{Code}
@@ -16,14 +15,13 @@ use Rattle.ocr_body.specs.declared.call.Call as body
 use Rattle.ocr_body.specs.declared.call.Call.TheVariants as call
 use Rattle.ocr_body.specs.declared.call.Answer.{Answer}
 use Rattle.ocr_machine.specs.declared.entry.Entry.{Entry}
-use Rattle.ocr_machine.specs.History.{history_of, own}
 use Rattle.ocr_machine.specs.Made.{is_done}
 use Rattle.ocr_machine.specs.Parts.{Parts}
 use Rattle.ocr_machine.specs.Codes.{code_of}
 use Rattle.ocr_machine.specs.LegalOn.{IsNamed, IsFresh, IsAnswered}
 use Rattle.ocr_machine.proofs.Told.{done_code}
 use Rattle.ocr_replay.specs.Judging.{Whether, ended_as, runs, IsIdle, IsSaidIn, IsSaidNow, at_place}
-use Rattle.ocr_replay.specs.Stopping.{CanEnter, IsEnterable, HasRoom, IsCoreless, is_print, is_enterable, IsToldAs}
+use Rattle.ocr_replay.specs.Stopping.{CanEnter, HasRoom, IsCoreless, is_print, is_enterable, IsToldAs}
 use Rattle.ocr_replay.proofs.Steps.{only_call, own_at, item, item_is, ended_next, next_no_stop}
 
 -- AN ANSWER to a call that is built

@@ -1,5 +1,5 @@
 -- What is told of the holds of an EDT.
-use Rattle.std.proofs.Common.{◌≡◌, ℕ, List, [], ◌∷◌, Option, Some, None, refl}
+use Rattle.std.proofs.Common.{◌≡◌, ℕ, List, [], ◌∷◌, None, refl}
 use Rattle.ocr_acquire.specs.declared.Mode.{Mode}
 use Rattle.ocr_edt.specs.Phases.{least_of}
 

@@ -8,14 +8,14 @@ use Rattle.ocr_edt.specs.Edt as edt
 use Rattle.ocr_body.specs.Serving.{Body}
 use Rattle.ocr_body.specs.Tree.{FunctionTree}
 use Rattle.ocr_machine.specs.declared.entry.Entry.{Entry}
-use Rattle.ocr_machine.specs.declared.entry.Entry.TheVariants.{Call, Deliver, Acquire, Wait, StaleAcquire, Start, Free, End, Stop}
+use Rattle.ocr_machine.specs.declared.entry.Entry.TheVariants.{Call, Acquire, Start, Free, End, Stop}
 use Rattle.ocr_machine.specs.declared.entry.Stop.TheVariants as by
 use Rattle.ocr_machine.specs.declared.part.Part.{Part}
 use Rattle.ocr_machine.specs.declared.part.Part.TheVariants as part
 use Rattle.ocr_machine.specs.History.{History, Setting, history_of, is_stopped, own}
 use Rattle.ocr_machine.specs.Made.{Made, MadeBlock, MadeTemplate, MadeEdt, made, is_edt, depc_in, function_in, params_in}
 use Rattle.ocr_machine.specs.Calls.{slot_calls, block_calls, edt_calls, payload_or_null}
-use Rattle.ocr_machine.specs.Edts.{is_started, IsRunning, body_of, says_next}
+use Rattle.ocr_machine.specs.Edts.{is_started, is_ended, IsRunning, body_of, says_next}
 use Rattle.ocr_machine.specs.Parts.{Parts, parts_of, face, core}
 use Rattle.ocr_machine.specs.Effects.{changed, plan_in, core_progress}
 use Rattle.ocr_machine.specs.LegalOn.{is_running, is_lent, IsStartOn, IsLegalOn}
@@ -28,8 +28,8 @@ use Rattle.ocr_machine.proofs.Wholes.{all_keys}
 use Rattle.ocr_machine.proofs.After.{after}
 use Rattle.ocr_machine.proofs.Told.{known, told_law, body_law, fresh_law, begins}
 use Rattle.ocr_machine.proofs.Present.{IsPresent, IsBare, present}
-use Rattle.ocr_replay.specs.Judging.{runs, IsSaidNow, IsSaidIn, IsUnsaid, at_place, body_with}
-use Rattle.ocr_replay.specs.Replaying.{setting_of, function_on, params_on, payloads_on, body_on, IsVerdict, verdict_at, agrees, is_undecided, stop_agrees, IsReplaying, IsFirstIllegal}
+use Rattle.ocr_replay.specs.Judging.{runs, IsSaidNow, IsUnsaid, body_with}
+use Rattle.ocr_replay.specs.Replaying.{body_on, IsVerdict, verdict_at, agrees, is_end_of, HasEnded, is_undecided, stop_agrees, IsReplaying, IsFirstIllegal}
 use Rattle.ocr_replay.proofs.Steps.{history_next, item, item_is}
 
 -- NO BLOCK is on loan
@@ -101,17 +101,39 @@ verdict_said : (s : Setting) (xs : List Entry) (n : ℕ) (ps : List Part) (vs : 
 verdict_said s xs n ps vs t e so_far below is running mine agreed =
     let past : History = history_of (take n xs) in
     let on : is_running ((parts_of s past).core t) ≡ true = sym (ap (λ (f : Parts). is_running (f.core t)) so_far.parts_are) ∙ running in
-    let v = so_far.judged t ((told_law s past t so_far.run).running.0 on).started in
+    let runs_now : IsRunning past t = (told_law s past t so_far.run).running.0 on in
+    let v = so_far.judged t runs_now in
     v.said n (omega arith) (past_it (verdict_at vs t) n v.after (not_true _ agreed)) e is mine
+
+-- who has ended does not run
+ended_by_end : (past : History) (e : Entry) (t : ℕ) → is_end_of t e ≡ true → is_ended (e ∷ past) t ≡ true
+ended_by_end past (End u g) t is = rw is refl
+ended_by_end past other t is = cc
+
+not_ended : (xs : List Entry) (n : ℕ) (t : ℕ) → n < length xs → IsRunning (history_of (take n xs)) t → HasEnded t xs n → ⊥
+not_ended xs n t below running ended =
+    let before : ended.0 < length xs = omega (arith, ended.1, below) in
+    let e : Entry = item xs ended.0 before in
+    let is : e ≡ slice_index_or xs ended.0 e = item_is xs ended.0 before in
+    let h : history_of (take n xs) ≡ e ∷ history_of (take ended.0 xs) = ap (λ k. history_of (take k xs)) ended.1 ∙ history_next xs ended.0 e before is in
+    let on : is_ended (history_of (take n xs)) t ≡ true = ap (λ (past : History). is_ended past t) h ∙ ended_by_end (history_of (take ended.0 xs)) e t (ended.2 e is) in
+    let off : is_ended (history_of (take n xs)) t ≡ false = running.not_ended in
+    cc (on, off)
+
+still_unsaid : (s : Setting) (xs : List Entry) (n v : ℕ) (t : ℕ) → n < length xs → IsRun s (history_of (take n xs)) → v ≡ n → IsRunning (history_of (take n xs)) t
+    → IsUnsaid (body_of s (history_of (take n xs)) t) t xs v ⊎ HasEnded t xs v → IsUnsaid (body_of s (history_of (take n xs)) t) t xs n
+still_unsaid s xs n v t below run here running (inl unsaid) = subst (λ (k : ℕ). IsUnsaid (body_of s (history_of (take n xs)) t) t xs k) here unsaid
+still_unsaid s xs n v t below run here running (inr ended) = absurd (not_ended xs n t below running (subst (HasEnded t xs) here ended))
 
 verdict_unsaid : (s : Setting) (xs : List Entry) (n : ℕ) (ps : List Part) (vs : List ℕ) (t : ℕ) (e : Entry) → IsReplaying s xs n ps vs → n < length xs → e ≡ slice_index_or xs n e
     → is_running (core_at s.limit ps t) ≡ true → not (verdict_at vs t == n) ≡ false → IsSaidNow (says_next s (history_of (take n xs)) t) e → ⊥
 verdict_unsaid s xs n ps vs t e so_far below is running agreed =
     let past : History = history_of (take n xs) in
     let on : is_running ((parts_of s past).core t) ≡ true = sym (ap (λ (f : Parts). is_running (f.core t)) so_far.parts_are) ∙ running in
-    let v = so_far.judged t ((told_law s past t so_far.run).running.0 on).started in
+    let runs_now : IsRunning past t = (told_law s past t so_far.run).running.0 on in
+    let v = so_far.judged t runs_now in
     let here : verdict_at vs t ≡ n = eqb-true (verdict_at vs t) n (not_false _ agreed) in
-    let at : IsUnsaid (body_of s past t) t xs n = subst (λ (k : ℕ). IsUnsaid (body_of s past t) t xs k) here (v.unsaid (subst (λ (k : ℕ). k < length xs) (sym here) below)) in
+    let at : IsUnsaid (body_of s past t) t xs n = still_unsaid s xs n (verdict_at vs t) t below so_far.run here runs_now (v.unsaid (subst (λ (k : ℕ). k < length xs) (sym here) below)) in
     (at e is).1
 
 on_now : (s : Setting) (xs : List Entry) (n : ℕ) (ps : List Part) (vs : List ℕ) (e : Entry) → IsReplaying s xs n ps vs → IsLegalOn s.limit (all_parts s.limit ps) e
@@ -157,19 +179,20 @@ not_said s xs n ps vs other so_far below is legal agreed = cc
 
 -- ONE ENTRY MORE
 restrict : (s : Setting) (xs : List Entry) (n : ℕ) (e : Entry) (t v : ℕ) → IsRun s (e ∷ history_of (take n xs)) → n < length xs → e ≡ slice_index_or xs n e
-    → is_started (history_of (take n xs)) t ≡ true → IsVerdict (body_of s (history_of (take n xs)) t) t xs n v → IsVerdict (body_of s (e ∷ history_of (take n xs)) t) t xs (n + 1) v
-restrict s xs n e t v run below is started verdict =
+    → IsRunning (history_of (take n xs)) t → IsVerdict (body_of s (history_of (take n xs)) t) t xs n v → IsVerdict (body_of s (e ∷ history_of (take n xs)) t) t xs (n + 1) v
+restrict s xs n e t v run below is running verdict =
     let past : History = history_of (take n xs) in
     let not_here : (v == n) ≡ false = elim (v == n) as (λ b. (v == n) ≡ b → b ≡ false) [
       | true ↦ λ here.
-          let at : IsUnsaid (body_of s past t) t xs n = subst (λ (k : ℕ). IsUnsaid (body_of s past t) t xs k) (eqb-true v n here) (verdict.unsaid (subst (λ (k : ℕ). k < length xs) (sym (eqb-true v n here)) below)) in
+          let same_place : v ≡ n = eqb-true v n here in
+          let at : IsUnsaid (body_of s past t) t xs n = still_unsaid s xs n v t below run.0 same_place running (verdict.unsaid (subst (λ (k : ℕ). k < length xs) (sym same_place) below)) in
           absurd ((at e is).1 (legal_said s past e t run.1 (at e is).0))
       | false ↦ λ _. refl
     ] refl in
     let more : n < v = past_it v n verdict.after not_here in
     let made_edt : is_edt past t ≡ true = elim (is_edt past t) as (λ b. is_edt past t ≡ b → b ≡ true) [
       | true ↦ λ _. refl
-      | false ↦ λ off. let not_started : is_started past t ≡ false = (told_law s past t run.0).started off in cc (started, not_started)
+      | false ↦ λ off. let not_started : is_started past t ≡ false = (told_law s past t run.0).started off in let started : is_started past t ≡ true = running.started in cc (started, not_started)
     ] refl in
     subst (λ (b : Body). IsVerdict b t xs (n + 1) v) (sym (body_law s past e t run made_edt)) (record {
       after = omega arith;
@@ -190,26 +213,32 @@ parts_next s xs n ps qs vs e so_far legal stepped =
 -- the replay of one entry more, whatever the verdicts are then
 pub next_at : (s : Setting) (xs : List Entry) (n : ℕ) (ps qs : List Part) (vs ws : List ℕ) (e : Entry) → IsReplaying s xs n ps vs → n < length xs → e ≡ slice_index_or xs n e → is_stop e ≡ false
     → IsLegal s (history_of (take n xs)) e → all_parts s.limit qs ≡ changed e (all_parts s.limit ps)
-    → ((t : ℕ) → is_started (e ∷ history_of (take n xs)) t ≡ true → IsVerdict (body_of s (e ∷ history_of (take n xs)) t) t xs (n + 1) (verdict_at ws t)) → IsReplaying s xs (n + 1) qs ws
+    → ((t : ℕ) → IsRunning (e ∷ history_of (take n xs)) t → IsVerdict (body_of s (e ∷ history_of (take n xs)) t) t xs (n + 1) (verdict_at ws t)) → IsReplaying s xs (n + 1) qs ws
 next_at s xs n ps qs vs ws e so_far below is no_stop legal stepped verdicts =
     let h : history_of (take (n + 1) xs) ≡ e ∷ history_of (take n xs) = history_next xs n e below is in
     record {
       run = subst (λ (h : History). IsRun s h) (sym h) (so_far.run, legal);
       open_run = subst (λ (h : History). is_stopped h ≡ false) (sym h) (still_open (history_of (take n xs)) e no_stop so_far.open_run);
       parts_are = parts_next s xs n ps qs vs e so_far legal stepped ∙ ap (λ (h : History). parts_of s h) (sym h);
-      judged = λ t started. subst (λ (h : History). IsVerdict (body_of s h t) t xs (n + 1) (verdict_at ws t)) (sym h) (verdicts t (subst (λ (h : History). is_started h t ≡ true) h started));
+      judged = λ t started. subst (λ (h : History). IsVerdict (body_of s h t) t xs (n + 1) (verdict_at ws t)) (sym h) (verdicts t (subst (λ (h : History). IsRunning h t) h started));
     }
 
-started_before : (past : History) (e : Entry) (t : ℕ) → ((u : ℕ) → e ≡ Start u → ⊥) → is_started (e ∷ past) t ≡ true → is_started past t ≡ true
-started_before past (Start u) t no_start started = absurd (no_start u refl)
-started_before past other t no_start started = started
+later_or : (b c : Bool) → (b || c) ≡ false → c ≡ false
+later_or true c is = cc
+later_or false c is = is
+
+-- who runs after an entry that did not start it ran before it
+ran_before : (past : History) (e : Entry) (t : ℕ) → ((u : ℕ) → e ≡ Start u → ⊥) → IsRunning (e ∷ past) t → IsRunning past t
+ran_before past (Start u) t no_start running = absurd (no_start u refl)
+ran_before past (End u g) t no_start running = record { started = running.started; not_ended = later_or (u == t) _ running.not_ended }
+ran_before past other t no_start running = record { started = running.started; not_ended = running.not_ended }
 
 -- an entry that is no Start
 pub next_other : (s : Setting) (xs : List Entry) (n : ℕ) (ps qs : List Part) (vs : List ℕ) (e : Entry) → IsReplaying s xs n ps vs → n < length xs → e ≡ slice_index_or xs n e → is_stop e ≡ false
     → ((t : ℕ) → e ≡ Start t → ⊥) → IsLegal s (history_of (take n xs)) e → all_parts s.limit qs ≡ changed e (all_parts s.limit ps) → IsReplaying s xs (n + 1) qs vs
 next_other s xs n ps qs vs e so_far below is no_stop no_start legal stepped =
     next_at s xs n ps qs vs vs e so_far below is no_stop legal stepped
-    (λ t started. let before : is_started (history_of (take n xs)) t ≡ true = started_before (history_of (take n xs)) e t no_start started in
+    (λ t running. let before : IsRunning (history_of (take n xs)) t = ran_before (history_of (take n xs)) e t no_start running in
     restrict s xs n e t (verdict_at vs t) (so_far.run, legal) below is before (so_far.judged t before))
 
 verdict_set : (vs : List ℕ) (t u v : ℕ) → t < length vs → verdict_at (slice_set vs t v) u ≡ (if t == u then v else verdict_at vs u)
@@ -229,7 +258,7 @@ next_start s xs n ps qs vs u v so_far below is legal stepped room verdict =
     (elim (u == t) as (λ b. (u == t) ≡ b → IsVerdict (body_of s (Start u ∷ past) t) t xs (n + 1) (if b then v else verdict_at vs t)) [
       | true ↦ λ mine. subst (λ (k : ℕ). IsVerdict (body_of s (Start u ∷ past) k) k xs (n + 1) v) (eqb-true u t mine) (subst (λ (b : Body). IsVerdict b u xs (n + 1) v) body verdict)
       | false ↦ λ apart.
-          let before : is_started past t ≡ true = rw apart at started in
+          let before : IsRunning past t = record { started = rw apart at started.started; not_ended = started.not_ended } in
           restrict s xs n (Start u) t (verdict_at vs t) (so_far.run, legal) below is before (so_far.judged t before)
     ] refl))
 
@@ -339,7 +368,7 @@ opened_whole limit ps qs now empty given = λ i. record {
 }
 
 pub first_replaying : (s : Setting) (xs : List Entry) (ps : List Part) (vs : List ℕ) → all_parts s.limit ps ≡ parts_of s [] → IsReplaying s xs 0 ps vs
-first_replaying s xs ps vs is = record { run = tt; open_run = refl; parts_are = is; judged = λ t started. cc started }
+first_replaying s xs ps vs is = record { run = tt; open_run = refl; parts_are = is; judged = λ t running. let on : false ≡ true = running.started in cc on }
 
 pub last_replaying : (s : Setting) (xs : List Entry) (n : ℕ) (ps : List Part) (vs : List ℕ) → IsReplaying s xs n ps vs → length xs ≤ n → IsRun s (history_of xs)
 last_replaying s xs n ps vs so_far all = let whole : take n xs ≡ xs = grind (arith, common_steps) in subst (λ (l : List Entry). IsRun s (history_of l)) whole so_far.run

@@ -1,5 +1,5 @@
 -- Places of a list of entries.
-use Rattle.std.proofs.Common.{◌≡◌, ◌⊎◌, inl, inr, ℕ, ◌+◌, ◌-◌, ◌<◌, ◌≤◌, List, [], ◌∷◌, ◌++◌, zero, suc, take, drop, reverse, length, slice_index_or, Bool, true, false, ◌==◌, if◌then◌else◌, arith, refl, sym, ◌∙◌, ap, subst, rules}
+use Rattle.std.proofs.Common.{◌≡◌, ◌⊎◌, inl, inr, ℕ, ◌+◌, ◌-◌, ◌<◌, ◌≤◌, List, [], ◌∷◌, ◌++◌, zero, suc, take, length, slice_index_or, Bool, true, false, ◌==◌, arith, refl, sym, ◌∙◌, ap, subst}
 use Rattle.std.proofs.lemmas.Grind.{common_steps}
 use Rattle.std.specs.Prelude.{Option, Some, None, IfSome, IfNone}
 use Rattle.std.proofs.lemmas.List.{reverse-append}
@@ -20,7 +20,7 @@ use Rattle.ocr_body.specs.declared.call.BodyStop.{BodyStop}
 use Rattle.ocr_body.specs.declared.call.BodyStop.TheVariants as stop
 use Rattle.ocr_replay.specs.declared.judging.Ending.{Ending}
 use Rattle.ocr_replay.specs.declared.judging.Ending.TheVariants as ending
-use Rattle.ocr_replay.specs.Judging.{ended_as, Whether, runs, IsIdle, IsSaidIn, IsWrong, IsStuck, IsSaidNow, IsUnsaid, at_place, body_with, IsJudging}
+use Rattle.ocr_replay.specs.Judging.{ended_as, runs, IsIdle, IsSaidIn, IsWrong, IsStuck, IsSaidNow, IsUnsaid, at_place, body_with, IsJudging}
 
 pub same_item : (xs : List Entry) (i : ℕ) (p q : Entry) → i < length xs → p ≡ slice_index_or xs i p → q ≡ slice_index_or xs i q → p ≡ q
 same_item xs i p q below first second = grind (arith, common_steps)

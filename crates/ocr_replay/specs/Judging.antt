@@ -1,5 +1,5 @@
 -- What the body of one EDT says of the entries that run it.
-use Rattle.std.specs.Prelude.{◌≡◌, ℕ, ◌+◌, ◌≤◌, ◌<◌, List, [], ◌∷◌, length, reverse, take, slice_index_or, Bool, true, false, ◌==◌, Option, Some, None}
+use Rattle.std.specs.Prelude.{◌≡◌, ℕ, ◌≤◌, ◌<◌, List, length, take, slice_index_or, Bool, true, false, ◌==◌}
 use Rattle.ocr_body.specs.Behaviour.{Behaviour, Ends, Stops, IsNext}
 use Rattle.ocr_body.specs.Serving.{Body, says}
 use Rattle.ocr_body.specs.Tree.{FunctionTree}
@@ -7,9 +7,9 @@ use Rattle.ocr_body.specs.declared.call.BodyStop.TheVariants as stop
 use Rattle.ocr_replay.specs.declared.judging.Ending.{Ending}
 use Rattle.ocr_replay.specs.declared.judging.Ending.TheVariants as ending
 use Rattle.ocr_machine.specs.declared.entry.Entry.{Entry}
-use Rattle.ocr_machine.specs.declared.entry.Entry.TheVariants.{Call, Deliver, Acquire, Wait, StaleAcquire, Start, Free, End, Stop}
+use Rattle.ocr_machine.specs.declared.entry.Entry.TheVariants.{Call, Free, End, Stop}
 use Rattle.ocr_machine.specs.declared.entry.Stop.TheVariants as by
-use Rattle.ocr_machine.specs.History.{History, history_of, own}
+use Rattle.ocr_machine.specs.History.{history_of, own}
 use Rattle.ocr_machine.specs.Legal.{IsAtEnd, faulted}
 
 -- a test that tells whether something holds

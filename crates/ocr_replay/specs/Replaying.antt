@@ -1,17 +1,17 @@
 -- How far a replay has come, and where it stops.
-use Rattle.std.specs.Prelude.{◌≡◌, ℕ, ◌+◌, ◌<◌, ◌≤◌, List, [], length, take, map, Bool, true, false, not, ◌==◌, ◌&&◌, slice_index_or}
+use Rattle.std.specs.Prelude.{◌≡◌, ◌⊎◌, ℕ, ◌+◌, ◌<◌, ◌≤◌, List, [], length, take, map, Bool, true, false, not, ◌==◌, ◌&&◌, slice_index_or}
 use Rattle.ocr_body.specs.Serving.{Body}
 use Rattle.ocr_body.specs.Tree.{FunctionTree}
 use Rattle.ocr_slots.specs.declared.Slot.{Slot}
 use Rattle.ocr_machine.specs.declared.entry.Entry.{Entry}
-use Rattle.ocr_machine.specs.declared.entry.Entry.TheVariants.{Call, Deliver, Acquire, Wait, StaleAcquire, Start, Free, End, Stop}
+use Rattle.ocr_machine.specs.declared.entry.Entry.TheVariants.{Call, Free, End, Stop}
 use Rattle.ocr_machine.specs.declared.entry.Stop as run
 use Rattle.ocr_machine.specs.declared.entry.Stop.TheVariants as by
 use Rattle.ocr_machine.specs.declared.part.Part.{Part}
 use Rattle.ocr_machine.specs.declared.part.Part.TheVariants as part
 use Rattle.ocr_machine.specs.History.{Setting, history_of, is_stopped}
 use Rattle.ocr_machine.specs.Calls.{payload_or_null}
-use Rattle.ocr_machine.specs.Edts.{is_started, body_of}
+use Rattle.ocr_machine.specs.Edts.{IsRunning, body_of}
 use Rattle.ocr_machine.specs.Parts.{parts_of}
 use Rattle.ocr_machine.specs.Legal.{IsRun}
 use Rattle.ocr_machine.specs.Whole.{all_parts, core_at}
@@ -56,12 +56,21 @@ body_on program face core = body_with program (function_on core) (params_on core
 abbrev pub entry_at : List Entry → ℕ → Entry
 entry_at entries n = slice_index_or entries n (Stop by.Memory)
 
--- the verdict on an EDT: the first place of an entry that its body does not make, or the length of the journal
+abbrev pub is_end_of : ℕ → Entry → Bool
+is_end_of t (End edt g) = edt == t
+is_end_of t other = false
+
+-- the entry before this place ends the EDT
+abbrev pub HasEnded : ℕ → List Entry → ℕ → Type 0
+HasEnded t entries at = (n : ℕ) × (at ≡ n + 1) × ((e : Entry) → e ≡ slice_index_or entries n e → is_end_of t e ≡ true)
+
+-- the verdict on an EDT: the first place of an entry that its body does not make, or the place after its End, or the length
+-- of the journal
 pub record IsVerdict (b : Body) (t : ℕ) (entries : List Entry) (from at : ℕ) : Type 0 where
   pub after : from ≤ at
   pub within : at ≤ length entries
   pub said : IsSaidIn b t entries from at
-  pub unsaid : at < length entries → IsUnsaid b t entries at
+  pub unsaid : at < length entries → IsUnsaid b t entries at ⊎ HasEnded t entries at
 
 abbrev pub verdict_at : List ℕ → ℕ → ℕ
 verdict_at verdicts t = slice_index_or verdicts t 0
@@ -73,12 +82,12 @@ agrees verdicts (Free t d w) n = not (verdict_at verdicts t == n)
 agrees verdicts (End t g) n = not (verdict_at verdicts t == n)
 agrees verdicts other n = true
 
--- the first n entries are a run that was not stopped, with these parts, and with these verdicts on the EDTs that have started
+-- the first n entries are a run that was not stopped, with these parts, and with these verdicts on the EDTs that run
 pub record IsReplaying (s : Setting) (entries : List Entry) (n : ℕ) (parts : List Part) (verdicts : List ℕ) : Type 0 where
   pub run : IsRun s (history_of (take n entries))
   pub open_run : is_stopped (history_of (take n entries)) ≡ false
   pub parts_are : all_parts s.limit parts ≡ parts_of s (history_of (take n entries))
-  pub judged : (t : ℕ) → is_started (history_of (take n entries)) t ≡ true → IsVerdict (body_of s (history_of (take n entries)) t) t entries n (verdict_at verdicts t)
+  pub judged : (t : ℕ) → IsRunning (history_of (take n entries)) t → IsVerdict (body_of s (history_of (take n entries)) t) t entries n (verdict_at verdicts t)
 
 -- the first entry that is not legal stands at n
 pub record IsFirstIllegal (s : Setting) (entries : List Entry) (n : ℕ) : Type 0 where

@@ -1,6 +1,5 @@
 -- What an EDT that runs does next, and what of that could be entered.
-use Rattle.std.specs.Prelude.{◌≡◌, ◌<◌, ◌≤◌, ℕ, List, [], length, Bool, true, false, not, ◌==◌, ◌&&◌}
-use Rattle.ocr_guid.specs.declared.Code.TheVariants.{Done}
+use Rattle.std.specs.Prelude.{◌≡◌, ◌<◌, ◌≤◌, ℕ, List, length, Bool, true, false, not, ◌==◌, ◌&&◌}
 use Rattle.ocr_body.specs.Behaviour.{Behaviour, Ends, IsNext}
 use Rattle.ocr_body.specs.declared.call.Call as body
 use Rattle.ocr_body.specs.declared.call.Call.TheVariants as call

@@ -9,3 +9,6 @@ mod telling;
 pub use judging::first_unsaid;
 pub use legality::{is_fresh, is_legal_on, is_running_at};
 pub use replaying::{ReplayStop, replay};
+
+#[cfg(test)]
+mod tests;

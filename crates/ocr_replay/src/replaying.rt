@@ -9,7 +9,7 @@ ghost use Rattle.ocr_machine.specs.LegalOn.{is_running};
 ghost use Rattle.ocr_machine.specs.Whole.{all_parts, face_at, core_at};
 ghost use Rattle.ocr_machine.specs.declared.part.Part.TheVariants as part;
 ghost use Rattle.ocr_replay.specs.Judging.{Whether};
-ghost use Rattle.ocr_replay.specs.Replaying.{setting_of, function_on, params_on, payloads_in, payloads_on, body_on, entry_at, IsVerdict, verdict_at, agrees, is_undecided, stop_agrees, IsReplaying, IsFirstIllegal, IsStoppedAt};
+ghost use Rattle.ocr_replay.specs.Replaying.{setting_of, function_on, params_on, payloads_in, payloads_on, body_on, entry_at, is_end_of, HasEnded, IsVerdict, verdict_at, agrees, is_undecided, stop_agrees, IsReplaying, IsFirstIllegal, IsStoppedAt};
 
 use crate::judging::first_unsaid;
 use crate::legality::{is_legal_on, is_running_at};
@@ -78,6 +78,46 @@ fn params_at<'a>(table: &'a Table, edt: u64) -> &'a [u64]
     }
 }
 
+/// The place after the End of an EDT that has just started, or the journal's length.
+fn end_of(entries: &[Entry], edt: Guid, start: usize) -> usize
+    requires { start ≤ length entries.now }
+    ensures after { start ≤ result }
+    ensures within { result ≤ length entries.now }
+    ensures ended { result < length entries.now → HasEnded edt entries.now result }
+{
+    for i in start..entries.len() {
+        if is_end_of(&entries[i], edt) {
+            return i + 1;
+        }
+    }
+    entries.len()
+}
+
+fn is_end_of(entry: &Entry, edt: Guid) -> bool
+    ensures { result ≡ is_end_of edt entry.now }
+{
+    match entry {
+        Entry::End {
+            edt: by,
+            returned: _,
+        } => *by == edt,
+        Entry::Call { .. } => false,
+        Entry::Free { .. } => false,
+        Entry::Acquire { .. } => false,
+        Entry::Start { .. } => false,
+        Entry::Stop(_) => false,
+        Entry::Deliver { .. } => false,
+        Entry::Wait { .. } => false,
+        Entry::StaleAcquire { .. } => false,
+    }
+}
+
+fn number_of(guid: Guid) -> u64
+    ensures { result ≡ guid }
+{
+    guid.0
+}
+
 /// The verdict on an EDT that has just started.
 fn judge(
     alloc: Global,
@@ -92,12 +132,15 @@ fn judge(
     ensures { IfOk result (λ at. IsVerdict (body_on (checked_tree program.now) (face_at table.now.limit table.now.parts.items edt)
         (core_at table.now.limit table.now.parts.items edt)) edt entries.now start at) }
 {
-    let deps = payloads_at(alloc, table, edt.0)?;
-    let function = function_at(table, edt.0);
-    let params = params_at(table, edt.0);
-    match first_unsaid(alloc, program, function, params, &deps, entries, edt, start)? {
+    let number = number_of(edt);
+    let deps = payloads_at(alloc, table, number)?;
+    let function = function_at(table, number);
+    let params = params_at(table, number);
+    let end = end_of(entries, edt, start);
+    let front = &entries[..end];
+    match first_unsaid(alloc, program, function, params, &deps, front, edt, start)? {
         Some(at) => Ok(at),
-        None => Ok(entries.len()),
+        None => Ok(end),
     }
 }
 

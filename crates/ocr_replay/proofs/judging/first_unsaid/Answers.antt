@@ -1,4 +1,4 @@
-use Rattle.std.proofs.Common.{◌≡◌, ◌⊎◌, ◌<◌, inl, inr, refl, ap, sym, ◌∙◌, arith, rules, List, ℕ, length}
+use Rattle.std.proofs.Common.{◌≡◌, ◌⊎◌, ◌<◌, inl, inr, refl, arith, List, ℕ, length}
 use Rattle.ocr_body.specs.Behaviour.{Ends, Stops}
 use Rattle.ocr_body.specs.Checked.{checked_tree}
 use Rattle.ocr_body.specs.Serving.{Body, StoppedBy, Rose}

@@ -1,7 +1,6 @@
-use Rattle.std.proofs.Common.{◌≡◌, ap, sym, ◌∙◌, arith, rules}
-use Rattle.ocr_machine.specs.declared.entry.Entry.{Entry}
+use Rattle.std.proofs.Common.{ap, sym, ◌∙◌, arith}
 use Rattle.ocr_replay.specs.Judging.{runs}
-use Rattle.ocr_replay.proofs.Steps.{same_item, idle_more}
+use Rattle.ocr_replay.proofs.Steps.{same_item}
 use Rattle.ocr_replay.proofs.judging.next_own.Goals as goal
 
 pub returns-then-is_run_by-clause-some : goal.returns-then-is_run_by-clause-some

@@ -1,5 +1,4 @@
-use Rattle.std.proofs.Common.{◌≡◌, ap, sym, ◌∙◌, arith, rules, true, false}
-use Rattle.ocr_replay.specs.Judging.{runs}
+use Rattle.std.proofs.Common.{sym, ◌∙◌, arith}
 use Rattle.ocr_replay.proofs.Steps.{ended_next, ended_wrong, true_false}
 use Rattle.ocr_replay.proofs.judging.unsaid_after.Goals.{then-is_run_by+else-not-makes, else-is_run_by}
 use Rattle.ocr_replay.proofs.judging.unsaid_after.Goals as goal

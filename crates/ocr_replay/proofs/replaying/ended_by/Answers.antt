@@ -1,9 +1,8 @@
-use Rattle.std.proofs.Common.{◌≡◌, ◌<◌, ◌∙◌, sym, ap, arith, refl, false, true, List, ℕ, slice_index_or}
+use Rattle.std.proofs.Common.{◌≡◌, ◌∙◌, sym, slice_index_or}
 use Rattle.ocr_body.specs.Checked.{checked_tree}
 use Rattle.ocr_machine.specs.declared.entry.Entry.TheVariants.{Stop}
 use Rattle.ocr_machine.specs.History.{Setting}
-use Rattle.ocr_machine.specs.Legal.{IsLegal}
-use Rattle.ocr_replay.specs.Replaying.{setting_of, is_undecided}
+use Rattle.ocr_replay.specs.Replaying.{setting_of}
 use Rattle.ocr_replay.proofs.Playing.{stop_yes, stop_no, after_stop, whole_run, stop_is}
 use Rattle.ocr_replay.proofs.replaying.ended_by.Goals as goal
 

@@ -1,9 +1,9 @@
-use Rattle.std.proofs.Common.{◌≡◌, ◌<◌, ◌+◌, ◌≤◌, length, refl, ap, sym, ◌∙◌, subst, true, false, arith, rules, slice_index_or, List, ℕ}
+use Rattle.std.proofs.Common.{◌≡◌, ◌<◌, length, refl, ap, sym, ◌∙◌, subst, true, false, arith, slice_index_or, List, ℕ}
 use Rattle.ocr_body.specs.Checked.{checked_tree}
 use Rattle.ocr_machine.specs.declared.entry.Entry.{Entry}
 use Rattle.ocr_machine.specs.declared.entry.Entry.TheVariants.{Start}
-use Rattle.ocr_machine.specs.History.{Setting, history_of}
-use Rattle.ocr_machine.specs.Legal.{IsLegal, is_stop}
+use Rattle.ocr_machine.specs.History.{Setting}
+use Rattle.ocr_machine.specs.Legal.{is_stop}
 use Rattle.ocr_machine.specs.LegalOn.{IsLegalOn}
 use Rattle.ocr_machine.specs.Whole.{all_parts}
 use Rattle.ocr_replay.specs.Replaying.{setting_of, agrees}

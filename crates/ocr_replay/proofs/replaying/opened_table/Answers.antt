@@ -1,4 +1,4 @@
-use Rattle.std.proofs.Common.{◌≡◌, ◌+◌, ◌∙◌, ap, arith, refl, ℕ}
+use Rattle.std.proofs.Common.{◌+◌, ◌∙◌, ap, ℕ}
 use Rattle.ocr_replay.proofs.Playing.{opening_small, opened_whole}
 use Rattle.ocr_replay.proofs.replaying.opened_table.Goals as goal
 

@@ -1,4 +1,4 @@
-use Rattle.std.proofs.Common.{◌≡◌, ◌+◌, ◌∙◌, sym, arith, refl}
+use Rattle.std.proofs.Common.{sym, refl}
 use Rattle.ocr_body.specs.Checked.{checked_tree}
 use Rattle.ocr_machine.specs.History.{Setting}
 use Rattle.ocr_replay.specs.Replaying.{setting_of}

@@ -1,6 +1,4 @@
-use Rattle.std.proofs.Common.{◌≡◌, ◌||◌, ◌∙◌, Bool, refl, sym, ap, not, true, false}
-use Rattle.ocr_machine.specs.Made.{is_done}
-use Rattle.ocr_machine.specs.Codes.{code_of}
+use Rattle.std.proofs.Common.{◌≡◌, ◌||◌, ◌∙◌, refl, sym, true, false}
 use Rattle.ocr_machine.specs.Parts.{Parts}
 use Rattle.ocr_machine.specs.Whole.{all_parts}
 use Rattle.ocr_replay.specs.Stopping.{is_enterable, is_print}

@@ -1,4 +1,4 @@
-use Rattle.std.proofs.Common.{◌≡◌, ◌<◌, ℕ}
+use Rattle.std.proofs.Common.{◌<◌, ℕ}
 use Rattle.ocr_machine.specs.LegalOn.{IsFresh}
 use Rattle.ocr_machine.specs.Whole.{all_parts}
 use Rattle.ocr_replay.proofs.telling.fresh_number.Given as goal

@@ -1,14 +1,14 @@
-use Rattle.std.proofs.Common.{◌≡◌, ◌⊎◌, ◌<◌, inl, inr, refl, ap, sym, ◌∙◌, arith, rules, List, ℕ, length}
+use Rattle.std.proofs.Common.{◌≡◌, ◌⊎◌, ◌<◌, inl, inr, refl, arith, List, ℕ, length}
 use Rattle.ocr_body.specs.Behaviour.{Ends, Stops}
 use Rattle.ocr_body.specs.Checked.{checked_tree}
-use Rattle.ocr_body.specs.Serving.{Body, StoppedBy, Rose, by_closing, by_memory, by_body}
+use Rattle.ocr_body.specs.Serving.{Body, StoppedBy, Rose}
 use Rattle.ocr_machine.specs.declared.entry.Entry.{Entry}
 use Rattle.ocr_machine.specs.declared.whole.Table.{Table}
 use Rattle.ocr_machine.specs.Parts.{Parts}
 use Rattle.ocr_machine.specs.Whole.{all_parts}
 use Rattle.ocr_replay.specs.declared.judging.Ending.TheVariants as ending
 use Rattle.ocr_replay.specs.Judging.{at_place, body_with}
-use Rattle.ocr_replay.specs.Stopping.{IsTelling, IsToldAs}
+use Rattle.ocr_replay.specs.Stopping.{IsTelling}
 use Rattle.ocr_replay.proofs.Steps.{ends_at_once}
 use Rattle.ocr_replay.proofs.Entering.{stays, stopped_told, stopped_zero, carried}
 use Rattle.ocr_replay.proofs.telling.next_of.Goals.{then-function-eq0-via-then-function-eq0, then-function-eq0-via-else-function-eq0+then-function-count}

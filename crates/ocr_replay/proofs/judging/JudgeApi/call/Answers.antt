@@ -1,4 +1,4 @@
-use Rattle.std.proofs.Common.{◌≡◌, ap, sym, subst, ◌∙◌, arith, rules, List, ℕ}
+use Rattle.std.proofs.Common.{sym, subst, arith}
 use Rattle.ocr_body.specs.Behaviour.{IsNext}
 use Rattle.ocr_body.specs.Serving.{refused_closed}
 use Rattle.ocr_body.specs.Checked.{checked_tree}

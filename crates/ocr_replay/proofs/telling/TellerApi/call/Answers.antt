@@ -1,6 +1,6 @@
-use Rattle.std.proofs.Common.{◌≡◌, ◌∙◌, refl, sym, ap, arith, rules, subst, List, ℕ, slice_index_or}
+use Rattle.std.proofs.Common.{◌≡◌, ◌∙◌, sym, arith, slice_index_or}
 use Rattle.ocr_body.specs.Checked.{checked_tree}
-use Rattle.ocr_body.specs.Serving.{Body, refused_closed}
+use Rattle.ocr_body.specs.Serving.{refused_closed}
 use Rattle.ocr_machine.specs.declared.entry.Entry.{Entry}
 use Rattle.ocr_machine.specs.declared.entry.Entry.TheVariants.{Call}
 use Rattle.ocr_replay.specs.Judging.{body_with}

@@ -1,0 +1,99 @@
+// Journals of a small program.
+ghost use Rattle.std.specs.Prelude.{◌≡◌, ◌<◌, ◌+◌, ◌≤◌, ◌^◌, length, true, IfOk};
+ghost use Rattle.ocr_body.specs.Built.{are_built};
+ghost use Rattle.ocr_body.specs.Serving.{number_of_main};
+ghost use Rattle.ocr_body.specs.View.{tree_of};
+
+use crate::{ReplayStop, replay};
+use ocr_body::{Answer, Call, Checked, Expr, Function, Name, Program, Stmt};
+use ocr_guid::{Code, Guid};
+use ocr_machine::{Entry, Writes};
+use std::alloc::Global;
+use std::test::Fail;
+
+fn program(alloc: Global) -> Result<Program, Fail>
+    ensures built { IfOk result (λ p. are_built (tree_of p) ≡ true) }
+    ensures few { IfOk result (λ p. length (tree_of p) + 1 < 2 ^ 32) }
+    ensures main { IfOk result (λ p. number_of_main (tree_of p) ≤ length (tree_of p)) }
+{
+    let body = vec![in alloc;
+        Stmt::Print {
+            value: Expr::Number(7)
+        },
+    ]?;
+    let name = Name::from_vec(Vec::from_slice(alloc, b"mainEdt")?);
+    Ok(Program {
+        functions: vec![in alloc; Function { name, body }]?,
+    })
+}
+
+// The entries of its run, whose print has this value.
+fn entry(alloc: Global, number: u32, value: u64) -> Entry {
+    match number {
+        0 => Entry::Acquire {
+            edt: Guid(2),
+            block: Guid(1),
+        },
+        1 => Entry::Start { edt: Guid(2) },
+        2 => Entry::Call {
+            edt: Guid(2),
+            home: Guid::NULL,
+            call: Call::Print { value },
+            answer: Answer {
+                code: Code::Done,
+                value: 0,
+                scope: Guid::NULL,
+                output: Guid::NULL,
+            },
+            writes: Writes::none(alloc),
+        },
+        3 => Entry::Free {
+            edt: Guid(2),
+            block: Guid(1),
+            writes: Writes::none(alloc),
+        },
+        _ => Entry::End {
+            edt: Guid(2),
+            returned: Guid::NULL,
+        },
+    }
+}
+
+fn verdict(alloc: Global, numbers: &[u32], value: u64) -> Result<Result<(), ReplayStop>, Fail> {
+    let checked = Checked::new(alloc, program(alloc)?)?;
+    let mut entries = Vec::new(alloc);
+    for number in numbers {
+        entries.reserve(1)?;
+        entries.push_reserved(entry(alloc, *number, value));
+    }
+    Ok(replay(alloc, &checked, &[], 4096, &entries))
+}
+
+#[test]
+fn a_journal_is_replayed_to_its_first_illegal_place(rt: HostRuntime) -> Result<(), Fail> {
+    let alloc = rt.alloc();
+    assert_eq!(rt; verdict(alloc, &[0, 1, 2, 3, 4], 7)?, Ok(()));
+    assert_eq!(rt; verdict(alloc, &[0, 1, 2, 3], 7)?, Ok(()));
+    assert_eq!(rt; verdict(alloc, &[0, 2, 3], 7)?, Err(ReplayStop::Illegal(1)));
+    assert_eq!(rt;
+        verdict(alloc, &[1, 2, 3, 4], 7)?,
+        Err(ReplayStop::Illegal(0))
+    );
+    assert_eq!(rt;
+        verdict(alloc, &[0, 1, 1, 2, 3, 4], 7)?,
+        Err(ReplayStop::Illegal(2))
+    );
+    assert_eq!(rt;
+        verdict(alloc, &[0, 1, 3, 4], 7)?,
+        Err(ReplayStop::Illegal(2))
+    );
+    assert_eq!(rt;
+        verdict(alloc, &[0, 1, 2, 4, 3], 7)?,
+        Err(ReplayStop::Illegal(3))
+    );
+    assert_eq!(rt;
+        verdict(alloc, &[0, 1, 2, 3, 4], 8)?,
+        Err(ReplayStop::Illegal(2))
+    );
+    Ok(())
+}
