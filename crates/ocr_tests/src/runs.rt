@@ -323,7 +323,8 @@ fn creations_are_refused_in_their_order(rt: HostRuntime) -> Result<(), Fail> {
 #[test]
 fn limits_stop_a_run(rt: HostRuntime) -> Result<(), Fail> {
     let alloc = rt.alloc();
-    let objects = b"fn a { ocrEdtCreate(ocrEdtTemplateCreate(a, 0, 0), EDT_PARAM_DEF, [], EDT_PARAM_DEF, [], 0); }
+    let objects =
+        b"fn a { ocrEdtCreate(ocrEdtTemplateCreate(a, 0, 0), EDT_PARAM_DEF, [], EDT_PARAM_DEF, [], 0); }
 fn mainEdt { ocrEdtCreate(ocrEdtTemplateCreate(a, 0, 0), EDT_PARAM_DEF, [], EDT_PARAM_DEF, [], 0); }";
     let done = run(alloc, objects, NO_FAULTS)?;
     assert_eq!(rt; done.ended.status, 10);
@@ -332,7 +333,8 @@ fn mainEdt { ocrEdtCreate(ocrEdtTemplateCreate(a, 0, 0), EDT_PARAM_DEF, [], EDT_
     let journal = done.ended.journal.ok_or("a journal")?;
     assert_eq!(rt; journal.entries().len(), 6 + 4 * 2046 + 2);
 
-    let events = b"fn a { let i = 0; while i < 90000 { print 1; i = i + 1; } ocrEdtCreate(paramv[0], 1, [paramv[0]], 0, [], 0); }
+    let events =
+        b"fn a { let i = 0; while i < 90000 { print 1; i = i + 1; } ocrEdtCreate(paramv[0], 1, [paramv[0]], 0, [], 0); }
 fn mainEdt { let t = ocrEdtTemplateCreate(a, 1, 0); ocrEdtCreate(t, 1, [t], 0, [], 0); }";
     let done = outcome_of(alloc, &["run"], events.to_vec(alloc)?, 500_000, NO_FAULTS)?;
     assert_eq!(rt; done.ended.status, 10);
