@@ -326,8 +326,9 @@ fn zeros(alloc: Global, count: usize) -> Result<Vec<usize>, NoMemory>
     }
 }
 
-/// Whether the list of entries is a run of the program on these arguments, with so many objects at most: Ok exactly where
-/// it is; else the first place whose entry is not legal. A Stop for want of objects or of events is left undecided.
+/// Whether the list of entries is a run of the program on these arguments, with so many objects at most: Ok only where it
+/// is, `Illegal` only with the first place whose entry is not legal. No verdict is given on a Stop for want of objects or
+/// of events: a list that comes to one is `Undecided`.
 pub fn replay(
     alloc: Global,
     program: &Checked,
