@@ -6,10 +6,12 @@ pub mod Functions
 pub mod Givens
 pub mod Laws
 pub mod Names
+pub mod Nodes
 pub mod Rows
 pub mod Start
 pub mod Stopped
 pub mod Turns
+pub mod Units
 pub mod Variables
 pub mod Weight
 pub mod Words
