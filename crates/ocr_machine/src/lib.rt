@@ -18,7 +18,7 @@ pub use effects::step;
 pub use entry::{Entry, Fault, Message, Stop, What};
 pub use journal::Journal;
 pub use laws::{going_laws, machine_laws, run_laws};
-pub use naming::{footprint, weight};
+pub use naming::{footprint, number_of, weight};
 pub use opened::{ARGUMENTS, MAIN_EDT, opening};
 pub use part::{Core, Part, Stepped};
 pub use whole::{Entered, Table};

@@ -18,7 +18,7 @@ use crate::log::Log;
 use ocr_body::{Answer, Call, Checked};
 use ocr_guid::{Code, Guid, NoMemory};
 use ocr_list::Seq;
-use ocr_machine::{Core, Entry, Part, Stop, Table, Writes, opening, weight};
+use ocr_machine::{Core, Entry, Part, Stop, Table, Writes, number_of, opening, weight};
 use std::alloc::Global;
 
 /// How many objects a run may make.
@@ -28,10 +28,10 @@ pub const LIMIT: u64 = 4096;
 const SHARE: u64 = 200_000;
 
 /// The EDT of `mainEdt`.
-pub const MAIN_EDT: Guid = Guid(2);
+pub const MAIN_EDT: Guid = Guid(ocr_machine::MAIN_EDT);
 
 /// The argument block.
-pub const ARGUMENTS: Guid = Guid(1);
+pub const ARGUMENTS: Guid = Guid(ocr_machine::ARGUMENTS);
 
 /// A run that goes on: its program, its entries and what they weigh, all its parts, and how many objects are made. The
 /// objects have the numbers from 1 on.
@@ -222,12 +222,6 @@ impl<'a> Going<'a> {
         self.pass(alloc, Entry::End { edt, returned })?;
         Ok(())
     }
-}
-
-fn number_of(guid: Guid) -> u64
-    ensures { result ≡ guid }
-{
-    guid.0
 }
 
 // The core that a part is.
