@@ -34,7 +34,7 @@ named_room limit f a fresh refused = record { fresh = fresh; refused = refused }
 abbrev answer_of : Code → ℕ → Answer
 answer_of c v = record { code = c; value = v; scope = 0; output = 0 }
 
-both_true : (a b : Bool) → (a && b) ≡ true → (a ≡ true) × (b ≡ true)
+pub both_true : (a b : Bool) → (a && b) ≡ true → (a ≡ true) × (b ≡ true)
 both_true true b is = (refl, is)
 both_true false b is = cc
 
@@ -129,31 +129,42 @@ no_room limit f c room roomy off on can =
     roomy.no both.0 (can_enter_room limit f c can both.1 (done_code (code_of f.face c) on))
 
 -- A CALL THAT COMES NEXT is the next entry of a run
-pub must_call : (b : Body) (t : ℕ) (xs : List Entry) (place at : ℕ) (c : body.Call) (e : Entry) → place ≤ at → at < length xs → IsIdle t xs place at → e ≡ slice_index_or xs at e → runs t e ≡ true
-    → IsSaidIn b t xs 0 (length xs) → IsNext c (at_place b t xs place) → (edt : ℕ) × (home : ℕ) × (a : Answer) × (w : List (ℕ × ℕ)) × (e ≡ Call edt home c a w)
-must_call b t xs place at c e after below idle is run said next =
+pub must_call : (b : Body) (t : ℕ) (xs : List Entry) (place at end : ℕ) (c : body.Call) (e : Entry) → place ≤ at → at < end → end ≤ length xs → IsIdle t xs place at → e ≡ slice_index_or xs at e → runs t e ≡ true
+    → IsSaidIn b t xs 0 end → IsNext c (at_place b t xs place) → (edt : ℕ) × (home : ℕ) × (a : Answer) × (w : List (ℕ × ℕ)) × (e ≡ Call edt home c a w)
+must_call b t xs place at end c e after below within idle is run said next =
     only_call t (at_place b t xs place) c next e run
-    (subst (λ (l : List Asked). IsSaidNow (says b l) e) (own_at t xs place at after (omega (arith, below)) idle) (said at (omega arith) below e is run))
+    (subst (λ (l : List Asked). IsSaidNow (says b l) e) (own_at t xs place at after (omega (arith, below, within)) idle) (said at (omega arith) below e is run))
+
+pub not_other : (e f : Entry) (c : body.Call) → f ≡ e → ((edt home : ℕ) (d : body.Call) (a : Answer) (w : List (ℕ × ℕ)) → f ≡ Call edt home d a w → ⊥)
+    → ((edt : ℕ) × (home : ℕ) × (a : Answer) × (w : List (ℕ × ℕ)) × (e ≡ Call edt home c a w)) → ⊥
+not_other e f c same never found = never found.0 found.1 c found.2 found.3 (same ∙ found.4)
+
+call_same : {e h e' h' : ℕ} {c d : body.Call} {a a' : Answer} {w w' : List (ℕ × ℕ)} → Call e h c a w ≡ Call e' h' d a' w' → c ≡ d
+call_same is = cc
+
+pub same_made : (e : Entry) (edt home : ℕ) (c d : body.Call) (a : Answer) (w : List (ℕ × ℕ)) → Call edt home c a w ≡ e
+    → ((edt : ℕ) × (home : ℕ) × (a : Answer) × (w : List (ℕ × ℕ)) × (e ≡ Call edt home d a w)) → c ≡ d
+same_made e edt home c d a w is found = call_same (is ∙ found.4)
 
 -- A BODY THAT HAS ENDED stays so
 trivial_said : (b : Body) (t : ℕ) (xs : List Entry) (i : ℕ) → IsSaidIn b t xs i i
 trivial_said b t xs i = λ m lower upper. absurd (omega (arith, lower, upper))
 
-stays_by : (b : Body) (t : ℕ) (xs : List Entry) (n : Ending) (place d : ℕ) → place + d ≤ length xs → IsSaidIn b t xs 0 (length xs) → at_place b t xs place ≡ ended_as n → at_place b t xs (place + d) ≡ ended_as n
-stays_by b t xs n place zero within said ended = subst (λ k. at_place b t xs k ≡ ended_as n) (omega arith) ended
-stays_by b t xs n place (suc d) within said ended =
-    let before : at_place b t xs (place + d) ≡ ended_as n = stays_by b t xs n place d (omega (arith, within)) said ended in
-    let below : place + d < length xs = omega (arith, within) in
+stays_by : (b : Body) (t : ℕ) (xs : List Entry) (n : Ending) (end place d : ℕ) → place + d ≤ end → end ≤ length xs → IsSaidIn b t xs 0 end → at_place b t xs place ≡ ended_as n → at_place b t xs (place + d) ≡ ended_as n
+stays_by b t xs n end place zero least within said ended = subst (λ k. at_place b t xs k ≡ ended_as n) (omega arith) ended
+stays_by b t xs n end place (suc d) least within said ended =
+    let before : at_place b t xs (place + d) ≡ ended_as n = stays_by b t xs n end place d (omega (arith, least)) within said ended in
+    let below : place + d < length xs = omega (arith, least, within) in
     let e : Entry = item xs (place + d) below in
     let is : e ≡ slice_index_or xs (place + d) e = item_is xs (place + d) below in
     subst (λ k. at_place b t xs k ≡ ended_as n) (omega arith)
     (ended_next b t xs (place + d) (place + d) e n below is
-    (λ run. subst (λ (z : Behaviour). IsSaidNow z e) before (said (place + d) (omega arith) below e is run)) (trivial_said b t xs (place + d)) before).1
+    (λ run. subst (λ (z : Behaviour). IsSaidNow z e) before (said (place + d) (omega arith) (omega (arith, least)) e is run)) (trivial_said b t xs (place + d)) before).1
 
-pub stays : (b : Body) (t : ℕ) (xs : List Entry) (n : Ending) (place : ℕ) → place ≤ length xs → IsSaidIn b t xs 0 (length xs) → at_place b t xs place ≡ ended_as n → at_place b t xs (length xs) ≡ ended_as n
-stays b t xs n place within said ended =
-    let whole : place + (length xs - place) ≡ length xs = omega (arith, within) in
-    subst (λ k. at_place b t xs k ≡ ended_as n) whole (stays_by b t xs n place (length xs - place) (omega (arith, within)) said ended)
+pub stays : (b : Body) (t : ℕ) (xs : List Entry) (n : Ending) (place end : ℕ) → place ≤ end → end ≤ length xs → IsSaidIn b t xs 0 end → at_place b t xs place ≡ ended_as n → at_place b t xs end ≡ ended_as n
+stays b t xs n place end least within said ended =
+    let whole : place + (end - place) ≡ end = omega (arith, least) in
+    subst (λ k. at_place b t xs k ≡ ended_as n) whole (stays_by b t xs n end place (end - place) (omega (arith, least)) within said ended)
 
 -- what is told of a body that stopped
 pub stopped_told : (limit : ℕ) (f : Parts) (b : Behaviour) (s : BodyStop) → b ≡ Stops s → IsToldAs limit f b next.Stopped
@@ -163,14 +174,9 @@ pub not_false : (b : Bool) → not b ≡ false → b ≡ true
 not_false true is = refl
 not_false false is = cc
 
-pub call_same : {e h e' h' : ℕ} {c d : body.Call} {a a' : Answer} {w w' : List (ℕ × ℕ)} → Call e h c a w ≡ Call e' h' d a' w' → c ≡ d
-call_same is = cc
-
-pub asked_end : (b : Body) (t : ℕ) (xs : List Entry) (place : ℕ) (c : body.Call) → place ≤ length xs → IsIdle t xs place (length xs) → IsNext c (at_place b t xs place) → IsNext c (at_place b t xs (length xs))
-asked_end b t xs place c within idle next = subst (λ (l : List Asked). IsNext c (says b l)) (sym (own_at t xs place (length xs) within (omega arith) idle)) next
-
-pub carried : {K : Type 0} (P : Body → K → Type 0) (b c : Body) (k l : K) → b ≡ c → k ≡ l → P b k → P c l
-carried P b c k l body kept p = subst (λ m. P c m) kept (subst (λ d. P d k) body p)
+pub asked_end : (b : Body) (t : ℕ) (xs : List Entry) (place end next : ℕ) (c : body.Call) → place ≤ end → end ≤ length xs → end ≤ next → IsIdle t xs place next → IsNext c (at_place b t xs place) → IsNext c (at_place b t xs end)
+asked_end b t xs place end next c least within past idle asks =
+    subst (λ (l : List Asked). IsNext c (says b l)) (sym (own_at t xs place end least within (λ m lower upper. idle m lower (omega (arith, upper, past))))) asks
 
 pub stopped_zero : (b : Behaviour) (rose : Type 0) (s : BodyStop) → StoppedBy b rose s → (rose → ⊥) → (s ≡ stop.NoMemory → ⊥) → b ≡ Stops s
 stopped_zero b rose s (by_closing r) none memory = absurd (none r)

@@ -1,5 +1,5 @@
 -- A replay goes on by an entry, or stops at it.
-use Rattle.std.proofs.Common.{zero, suc, ◌≡◌, ◌⊎◌, inl, inr, ℕ, ◌+◌, ◌<◌, ◌≤◌, List, [], ◌∷◌, map, take, length, slice_index_or, slice_set, Bool, true, false, not, ◌==◌, ◌||◌, ◌&&◌, if◌then◌else◌, Option, Some, None, is_some, arith, refl, sym, ◌∙◌, ap, subst, rules}
+use Rattle.std.proofs.Common.{zero, suc, ◌≡◌, ℕ, ◌+◌, ◌<◌, ◌≤◌, List, [], ◌∷◌, map, take, length, slice_index_or, slice_set, Bool, true, false, not, ◌==◌, ◌||◌, ◌&&◌, if◌then◌else◌, Option, Some, None, is_some, arith, refl, sym, ◌∙◌, ap, subst, rules}
 use Rattle.std.proofs.lemmas.Grind.{common_steps}
 use Rattle.std.proofs.lemmas.Bool.{eqb-true}
 use Rattle.ocr_slots.specs.Slots as slot
@@ -15,7 +15,7 @@ use Rattle.ocr_machine.specs.declared.part.Part.TheVariants as part
 use Rattle.ocr_machine.specs.History.{History, Setting, history_of, is_stopped, own}
 use Rattle.ocr_machine.specs.Made.{Made, MadeBlock, MadeTemplate, MadeEdt, made, is_edt, depc_in, function_in, params_in}
 use Rattle.ocr_machine.specs.Calls.{slot_calls, block_calls, edt_calls, payload_or_null}
-use Rattle.ocr_machine.specs.Edts.{is_started, is_ended, IsRunning, body_of, says_next}
+use Rattle.ocr_machine.specs.Edts.{is_started, IsRunning, body_of, says_next}
 use Rattle.ocr_machine.specs.Parts.{Parts, parts_of, face, core}
 use Rattle.ocr_machine.specs.Effects.{changed, plan_in, core_progress}
 use Rattle.ocr_machine.specs.LegalOn.{is_running, is_lent, IsStartOn, IsLegalOn}
@@ -28,8 +28,8 @@ use Rattle.ocr_machine.proofs.Wholes.{all_keys}
 use Rattle.ocr_machine.proofs.After.{after}
 use Rattle.ocr_machine.proofs.Told.{known, told_law, body_law, fresh_law, begins}
 use Rattle.ocr_machine.proofs.Present.{IsPresent, IsBare, present}
-use Rattle.ocr_replay.specs.Judging.{runs, IsSaidNow, IsUnsaid, body_with}
-use Rattle.ocr_replay.specs.Replaying.{body_on, IsVerdict, verdict_at, agrees, is_end_of, HasEnded, is_undecided, stop_agrees, IsReplaying, IsFirstIllegal}
+use Rattle.ocr_replay.specs.Judging.{runs, IsSaidNow, IsSaidIn, IsUnsaid, IsWrong, body_with}
+use Rattle.ocr_replay.specs.Replaying.{body_on, IsVerdict, verdict_at, agrees, IsReplaying, IsFirstIllegal}
 use Rattle.ocr_replay.proofs.Steps.{history_next, item, item_is}
 
 -- NO BLOCK is on loan
@@ -84,6 +84,23 @@ legal_said s past (Stop (by.Abort u code)) t legal is = moved_said s past u t (S
 legal_said s past (Stop (by.Fault u why)) t legal is = moved_said s past u t (Stop (by.Fault u why)) is legal.stopping.1
 legal_said s past other t legal is = cc
 
+-- THE VERDICT on an EDT
+pub verdict_wrong : (b : Body) (t : ℕ) (xs : List Entry) (start at : ℕ) → IsWrong b t xs start at → IsVerdict b t xs start at
+verdict_wrong b t xs start at wrong = record {
+  after = wrong.after;
+  within = omega (arith, wrong.within);
+  said = wrong.said;
+  unsaid = λ _. wrong.unsaid;
+}
+
+pub verdict_right : (b : Body) (t : ℕ) (xs : List Entry) (start : ℕ) → start ≤ length xs → IsSaidIn b t xs start (length xs) → IsVerdict b t xs start (length xs)
+verdict_right b t xs start within said = record {
+  after = within;
+  within = omega arith;
+  said = said;
+  unsaid = λ below. absurd (omega (arith, below));
+}
+
 -- A LEGAL ENTRY by its parts and its EDT's verdict
 not_true : (b : Bool) → not b ≡ true → b ≡ false
 not_true true is = cc
@@ -105,25 +122,8 @@ verdict_said s xs n ps vs t e so_far below is running mine agreed =
     let v = so_far.judged t runs_now in
     v.said n (omega arith) (past_it (verdict_at vs t) n v.after (not_true _ agreed)) e is mine
 
--- who has ended does not run
-ended_by_end : (past : History) (e : Entry) (t : ℕ) → is_end_of t e ≡ true → is_ended (e ∷ past) t ≡ true
-ended_by_end past (End u g) t is = rw is refl
-ended_by_end past other t is = cc
-
-not_ended : (xs : List Entry) (n : ℕ) (t : ℕ) → n < length xs → IsRunning (history_of (take n xs)) t → HasEnded t xs n → ⊥
-not_ended xs n t below running ended =
-    let before : ended.0 < length xs = omega (arith, ended.1, below) in
-    let e : Entry = item xs ended.0 before in
-    let is : e ≡ slice_index_or xs ended.0 e = item_is xs ended.0 before in
-    let h : history_of (take n xs) ≡ e ∷ history_of (take ended.0 xs) = ap (λ k. history_of (take k xs)) ended.1 ∙ history_next xs ended.0 e before is in
-    let on : is_ended (history_of (take n xs)) t ≡ true = ap (λ (past : History). is_ended past t) h ∙ ended_by_end (history_of (take ended.0 xs)) e t (ended.2 e is) in
-    let off : is_ended (history_of (take n xs)) t ≡ false = running.not_ended in
-    cc (on, off)
-
-still_unsaid : (s : Setting) (xs : List Entry) (n v : ℕ) (t : ℕ) → n < length xs → IsRun s (history_of (take n xs)) → v ≡ n → IsRunning (history_of (take n xs)) t
-    → IsUnsaid (body_of s (history_of (take n xs)) t) t xs v ⊎ HasEnded t xs v → IsUnsaid (body_of s (history_of (take n xs)) t) t xs n
-still_unsaid s xs n v t below run here running (inl unsaid) = subst (λ (k : ℕ). IsUnsaid (body_of s (history_of (take n xs)) t) t xs k) here unsaid
-still_unsaid s xs n v t below run here running (inr ended) = absurd (not_ended xs n t below running (subst (HasEnded t xs) here ended))
+unsaid_here : (b : Body) (t : ℕ) (xs : List Entry) (n v : ℕ) → n < length xs → v ≡ n → (v < length xs → IsUnsaid b t xs v) → IsUnsaid b t xs n
+unsaid_here b t xs n v below here unsaid = subst (λ (k : ℕ). IsUnsaid b t xs k) here (unsaid (subst (λ (k : ℕ). k < length xs) (sym here) below))
 
 verdict_unsaid : (s : Setting) (xs : List Entry) (n : ℕ) (ps : List Part) (vs : List ℕ) (t : ℕ) (e : Entry) → IsReplaying s xs n ps vs → n < length xs → e ≡ slice_index_or xs n e
     → is_running (core_at s.limit ps t) ≡ true → not (verdict_at vs t == n) ≡ false → IsSaidNow (says_next s (history_of (take n xs)) t) e → ⊥
@@ -133,7 +133,7 @@ verdict_unsaid s xs n ps vs t e so_far below is running agreed =
     let runs_now : IsRunning past t = (told_law s past t so_far.run).running.0 on in
     let v = so_far.judged t runs_now in
     let here : verdict_at vs t ≡ n = eqb-true (verdict_at vs t) n (not_false _ agreed) in
-    let at : IsUnsaid (body_of s past t) t xs n = still_unsaid s xs n (verdict_at vs t) t below so_far.run here runs_now (v.unsaid (subst (λ (k : ℕ). k < length xs) (sym here) below)) in
+    let at : IsUnsaid (body_of s past t) t xs n = unsaid_here (body_of s past t) t xs n (verdict_at vs t) below here v.unsaid in
     (at e is).1
 
 on_now : (s : Setting) (xs : List Entry) (n : ℕ) (ps : List Part) (vs : List ℕ) (e : Entry) → IsReplaying s xs n ps vs → IsLegalOn s.limit (all_parts s.limit ps) e
@@ -185,7 +185,7 @@ restrict s xs n e t v run below is running verdict =
     let not_here : (v == n) ≡ false = elim (v == n) as (λ b. (v == n) ≡ b → b ≡ false) [
       | true ↦ λ here.
           let same_place : v ≡ n = eqb-true v n here in
-          let at : IsUnsaid (body_of s past t) t xs n = still_unsaid s xs n v t below run.0 same_place running (verdict.unsaid (subst (λ (k : ℕ). k < length xs) (sym same_place) below)) in
+          let at : IsUnsaid (body_of s past t) t xs n = unsaid_here (body_of s past t) t xs n v below same_place verdict.unsaid in
           absurd ((at e is).1 (legal_said s past e t run.1 (at e is).0))
       | false ↦ λ _. refl
     ] refl in
@@ -332,25 +332,6 @@ whole_run s xs n why run below last is legal =
 
 pub stop_is : (xs : List Entry) (n : ℕ) (e d : Entry) → n < length xs → slice_index_or xs n d ≡ e → e ≡ slice_index_or xs n e
 stop_is xs n e d below is = grind (arith, common_steps)
-
--- the verdict on a Stop that is decided
-pub stop_yes : (s : Setting) (xs : List Entry) (n : ℕ) (ps : List Part) (vs : List ℕ) (why : run.Stop) → IsReplaying s xs n ps vs → n < length xs → Stop why ≡ slice_index_or xs n (Stop why)
-    → is_undecided (Stop why) ≡ false → stop_agrees s.limit ps vs why n ≡ true → IsLegal s (history_of (take n xs)) (Stop why)
-stop_yes s xs n ps vs (by.Shutdown t) so_far below is decided on = by_stop s xs n ps vs (by.Shutdown t) so_far (stop_legal s xs n ps vs t (Stop (by.Shutdown t)) so_far below is on (same t))
-stop_yes s xs n ps vs (by.Abort t code) so_far below is decided on = by_stop s xs n ps vs (by.Abort t code) so_far (stop_legal s xs n ps vs t (Stop (by.Abort t code)) so_far below is on (same t))
-stop_yes s xs n ps vs (by.Fault t why) so_far below is decided on = by_stop s xs n ps vs (by.Fault t why) so_far (stop_legal s xs n ps vs t (Stop (by.Fault t why)) so_far below is on (same t))
-stop_yes s xs n ps vs by.Memory so_far below is decided on = by_stop s xs n ps vs by.Memory so_far tt
-stop_yes s xs n ps vs by.Objects so_far below is decided on = cc
-stop_yes s xs n ps vs (by.Events w k) so_far below is decided on = cc
-
-pub stop_no : (s : Setting) (xs : List Entry) (n : ℕ) (ps : List Part) (vs : List ℕ) (why : run.Stop) → IsReplaying s xs n ps vs → n < length xs → Stop why ≡ slice_index_or xs n (Stop why)
-    → stop_agrees s.limit ps vs why n ≡ false → IsFirstIllegal s xs n
-stop_no s xs n ps vs (by.Shutdown t) so_far below is off = stop_illegal s xs n ps vs t (Stop (by.Shutdown t)) so_far below is off (same t) (λ legal. legal.stopping.0)
-stop_no s xs n ps vs (by.Abort t code) so_far below is off = stop_illegal s xs n ps vs t (Stop (by.Abort t code)) so_far below is off (same t) (λ legal. legal.stopping.0)
-stop_no s xs n ps vs (by.Fault t why) so_far below is off = stop_illegal s xs n ps vs t (Stop (by.Fault t why)) so_far below is off (same t) (λ legal. legal.stopping.0)
-stop_no s xs n ps vs by.Memory so_far below is off = cc
-stop_no s xs n ps vs by.Objects so_far below is off = cc
-stop_no s xs n ps vs (by.Events w k) so_far below is off = cc
 
 -- THE OPENING. Parts that were put into a table in which nothing is made
 look_has : (ps : List (ℕ × Part)) (n : ℕ) → (if has ps n then look ps n else part.Vacant) ≡ look ps n

@@ -28,7 +28,7 @@ same_item xs i p q below first second = grind (arith, common_steps)
 pub below_or : (m i : ℕ) → m < i + 1 → (m < i) ⊎ (m ≡ i)
 below_or m i h = grind arith
 
-below_or_equal : (m i : ℕ) → (m < i) ⊎ (i ≤ m)
+pub below_or_equal : (m i : ℕ) → (m < i) ⊎ (i ≤ m)
 below_or_equal m i = grind arith
 
 pub true_false : true ≡ false → ⊥
@@ -99,7 +99,7 @@ next_same (Stops s) c d x y = absurd x
 next_same (Asks m k) c d x y = sym x ∙ y
 next_same NotBuilt c d x y = absurd x
 
-next_no_end : (b : Behaviour) (c : body.Call) (g : ℕ) → IsNext c b → b ≡ Ends g → ⊥
+pub next_no_end : (b : Behaviour) (c : body.Call) (g : ℕ) → IsNext c b → b ≡ Ends g → ⊥
 next_no_end (Ends g) c h x y = x
 next_no_end (Stops s) c h x y = x
 next_no_end (Asks m k) c h x y = cc
@@ -199,15 +199,6 @@ ended_next b t xs from i e n below is said before now = (
   ap (λ (l : List Asked). says b l) (ap (λ (h : History). own h t) (history_next xs i e below is) ∙ quiet_or_said t (history_of (take i xs)) n e (runs t e) refl said) ∙ now,
 )
 
--- the entry that such a body does not make
-pub ended_wrong : (b : Body) (t : ℕ) (xs : List Entry) (i : ℕ) (e : Entry) (n : Ending) → i < length xs → e ≡ slice_index_or xs i e → runs t e ≡ true → (IsSaidNow (ended_as n) e → ⊥)
-    → at_place b t xs i ≡ ended_as n → IsUnsaid b t xs i
-ended_wrong b t xs i e n below is run wrong now = λ f at_f.
-    let equal : e ≡ f = same_item xs i e f below is at_f in (
-      subst (λ (z : Entry). runs t z ≡ true) equal run,
-      λ said. wrong (subst (λ (z : Entry). IsSaidNow (ended_as n) z) (sym equal) (subst (λ (z : Behaviour). IsSaidNow z f) now said)),
-    )
-
 -- no fault is that the run was found closed
 no_fault : (why : Fault) → stop.Closed ≡ faulted why → ⊥
 no_fault fault.ZeroDivisor is = cc
@@ -263,8 +254,8 @@ pub right_all : (b : Body) (t : ℕ) (xs : List Entry) (start from : ℕ) → Is
 right_all b t xs start from said idle = said_idle b t xs start from (length xs) said idle
 
 -- what is said of an Api that kept what it is of
-pub moved : (P : Body → List Entry → ℕ → ℕ → Type 0) (b c : Body) (k l : List Entry × ℕ × ℕ) → b ≡ c → k ≡ l → P b k.0 k.1 k.2 → P c l.0 l.1 l.2
-moved P b c k l same kept p = subst (λ (m : List Entry × ℕ × ℕ). P c m.0 m.1 m.2) kept (subst (λ (d : Body). P d k.0 k.1 k.2) same p)
+pub moved : {K : Type 0} (P : Body → K → Type 0) (b c : Body) (k l : K) → b ≡ c → k ≡ l → P b k → P c l
+moved P b c k l same kept p = subst (λ m. P c m) kept (subst (λ (d : Body). P d k) same p)
 
 pub some_map : {A : Type 0} (P Q : A → Type 0) (o : Option A) → IfSome o P → ((x : A) → P x → Q x) → IfSome o Q
 some_map P Q None p f = tt

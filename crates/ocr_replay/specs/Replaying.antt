@@ -1,11 +1,10 @@
 -- How far a replay has come, and where it stops.
-use Rattle.std.specs.Prelude.{◌≡◌, ◌⊎◌, ℕ, ◌+◌, ◌<◌, ◌≤◌, List, [], length, take, map, Bool, true, false, not, ◌==◌, ◌&&◌, slice_index_or}
+use Rattle.std.specs.Prelude.{◌≡◌, ℕ, ◌+◌, ◌<◌, ◌≤◌, List, [], length, take, map, Bool, true, false, not, ◌==◌, slice_index_or}
 use Rattle.ocr_body.specs.Serving.{Body}
 use Rattle.ocr_body.specs.Tree.{FunctionTree}
 use Rattle.ocr_slots.specs.declared.Slot.{Slot}
 use Rattle.ocr_machine.specs.declared.entry.Entry.{Entry}
 use Rattle.ocr_machine.specs.declared.entry.Entry.TheVariants.{Call, Free, End, Stop}
-use Rattle.ocr_machine.specs.declared.entry.Stop as run
 use Rattle.ocr_machine.specs.declared.entry.Stop.TheVariants as by
 use Rattle.ocr_machine.specs.declared.part.Part.{Part}
 use Rattle.ocr_machine.specs.declared.part.Part.TheVariants as part
@@ -14,8 +13,7 @@ use Rattle.ocr_machine.specs.Calls.{payload_or_null}
 use Rattle.ocr_machine.specs.Edts.{IsRunning, body_of}
 use Rattle.ocr_machine.specs.Parts.{parts_of}
 use Rattle.ocr_machine.specs.Legal.{IsRun}
-use Rattle.ocr_machine.specs.Whole.{all_parts, core_at}
-use Rattle.ocr_machine.specs.LegalOn.{is_running}
+use Rattle.ocr_machine.specs.Whole.{all_parts}
 use Rattle.ocr_replay.specs.declared.replaying.ReplayStop.{ReplayStop}
 use Rattle.ocr_replay.specs.declared.replaying.ReplayStop.TheVariants as why
 use Rattle.ocr_replay.specs.Judging.{IsSaidIn, IsUnsaid, body_with}
@@ -56,21 +54,12 @@ body_on program face core = body_with program (function_on core) (params_on core
 abbrev pub entry_at : List Entry → ℕ → Entry
 entry_at entries n = slice_index_or entries n (Stop by.Memory)
 
-abbrev pub is_end_of : ℕ → Entry → Bool
-is_end_of t (End edt g) = edt == t
-is_end_of t other = false
-
--- the entry before this place ends the EDT
-abbrev pub HasEnded : ℕ → List Entry → ℕ → Type 0
-HasEnded t entries at = (n : ℕ) × (at ≡ n + 1) × ((e : Entry) → e ≡ slice_index_or entries n e → is_end_of t e ≡ true)
-
--- the verdict on an EDT: the first place of an entry that its body does not make, or the place after its End, or the length
--- of the journal
+-- the verdict on an EDT: the first place of an entry that its body does not make, or the length of the journal
 pub record IsVerdict (b : Body) (t : ℕ) (entries : List Entry) (from at : ℕ) : Type 0 where
   pub after : from ≤ at
   pub within : at ≤ length entries
   pub said : IsSaidIn b t entries from at
-  pub unsaid : at < length entries → IsUnsaid b t entries at ⊎ HasEnded t entries at
+  pub unsaid : at < length entries → IsUnsaid b t entries at
 
 abbrev pub verdict_at : List ℕ → ℕ → ℕ
 verdict_at verdicts t = slice_index_or verdicts t 0
@@ -95,27 +84,7 @@ pub record IsFirstIllegal (s : Setting) (entries : List Entry) (n : ℕ) : Type 
   pub run : IsRun s (history_of (take n entries))
   pub broken : IsRun s (history_of (take (n + 1) entries)) → ⊥
 
--- a Stop on which no verdict is given yet
-abbrev pub is_undecided : Entry → Bool
-is_undecided (Stop by.Objects) = true
-is_undecided (Stop (by.Events worker weight)) = true
-is_undecided other = false
-
--- the first n entries are a run, and the next one is such a Stop
-pub record IsUndecided (s : Setting) (entries : List Entry) (n : ℕ) : Type 0 where
-  pub within : n < length entries
-  pub run : IsRun s (history_of (take n entries))
-  pub stop : is_undecided (entry_at entries n) ≡ true
-
 -- why a replay ended before the journal's end
 abbrev pub IsStoppedAt : Setting → List Entry → ReplayStop → Type 0
 IsStoppedAt s entries (why.Illegal n) = IsFirstIllegal s entries n
-IsStoppedAt s entries (why.Undecided n) = IsUndecided s entries n
 IsStoppedAt s entries why.NoMemory = Unit {0}
-
--- the EDT of a Stop runs, and its verdict names another place
-abbrev pub stop_agrees : ℕ → List Part → List ℕ → run.Stop → ℕ → Bool
-stop_agrees limit ps vs (by.Shutdown t) n = is_running (core_at limit ps t) && not (verdict_at vs t == n)
-stop_agrees limit ps vs (by.Abort t code) n = is_running (core_at limit ps t) && not (verdict_at vs t == n)
-stop_agrees limit ps vs (by.Fault t reason) n = is_running (core_at limit ps t) && not (verdict_at vs t == n)
-stop_agrees limit ps vs other n = true

@@ -1,17 +1,20 @@
 // Runs the body of one EDT against its entries in a journal.
-ghost use Rattle.std.specs.Prelude.{◌≡◌, ◌≤◌, ◌<◌, ℕ, length, true, false, IfSome, IfNone, slice_index_or, [], take, IfOk};
+ghost use Rattle.std.specs.Prelude.{◌≡◌, ◌≤◌, ◌<◌, length, true, false, IfSome, IfNone, [], take, IfOk};
 ghost use Rattle.ocr_body.specs.Checked.{checked_tree};
 ghost use Rattle.ocr_body.specs.Serving.{Body};
 ghost use Rattle.ocr_machine.specs.History.{own, history_of};
 ghost use Rattle.ocr_machine.specs.Legal.{faulted};
-ghost use Rattle.ocr_replay.specs.Judging.{Whether, runs, IsIdle, IsSaidIn, IsWrong, IsSaidNow, IsUnsaid, at_place, body_with, ended_as};
+ghost use Rattle.ocr_replay.specs.Linking.{IsFollowing};
+ghost use Rattle.ocr_replay.specs.Judging.{Whether, runs, IsSaidIn, IsWrong, IsSaidNow, IsUnsaid, at_place, body_with, ended_as};
 
+use crate::linking::Links;
 use ocr_body::{Answer, Api, BodyStop, Call, Checked, walk};
 use ocr_guid::{Guid, NoMemory};
 use ocr_machine::{Entry, Fault, Journal, Stop};
 use std::alloc::Global;
 
-const FUEL: u64 = 1_000_000;
+/// The fuel of a body.
+pub(crate) const FUEL: u64 = 1_000_000;
 
 pub(crate) fn same_call(left: &Call, right: &Call) -> bool
     ensures { Whether result (left.now ≡ right.now) }
@@ -173,7 +176,7 @@ fn same_numbers(left: &[u64], right: &[u64]) -> bool
 }
 
 /// Whether the entry is one of this EDT's body.
-fn is_run_by(entry: &Entry, edt: Guid) -> bool
+pub(crate) fn is_run_by(entry: &Entry, edt: Guid) -> bool
     ensures { result ≡ runs edt entry.now }
 {
     match entry {
@@ -215,20 +218,6 @@ fn is_run_by(entry: &Entry, edt: Guid) -> bool
     }
 }
 
-/// The first place from `from` on with an entry of the EDT's body.
-pub(crate) fn next_own(entries: &[Entry], edt: Guid, from: usize) -> Option<usize>
-    requires { from ≤ length entries.now }
-    ensures some { IfSome result (λ at. (from ≤ at) × (at < length entries.now) × IsIdle edt entries.now from at × ((e : _) → e ≡ slice_index_or entries.now at e → runs edt e ≡ true)) }
-    ensures none { IfNone result (IsIdle edt entries.now from (length entries.now)) }
-{
-    for i in from..entries.len() {
-        if is_run_by(&entries[i], edt) {
-            return Some(i);
-        }
-    }
-    None
-}
-
 /// The machine, as the entries of a journal answer for it.
 pub struct Judge<'a> {
     pub program: &'a Checked,
@@ -236,9 +225,11 @@ pub struct Judge<'a> {
     pub params: &'a [u64],
     pub deps: &'a [Guid],
     pub entries: &'a [Entry],
+    pub links: &'a Links,
     pub edt: Guid,
     pub start: usize,
     pub place: usize,
+    pub next: usize,
     pub refusals: u64,
 }
 
@@ -247,21 +238,24 @@ impl<'a> Api for Judge<'a> {
     ghost use Rattle.ocr_body.specs.Checked.{checked_tree};
     ghost use Rattle.ocr_machine.specs.History.{own, history_of};
     ghost use Rattle.ocr_replay.specs.Judging.{IsJudging, body_with};
+    ghost use Rattle.ocr_replay.specs.Linking.{IsFollowing};
 
-    type Kept = (Journal, Guid, usize);
+    type Kept = (Journal, Guid, usize, Links);
 
-    ghost kept = { λ j. (j.entries.now, j.edt, j.start) };
+    ghost kept = { λ j. (j.entries.now, j.edt, j.start, j.links.now) };
 
     ghost serves = { λ j. body_with (checked_tree j.program.now) j.function j.params.now j.deps.now };
 
     ghost log = { λ j. own (history_of (take j.place j.entries.now)) j.edt };
 
-    ghost is_ready = { λ j. IsJudging (body_with (checked_tree j.program.now) j.function j.params.now j.deps.now) j.edt j.entries.now j.start j.place j.refusals };
+    ghost is_ready = { λ j. IsJudging (body_with (checked_tree j.program.now) j.function j.params.now j.deps.now) j.edt j.entries.now j.start j.place j.refusals
+        × IsFollowing j.edt j.entries.now j.links.now j.place j.next };
 
     ghost closed = { λ j. j.refusals };
 
     fn call(&mut self, call: &Call) -> Result<Answer, BodyStop> {
-        if let Some(at) = next_own(self.entries, self.edt, self.place) {
+        let at = self.next;
+        if at < self.entries.len() {
             if let Entry::Call {
                 edt: _,
                 home: _,
@@ -272,6 +266,7 @@ impl<'a> Api for Judge<'a> {
             {
                 if same_call(made, call) {
                     self.place = at + 1;
+                    self.next = self.links.nexts[at];
                     return Ok(*answer);
                 }
             }
@@ -362,25 +357,42 @@ fn makes(ending: &Ending, entry: &Entry) -> bool
     }
 }
 
-/// The first place of an entry that a body that ended does not make.
-fn unsaid_after(entries: &[Entry], edt: Guid, from: usize, ending: &Ending) -> Option<usize>
-    requires { from ≤ length entries.now }
-    ensures some { (b : Body) → at_place b edt entries.now from ≡ ended_as ending.now
-        → IfSome result (λ at. (from ≤ at) × (at < length entries.now) × IsSaidIn b edt entries.now from at × IsUnsaid b edt entries.now at) }
-    ensures none { (b : Body) → at_place b edt entries.now from ≡ ended_as ending.now → IfNone result (IsSaidIn b edt entries.now from (length entries.now)) }
+/// The place, where an entry stands there.
+fn within(entries: &[Entry], place: usize) -> Option<usize>
+    ensures some { IfSome result (λ at. (at ≡ place) × (at < length entries.now)) }
+    ensures none { IfNone result (length entries.now ≤ place) }
 {
-    for i in from..entries.len() {
-        let entry = &entries[i];
-        if is_run_by(entry, edt) {
-            if !makes(ending, entry) {
-                return Some(i);
-            }
-        }
+    if place < entries.len() {
+        return Some(place);
     }
     None
 }
 
-/// The first place from `start` on with an entry that the body of the EDT does not make.
+/// The first place from its next entry on of an entry that a body that ended does not make.
+fn unsaid_after(
+    entries: &[Entry],
+    links: &Links,
+    edt: Guid,
+    next: usize,
+    ending: &Ending,
+) -> Option<usize>
+    requires following { IsFollowing edt entries.now links.now next next }
+    ensures some { (b : Body) → at_place b edt entries.now next ≡ ended_as ending.now
+        → IfSome result (λ at. (next ≤ at) × (at < length entries.now) × IsSaidIn b edt entries.now next at × IsUnsaid b edt entries.now at) }
+    ensures none { (b : Body) → at_place b edt entries.now next ≡ ended_as ending.now → IfNone result (IsSaidIn b edt entries.now next (length entries.now)) }
+{
+    let mut at = next;
+    while at < entries.len() {
+        if !makes(ending, &entries[at]) {
+            return Some(at);
+        }
+        at = links.nexts[at];
+    }
+    None
+}
+
+/// The first place from `start` on with an entry that the body of the EDT does not make. The next entry of the EDT from
+/// there on stands at `next`.
 pub fn first_unsaid(
     alloc: Global,
     program: &Checked,
@@ -388,10 +400,12 @@ pub fn first_unsaid(
     params: &[u64],
     deps: &[Guid],
     entries: &[Entry],
+    links: &Links,
     edt: Guid,
     start: usize,
+    next: usize,
 ) -> Result<Option<usize>, NoMemory>
-    requires within { start ≤ length entries.now }
+    requires following { IsFollowing edt entries.now links.now start next }
     requires fresh { own (history_of (take start entries.now)) edt ≡ [] }
     ensures some { IfOk result (λ r. IfSome r (λ at.
         IsWrong (body_with (checked_tree program.now) function params.now deps.now) edt entries.now start at)) }
@@ -399,7 +413,7 @@ pub fn first_unsaid(
         (IsSaidIn (body_with (checked_tree program.now) function params.now deps.now) edt entries.now start (length entries.now))) }
 {
     if function == 0 || function as usize > program.count() {
-        return Ok(unsaid_after(entries, edt, start, &Ending::Ended(Guid::NULL)));
+        return Ok(unsaid_after(entries, links, edt, next, &Ending::Ended(Guid::NULL)));
     }
     let mut judge = Judge {
         program,
@@ -407,9 +421,11 @@ pub fn first_unsaid(
         params,
         deps,
         entries,
+        links,
         edt,
         start,
         place: start,
+        next,
         refusals: 0,
     };
     let ending = walk(alloc, program, function, params, deps, FUEL, &mut judge);
@@ -419,17 +435,19 @@ pub fn first_unsaid(
         params: _,
         deps: _,
         entries: _,
+        links: _,
         edt: _,
         start: _,
-        place,
+        place: _,
+        next,
         refusals: _,
     } = judge;
     match ending {
-        Ok(returned) => Ok(unsaid_after(entries, edt, place, &Ending::Ended(returned))),
+        Ok(returned) => Ok(unsaid_after(entries, links, edt, next, &Ending::Ended(returned))),
         Err(stop) => match stop {
             BodyStop::NoMemory => Err(NoMemory),
-            BodyStop::Closed => Ok(next_own(entries, edt, place)),
-            _ => Ok(unsaid_after(entries, edt, place, &Ending::Stopped(stop))),
+            BodyStop::Closed => Ok(within(entries, next)),
+            _ => Ok(unsaid_after(entries, links, edt, next, &Ending::Stopped(stop))),
         },
     }
 }

@@ -37,7 +37,7 @@ pub fn is_running_at(table: &Table, edt: u64) -> bool
 }
 
 /// Whether the EDT acquires, or can begin to.
-fn is_acquiring_at(table: &Table, edt: u64) -> bool
+pub(crate) fn is_acquiring_at(table: &Table, edt: u64) -> bool
     ensures { result ≡ is_some (progress_on (all_parts table.now.limit table.now.parts.items) edt) }
 {
     match table.core(edt) {
@@ -57,7 +57,7 @@ fn is_acquiring_at(table: &Table, edt: u64) -> bool
 }
 
 /// Whether every slot of the EDT is set.
-fn is_set_at(table: &Table, edt: u64) -> bool
+pub(crate) fn is_set_at(table: &Table, edt: u64) -> bool
     ensures { result ≡ is_set (face_at table.now.limit table.now.parts.items edt) }
 {
     match table.face(edt) {

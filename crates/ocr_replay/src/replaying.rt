@@ -5,17 +5,19 @@ ghost use Rattle.ocr_body.specs.Serving.{number_of_main};
 ghost use Rattle.ocr_machine.specs.Parts.{parts_of};
 ghost use Rattle.ocr_machine.specs.History.{Setting, own, history_of};
 ghost use Rattle.ocr_machine.specs.Legal.{is_stop, IsRun};
-ghost use Rattle.ocr_machine.specs.LegalOn.{is_running};
 ghost use Rattle.ocr_machine.specs.Whole.{all_parts, face_at, core_at};
 ghost use Rattle.ocr_machine.specs.declared.part.Part.TheVariants as part;
 ghost use Rattle.ocr_replay.specs.Judging.{Whether};
-ghost use Rattle.ocr_replay.specs.Replaying.{setting_of, function_on, params_on, payloads_in, payloads_on, body_on, entry_at, is_end_of, HasEnded, IsVerdict, verdict_at, agrees, is_undecided, stop_agrees, IsReplaying, IsFirstIllegal, IsStoppedAt};
+ghost use Rattle.ocr_replay.specs.Linking.{IsLinked, IsFollowing};
+ghost use Rattle.ocr_replay.specs.Replaying.{setting_of, function_on, params_on, payloads_in, payloads_on, body_on, entry_at, IsVerdict, verdict_at, agrees, IsReplaying, IsFirstIllegal, IsStoppedAt};
 
 use crate::judging::first_unsaid;
-use crate::legality::{is_legal_on, is_running_at};
+use crate::legality::is_legal_on;
+use crate::linking::{Links, link};
+use crate::stopping::{Front, has_room};
 use ocr_body::Checked;
 use ocr_guid::{Guid, NoMemory};
-use ocr_machine::{Entry, Part, Stop, Table, opening};
+use ocr_machine::{Entry, Part, Stop, Table, number_of, opening};
 use ocr_slots::Slots;
 use std::alloc::Global;
 
@@ -37,7 +39,7 @@ fn payloads(alloc: Global, slots: &Slots) -> Result<Vec<Guid>, NoMemory>
 }
 
 /// The payloads of an EDT.
-fn payloads_at(alloc: Global, table: &Table, edt: u64) -> Result<Vec<Guid>, NoMemory>
+pub(crate) fn payloads_at(alloc: Global, table: &Table, edt: u64) -> Result<Vec<Guid>, NoMemory>
     ensures { IfOk result (λ v. v.items ≡ payloads_on (face_at table.now.limit table.now.parts.items edt)) }
 {
     match table.face(edt) {
@@ -51,7 +53,7 @@ fn payloads_at(alloc: Global, table: &Table, edt: u64) -> Result<Vec<Guid>, NoMe
 }
 
 /// The function of an EDT's body.
-fn function_at(table: &Table, edt: u64) -> u32
+pub(crate) fn function_at(table: &Table, edt: u64) -> u32
     ensures { result ≡ function_on (core_at table.now.limit table.now.parts.items edt) }
 {
     match table.core(edt) {
@@ -65,7 +67,7 @@ fn function_at(table: &Table, edt: u64) -> u32
 }
 
 /// The parameters of an EDT's body.
-fn params_at<'a>(table: &'a Table, edt: u64) -> &'a [u64]
+pub(crate) fn params_at<'a>(table: &'a Table, edt: u64) -> &'a [u64]
     ensures { result.now ≡ params_on (core_at table.now.limit table.now.parts.items edt) }
 {
     match table.core(edt) {
@@ -78,56 +80,18 @@ fn params_at<'a>(table: &'a Table, edt: u64) -> &'a [u64]
     }
 }
 
-/// The place after the End of an EDT that has just started, or the journal's length.
-fn end_of(entries: &[Entry], edt: Guid, start: usize) -> usize
-    requires { start ≤ length entries.now }
-    ensures after { start ≤ result }
-    ensures within { result ≤ length entries.now }
-    ensures ended { result < length entries.now → HasEnded edt entries.now result }
-{
-    for i in start..entries.len() {
-        if is_end_of(&entries[i], edt) {
-            return i + 1;
-        }
-    }
-    entries.len()
-}
-
-fn is_end_of(entry: &Entry, edt: Guid) -> bool
-    ensures { result ≡ is_end_of edt entry.now }
-{
-    match entry {
-        Entry::End {
-            edt: by,
-            returned: _,
-        } => *by == edt,
-        Entry::Call { .. } => false,
-        Entry::Free { .. } => false,
-        Entry::Acquire { .. } => false,
-        Entry::Start { .. } => false,
-        Entry::Stop(_) => false,
-        Entry::Deliver { .. } => false,
-        Entry::Wait { .. } => false,
-        Entry::StaleAcquire { .. } => false,
-    }
-}
-
-fn number_of(guid: Guid) -> u64
-    ensures { result ≡ guid }
-{
-    guid.0
-}
-
 /// The verdict on an EDT that has just started.
 fn judge(
     alloc: Global,
     program: &Checked,
     table: &Table,
     entries: &[Entry],
+    links: &Links,
     edt: Guid,
     start: usize,
+    next: usize,
 ) -> Result<usize, NoMemory>
-    requires within { start ≤ length entries.now }
+    requires following { IsFollowing edt entries.now links.now start next }
     requires fresh { own (history_of (take start entries.now)) edt ≡ [] }
     ensures { IfOk result (λ at. IsVerdict (body_on (checked_tree program.now) (face_at table.now.limit table.now.parts.items edt)
         (core_at table.now.limit table.now.parts.items edt)) edt entries.now start at) }
@@ -136,15 +100,15 @@ fn judge(
     let deps = payloads_at(alloc, table, number)?;
     let function = function_at(table, number);
     let params = params_at(table, number);
-    let end = end_of(entries, edt, start);
-    let front = &entries[..end];
-    match first_unsaid(alloc, program, function, params, &deps, front, edt, start)? {
+    match first_unsaid(
+        alloc, program, function, params, &deps, entries, links, edt, start, next,
+    )? {
         Some(at) => Ok(at),
-        None => Ok(end),
+        None => Ok(entries.len()),
     }
 }
 
-fn verdict_of(verdicts: &[usize], edt: Guid) -> usize
+pub(crate) fn verdict_of(verdicts: &[usize], edt: Guid) -> usize
     ensures { result ≡ verdict_at verdicts.now edt }
 {
     if edt.0 < verdicts.len() as u64 {
@@ -193,10 +157,12 @@ fn go_on(
     program: &Checked,
     args: &[u64],
     entries: &[Entry],
+    links: &Links,
     place: usize,
     table: &mut Table,
     verdicts: &mut Vec<usize>,
 ) -> Result<bool, NoMemory>
+    requires linked { IsLinked table.old.limit entries.now links.now }
     requires within { place < length entries.now }
     requires no_stop { is_stop (entry_at entries.now place) ≡ false }
     requires room { length verdicts.old.items ≡ table.old.limit + 1 }
@@ -217,7 +183,8 @@ fn go_on(
     }
     table.enter(alloc, entry)?;
     if let Entry::Start { edt } = entry {
-        let verdict = judge(alloc, program, table, entries, *edt, place + 1)?;
+        let next = links.nexts[place];
+        let verdict = judge(alloc, program, table, entries, links, *edt, place + 1, next)?;
         set_verdict(verdicts, *edt, verdict);
     }
     Ok(true)
@@ -228,74 +195,42 @@ fn go_on(
 pub enum ReplayStop {
     /// The first entry that is not legal stands at this place.
     Illegal(usize),
-    /// The entries before this place are a run, and a Stop for want of objects or of events stands there, on which no
-    /// verdict is given yet.
-    Undecided(usize),
     /// Memory was refused.
     NoMemory,
 }
 
-/// Whether the EDT runs, and its body makes the entry at this place.
-fn is_made_at(table: &Table, verdicts: &[usize], edt: Guid, place: usize) -> bool
-    ensures { result ≡ (is_running (core_at table.now.limit table.now.parts.items edt) && not (verdict_at verdicts.now edt == place)) }
-{
-    is_running_at(table, edt.0) && verdict_of(verdicts, edt) != place
-}
-
-fn is_undecided(stop: &Stop) -> bool
-    ensures { result ≡ is_undecided (Entry.Stop stop.now) }
-{
-    match stop {
-        Stop::Objects => true,
-        Stop::Events {
-            worker: _,
-            weight: _,
-        } => true,
-        Stop::Memory => false,
-        Stop::Shutdown { edt: _ } => false,
-        Stop::Abort { edt: _, code: _ } => false,
-        Stop::Fault { edt: _, fault: _ } => false,
-    }
-}
-
-/// Whether the EDT of a Stop, if it has one, runs and makes the Stop at this place.
-fn agrees_to_stop(stop: &Stop, table: &Table, verdicts: &[usize], place: usize) -> bool
-    ensures { result ≡ stop_agrees table.now.limit table.now.parts.items verdicts.now stop.now place }
-{
-    match stop {
-        Stop::Shutdown { edt } => is_made_at(table, verdicts, *edt, place),
-        Stop::Abort { edt, code: _ } => is_made_at(table, verdicts, *edt, place),
-        Stop::Fault { edt, fault: _ } => is_made_at(table, verdicts, *edt, place),
-        Stop::Objects => true,
-        Stop::Events {
-            worker: _,
-            weight: _,
-        } => true,
-        Stop::Memory => true,
-    }
-}
-
 /// A Stop at this place ends the replay.
 fn ended_by(
+    alloc: Global,
     program: &Checked,
     args: &[u64],
     entries: &[Entry],
+    links: &Links,
     place: usize,
     stop: &Stop,
     table: &Table,
     verdicts: &[usize],
 ) -> Result<(), ReplayStop>
+    requires linked { IsLinked table.now.limit entries.now links.now }
     requires within { place < length entries.now }
     requires is { entry_at entries.now place ≡ Entry.Stop stop.now }
     requires replaying { IsReplaying (setting_of (checked_tree program.now) args.now table.now.limit) entries.now place table.now.parts.items verdicts.now }
     ensures ok { IfOk result (λ _. IsRun (setting_of (checked_tree program.now) args.now table.now.limit) (history_of entries.now)) }
     ensures stop { IfErr result (λ stop. IsStoppedAt (setting_of (checked_tree program.now) args.now table.now.limit) entries.now stop) }
 {
-    if is_undecided(stop) {
-        return Err(ReplayStop::Undecided(place));
-    }
-    if !agrees_to_stop(stop, table, verdicts, place) {
-        return Err(ReplayStop::Illegal(place));
+    let front = Front {
+        program,
+        args,
+        entries,
+        links,
+        place,
+        table,
+        room: has_room(table),
+    };
+    match front.may_stop(alloc, stop, verdicts) {
+        Ok(true) => (),
+        Ok(false) => return Err(ReplayStop::Illegal(place)),
+        Err(NoMemory) => return Err(ReplayStop::NoMemory),
     }
     if place + 1 < entries.len() {
         return Err(ReplayStop::Illegal(place + 1));
@@ -327,8 +262,7 @@ fn zeros(alloc: Global, count: usize) -> Result<Vec<usize>, NoMemory>
 }
 
 /// Whether the list of entries is a run of the program on these arguments, with so many objects at most: Ok only where it
-/// is, `Illegal` only with the first place whose entry is not legal. No verdict is given on a Stop for want of objects or
-/// of events: a list that comes to one is `Undecided`.
+/// is, `Illegal` only with the first place whose entry is not legal.
 pub fn replay(
     alloc: Global,
     program: &Checked,
@@ -346,18 +280,24 @@ pub fn replay(
     let Ok(mut table) = opened_table(alloc, program.main_function(), args, limit) else {
         return Err(ReplayStop::NoMemory);
     };
+    let Ok(links) = link(alloc, entries, limit) else {
+        return Err(ReplayStop::NoMemory);
+    };
     let Ok(mut verdicts) = zeros(alloc, limit as usize + 1) else {
         return Err(ReplayStop::NoMemory);
     };
     for place in 0..entries.len() {
         if let Entry::Stop(stop) = &entries[place] {
-            return ended_by(program, args, entries, place, stop, &table, &verdicts);
+            return ended_by(
+                alloc, program, args, entries, &links, place, stop, &table, &verdicts,
+            );
         }
         match go_on(
             alloc,
             program,
             args,
             entries,
+            &links,
             place,
             &mut table,
             &mut verdicts,

@@ -8,16 +8,16 @@ ghost use Rattle.ocr_machine.specs.LegalOn.{IsFresh};
 ghost use Rattle.ocr_machine.specs.Legal.{is_creation};
 ghost use Rattle.ocr_machine.specs.Whole.{all_parts, face_at};
 ghost use Rattle.ocr_replay.specs.Judging.{Whether, IsSaidIn, at_place, body_with};
+ghost use Rattle.ocr_replay.specs.Linking.{IsLinked};
 ghost use Rattle.ocr_replay.specs.Stopping.{creates, CanEnter, HasRoom, IsCoreless, is_print, is_enterable, IsToldAs};
 
-use crate::judging::{next_own, same_call};
+use crate::judging::{FUEL, same_call};
 use crate::legality::is_fresh;
+use crate::linking::Links;
 use ocr_body::{Answer, Api, BodyStop, Call, Checked, walk};
 use ocr_guid::{Code, Guid, NoMemory};
 use ocr_machine::{Entry, Journal, Table};
 use std::alloc::Global;
-
-const FUEL: u64 = 1_000_000;
 
 /// What a body does next.
 #[derive(Clone, Copy)]
@@ -139,17 +139,20 @@ fn is_enterable(call: &Call) -> bool
     }
 }
 
-/// The machine, as the entries of a run answer for it, until they are used up.
+/// The machine, as the entries of a journal before a place answer for it, until they are used up.
 pub struct Teller<'a> {
     pub program: &'a Checked,
     pub function: u32,
     pub params: &'a [u64],
     pub deps: &'a [Guid],
     pub entries: &'a [Entry],
+    pub links: &'a Links,
+    pub end: usize,
     pub edt: Guid,
     pub table: &'a Table,
     pub room: bool,
     pub place: usize,
+    pub next: usize,
     pub refusals: u64,
     pub told: Next,
 }
@@ -160,48 +163,48 @@ impl<'a> Api for Teller<'a> {
     ghost use Rattle.ocr_machine.specs.History.{own, history_of};
     ghost use Rattle.ocr_machine.specs.Whole.{all_parts};
     ghost use Rattle.ocr_replay.specs.Judging.{body_with};
+    ghost use Rattle.ocr_replay.specs.Linking.{IsFollowing};
     ghost use Rattle.ocr_replay.specs.Stopping.{IsTelling};
 
-    type Kept = (Journal, Guid, Table);
+    type Kept = (Journal, usize, Guid, Table, Links);
 
-    ghost kept = { λ j. (j.entries.now, j.edt, j.table.now) };
+    ghost kept = { λ j. (j.entries.now, j.end, j.edt, j.table.now, j.links.now) };
 
     ghost serves = { λ j. body_with (checked_tree j.program.now) j.function j.params.now j.deps.now };
 
     ghost log = { λ j. own (history_of (take j.place j.entries.now)) j.edt };
 
-    ghost is_ready = { λ j. IsTelling (body_with (checked_tree j.program.now) j.function j.params.now j.deps.now) j.edt j.entries.now j.table.now.limit
-        (all_parts j.table.now.limit j.table.now.parts.items) j.room j.place j.refusals j.told };
+    ghost is_ready = { λ j. IsTelling (body_with (checked_tree j.program.now) j.function j.params.now j.deps.now) j.edt j.entries.now j.end j.table.now.limit
+        (all_parts j.table.now.limit j.table.now.parts.items) j.room j.place j.refusals j.told
+        × IsFollowing j.edt j.entries.now j.links.now j.place j.next };
 
     ghost closed = { λ j. j.refusals };
 
     fn call(&mut self, call: &Call) -> Result<Answer, BodyStop> {
-        match next_own(self.entries, self.edt, self.place) {
-            Some(at) => {
-                let Entry::Call {
-                    edt: _,
-                    home: _,
-                    call: made,
-                    answer,
-                    writes: _,
-                } = &self.entries[at]
-                else {
-                    unreachable!()
-                };
-                if !same_call(made, call) {
-                    unreachable!()
-                }
-                self.place = at + 1;
-                Ok(*answer)
+        let at = self.next;
+        if at < self.end {
+            let Entry::Call {
+                edt: _,
+                home: _,
+                call: made,
+                answer,
+                writes: _,
+            } = &self.entries[at]
+            else {
+                unreachable!()
+            };
+            if !same_call(made, call) {
+                unreachable!()
             }
-            None => {
-                let creating = is_creating(self.table, call);
-                let enters = can_enter(self.table, self.room, call);
-                self.told = Next::Asking(creating, enters);
-                self.refusals = self.refusals.saturating_add(1);
-                Err(BodyStop::Closed)
-            }
+            self.place = at + 1;
+            self.next = self.links.nexts[at];
+            return Ok(*answer);
         }
+        let creating = is_creating(self.table, call);
+        let enters = can_enter(self.table, self.room, call);
+        self.told = Next::Asking(creating, enters);
+        self.refusals = self.refusals.saturating_add(1);
+        Err(BodyStop::Closed)
     }
 
     fn closings(&self) -> u64 {
@@ -209,7 +212,7 @@ impl<'a> Api for Teller<'a> {
     }
 }
 
-/// What the body of the EDT does after these entries, which are a run.
+/// What the body of the EDT does after the entries before this place, which are a run.
 pub fn next_of(
     alloc: Global,
     program: &Checked,
@@ -217,15 +220,20 @@ pub fn next_of(
     params: &[u64],
     deps: &[Guid],
     entries: &[Entry],
+    links: &Links,
+    end: usize,
     edt: Guid,
     table: &Table,
     room: bool,
 ) -> Result<Next, NoMemory>
+    requires within { end ≤ length entries.now }
+    requires numbered { edt ≤ table.now.limit }
+    requires linked { IsLinked table.now.limit entries.now links.now }
     requires room { Whether room (HasRoom table.now.limit (all_parts table.now.limit table.now.parts.items)) }
     requires coreless { IsCoreless (all_parts table.now.limit table.now.parts.items) }
-    requires said { IsSaidIn (body_with (checked_tree program.now) function params.now deps.now) edt entries.now 0 (length entries.now) }
+    requires said { IsSaidIn (body_with (checked_tree program.now) function params.now deps.now) edt entries.now 0 end }
     ensures { IfOk result (λ next. IsToldAs table.now.limit (all_parts table.now.limit table.now.parts.items)
-        (at_place (body_with (checked_tree program.now) function params.now deps.now) edt entries.now (length entries.now)) next) }
+        (at_place (body_with (checked_tree program.now) function params.now deps.now) edt entries.now end) next) }
 {
     if function == 0 || function as usize > program.count() {
         return Ok(Next::Ended);
@@ -236,10 +244,13 @@ pub fn next_of(
         params,
         deps,
         entries,
+        links,
+        end,
         edt,
         table,
         room,
         place: 0,
+        next: first_of(links, edt),
         refusals: 0,
         told: Next::Stopped,
     };
@@ -250,10 +261,13 @@ pub fn next_of(
         params: _,
         deps: _,
         entries: _,
+        links: _,
+        end: _,
         edt: _,
         table: _,
         room: _,
         place: _,
+        next: _,
         refusals,
         told,
     } = teller;
@@ -269,4 +283,12 @@ pub fn next_of(
             }
         },
     }
+}
+
+/// Where the first entry of the EDT's body stands.
+fn first_of(links: &Links, edt: Guid) -> usize
+    requires { edt < length links.now.firsts.items }
+    ensures { result ≡ slice_index_or links.now.firsts.items edt 0 }
+{
+    links.firsts[edt.0 as usize]
 }

@@ -7,7 +7,7 @@ ghost use Rattle.ocr_body.specs.View.{tree_of};
 use crate::{ReplayStop, replay};
 use ocr_body::{Answer, Call, Checked, Expr, Function, Name, Program, Stmt};
 use ocr_guid::{Code, Guid};
-use ocr_machine::{Entry, Writes};
+use ocr_machine::{Entry, Stop, Writes};
 use std::alloc::Global;
 use std::test::Fail;
 
@@ -27,7 +27,7 @@ fn program(alloc: Global) -> Result<Program, Fail>
     })
 }
 
-// The entries of its run, whose print has this value.
+// The entries of its run, whose print has this value, and two Stops.
 fn entry(alloc: Global, number: u32, value: u64) -> Entry {
     match number {
         0 => Entry::Acquire {
@@ -52,10 +52,15 @@ fn entry(alloc: Global, number: u32, value: u64) -> Entry {
             block: Guid(1),
             writes: Writes::none(alloc),
         },
-        _ => Entry::End {
+        4 => Entry::End {
             edt: Guid(2),
             returned: Guid::NULL,
         },
+        5 => Entry::Stop(Stop::Objects),
+        _ => Entry::Stop(Stop::Events {
+            worker: 1,
+            weight: 1,
+        }),
     }
 }
 
@@ -94,6 +99,24 @@ fn a_journal_is_replayed_to_its_first_illegal_place(rt: HostRuntime) -> Result<(
     assert_eq!(rt;
         verdict(alloc, &[0, 1, 2, 3, 4], 8)?,
         Err(ReplayStop::Illegal(2))
+    );
+    Ok(())
+}
+
+#[test]
+fn a_stop_is_judged_by_what_could_come(rt: HostRuntime) -> Result<(), Fail> {
+    let alloc = rt.alloc();
+    assert_eq!(rt; verdict(alloc, &[0, 1, 5], 7)?, Err(ReplayStop::Illegal(2)));
+    assert_eq!(rt; verdict(alloc, &[6], 7)?, Ok(()));
+    assert_eq!(rt; verdict(alloc, &[0, 1, 6], 7)?, Ok(()));
+    assert_eq!(rt; verdict(alloc, &[0, 1, 2, 6], 7)?, Ok(()));
+    assert_eq!(rt;
+        verdict(alloc, &[0, 1, 2, 6, 3], 7)?,
+        Err(ReplayStop::Illegal(4))
+    );
+    assert_eq!(rt;
+        verdict(alloc, &[0, 1, 2, 3, 4, 6], 7)?,
+        Err(ReplayStop::Illegal(5))
     );
     Ok(())
 }

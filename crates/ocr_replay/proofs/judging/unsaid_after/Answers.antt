@@ -1,21 +1,17 @@
-use Rattle.std.proofs.Common.{sym, ◌∙◌, arith}
-use Rattle.ocr_replay.proofs.Steps.{ended_next, ended_wrong, true_false}
-use Rattle.ocr_replay.proofs.judging.unsaid_after.Goals.{then-is_run_by+else-not-makes, else-is_run_by}
+use Rattle.std.proofs.Common.{◌+◌, arith}
+use Rattle.ocr_replay.proofs.Nexts.{following_here, following_next, ended_following}
 use Rattle.ocr_replay.proofs.judging.unsaid_after.Goals as goal
 
-pub returns-then-not-makes-clause-some : goal.returns-then-not-makes-clause-some
-returns-then-not-makes-clause-some c = λ b ended. (
-  omega arith,
-  omega arith,
-  (c.loop-i.invariant b ended).0,
-  ended_wrong b c.args.edt c.args.entries.now c.loop-i.i c.index-entries-i.result c.args.ending.now (omega arith)
-      c.index-entries-i.is (sym c.is_run_by.ensures ∙ c.if-is_run_by.true) (c.makes.ensures.no c.if-not-makes.true) (c.loop-i.invariant b ended).1,
-)
-
-pub loop-i-preserved : goal.loop-i-preserved
-loop-i-preserved c = λ b ended. elim c.if-is_run_by.branch [
-  | then-is_run_by+else-not-makes w ↦ ended_next b c.args.edt c.args.entries.now c.args.from c.loop-i.i c.index-entries-i.result c.args.ending.now (omega arith)
-      c.index-entries-i.is (λ _. w.makes.ensures.yes w.if-not-makes.false) (c.loop-i.invariant b ended).0 (c.loop-i.invariant b ended).1
-  | else-is_run_by w ↦ ended_next b c.args.edt c.args.entries.now c.args.from c.loop-i.i c.index-entries-i.result c.args.ending.now (omega arith)
-      c.index-entries-i.is (λ run. absurd (true_false (sym run ∙ sym c.is_run_by.ensures ∙ w.if-is_run_by.false))) (c.loop-i.invariant b ended).0 (c.loop-i.invariant b ended).1
-]
+pub loop-at-preserved : goal.loop-at-preserved
+loop-at-preserved c =
+    let xs = c.args.entries.now in
+    let links = c.args.links.now in
+    let at = c.loop-at.at in
+    let next = c.index-at.result.now in
+    let go = following_next c.args.edt xs links at at next c.loop-at.invariant.following c.loop-at-test.true c.index-at.ensures in
+    record {
+      after = omega (arith, c.loop-at.invariant.after, go.now.after);
+      following = following_here c.args.edt xs links (c.loop-at.at + 1) next go;
+      so_far = λ b ended. ended_following b c.args.edt xs links c.args.next at next c.index-entries-at.result c.args.ending.now go c.loop-at-test.true c.index-entries-at.is
+          (c.makes.ensures.yes c.if-not-makes.false) (c.loop-at.invariant.so_far b ended).0 (c.loop-at.invariant.so_far b ended).1;
+    }

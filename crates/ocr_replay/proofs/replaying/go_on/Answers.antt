@@ -8,6 +8,7 @@ use Rattle.ocr_machine.specs.LegalOn.{IsLegalOn}
 use Rattle.ocr_machine.specs.Whole.{all_parts}
 use Rattle.ocr_replay.specs.Replaying.{setting_of, agrees}
 use Rattle.ocr_replay.proofs.Playing.{unlent_now, legal_at, not_said, next_other, next_start, fresh_at, entry_is, start_within}
+use Rattle.ocr_replay.proofs.Nexts.{following_start}
 use Rattle.ocr_replay.proofs.replaying.go_on.Goals as goal
 
 pub is_legal_on-requires : goal.is_legal_on-requires
@@ -32,6 +33,14 @@ judge-requires-clause-fresh c =
     let on = subst (λ (z : Entry). IsLegalOn s.limit (all_parts s.limit ps) z) c.in-Start.is (c.in_ok-is_legal_on.ensures.yes c.if-not-branch.false) in
     let legal = legal_at s xs c.args.place ps vs (Start c.in-Start.edt) c.requires.replaying c.requires.within is refl on refl in
     fresh_at s xs c.args.place ps vs c.in-Start.edt c.requires.replaying c.requires.within is legal
+
+pub judge-requires-clause-following : goal.judge-requires-clause-following
+judge-requires-clause-following c =
+    let s : Setting = setting_of (checked_tree c.args.program.now) c.args.args.now c.args.table.now.limit in
+    let xs : List Entry = c.args.entries.now in
+    let is : Start c.in-Start.edt ≡ slice_index_or xs c.args.place (Start c.in-Start.edt) = subst (λ (z : Entry). z ≡ slice_index_or xs c.args.place z) c.in-Start.is c.index-entries-place.is in
+    let on = subst (λ (z : Entry). IsLegalOn s.limit (all_parts s.limit c.args.table.now.parts.items) z) c.in-Start.is (c.in_ok-is_legal_on.ensures.yes c.if-not-branch.false) in
+    following_start s.limit xs c.args.links.now c.in-Start.edt c.args.place c.index-next.result.now c.requires.linked (start_within s.limit c.args.table.now.parts.items c.in-Start.edt on) c.requires.within is c.index-next.ensures
 
 pub returns-in_ok-verdict-clause-legal : goal.returns-in_ok-verdict-clause-legal
 returns-in_ok-verdict-clause-legal c = λ _.
