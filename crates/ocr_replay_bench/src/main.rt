@@ -1,0 +1,216 @@
+//! Replays a journal in which so many EDTs run side by side as its word says, and their entries take turns one by one.
+#![tactic(auto)]
+
+ghost use Rattle.std.specs.Prelude.{◌≡◌, ◌<◌, ◌≤◌, ◌+◌, ◌^◌, length, true, IfOk};
+ghost use Rattle.ocr_body.specs.Built.{is_built, is_statement_built, are_built};
+ghost use Rattle.ocr_body.specs.Checked.{checked_tree};
+ghost use Rattle.ocr_body.specs.Serving.{number_of_main};
+ghost use Rattle.ocr_body.specs.View.{expression_of, statement_of, tree_of};
+
+use ocr_body::{Answer, Call, Checked, Expr, Function, Invoke, Name, Program, Stmt};
+use ocr_guid::{Code, Guid, NoMemory};
+use ocr_list::Seq;
+use ocr_machine::{Entry, Writes};
+use ocr_replay::replay;
+use std::alloc::{AllocError, Global};
+use std::io::{Error, ErrorKind};
+use std::{env, io};
+
+const MAIN: Guid = Guid(2);
+
+const TEMPLATE: u64 = 3;
+
+const TURNS: u64 = 5;
+
+fn template(alloc: Global) -> Result<Stmt, AllocError>
+    ensures { IfOk result (λ s. is_statement_built (statement_of s) ≡ true) }
+{
+    Ok(Stmt::Invoke(Invoke::TemplateCreate {
+        function: Name::from_vec(Vec::from_slice(alloc, b"one")?),
+        paramc: Box::new(alloc, Expr::Number(0))?,
+        depc: Box::new(alloc, Expr::Number(0))?,
+    }))
+}
+
+#[tactic(auto, using(crate::proofs::Rows::hidden_is))]
+fn creation(alloc: Global) -> Result<Stmt, AllocError>
+    ensures { IfOk result (λ s. is_statement_built (statement_of s) ≡ true) }
+{
+    Ok(Stmt::Invoke(Invoke::EdtCreate {
+        template: Box::new(alloc, Expr::Number(TEMPLATE))?,
+        paramc: Box::new(alloc, Expr::Number(0))?,
+        params: Vec::new(alloc),
+        depc: Box::new(alloc, Expr::Number(0))?,
+        deps: Vec::new(alloc),
+        flags: Box::new(alloc, Expr::Number(0))?,
+        output: None,
+    }))
+}
+
+fn print() -> Stmt
+    ensures { is_statement_built (statement_of result) ≡ true }
+{
+    Stmt::Print {
+        value: Expr::Number(7),
+    }
+}
+
+// mainEdt makes the first EDT, and each of these makes the next one and then prints.
+fn program(alloc: Global) -> Result<Program, AllocError>
+    ensures built { IfOk result (λ p. are_built (tree_of p) ≡ true) }
+    ensures few { IfOk result (λ p. length (tree_of p) + 1 < 2 ^ 32) }
+    ensures main { IfOk result (λ p. number_of_main (tree_of p) ≤ length (tree_of p)) }
+{
+    let main = vec![in alloc; template(alloc)?, creation(alloc)?]?;
+    let one = vec![in alloc;
+        creation(alloc)?,
+        print(),
+        print(),
+        print(),
+        print(),
+        print(),
+    ]?;
+    let main_name = Name::from_vec(Vec::from_slice(alloc, b"mainEdt")?);
+    let one_name = Name::from_vec(Vec::from_slice(alloc, b"one")?);
+    let main = Function {
+        name: main_name,
+        body: main,
+    };
+    let one = Function {
+        name: one_name,
+        body: one,
+    };
+    Ok(Program {
+        functions: vec![in alloc; main, one]?,
+    })
+}
+
+#[derive(Drop)]
+struct Journal {
+    alloc: Global,
+    entries: Vec<Entry>,
+}
+
+impl Journal {
+    fn enter(&mut self, entry: Entry) -> Result<(), NoMemory> {
+        if self.entries.reserve(1).is_err() {
+            return Err(NoMemory);
+        }
+        self.entries.push_reserved(entry);
+        Ok(())
+    }
+
+    fn call(&mut self, edt: Guid, call: Call, value: u64) -> Result<(), NoMemory> {
+        let answer = Answer {
+            code: Code::Done,
+            value,
+            scope: Guid::NULL,
+            output: Guid::NULL,
+        };
+        let writes = Writes::none(self.alloc);
+        self.enter(Entry::Call {
+            edt,
+            home: Guid::NULL,
+            call,
+            answer,
+            writes,
+        })
+    }
+
+    fn create(&mut self, edt: Guid, value: u64) -> Result<(), NoMemory> {
+        let call = Call::EdtCreate {
+            template: TEMPLATE,
+            paramc: 0,
+            params: Seq::new(self.alloc),
+            depc: 0,
+            deps: Seq::new(self.alloc),
+            flags: 0,
+            output: false,
+        };
+        self.call(edt, call, value)
+    }
+}
+
+// mainEdt runs, each EDT makes the next one, and then they all print in turns and end.
+fn side_by_side(alloc: Global, edts: u64) -> Result<Journal, NoMemory>
+    requires { edts < 65536 }
+{
+    let mut journal = Journal {
+        alloc,
+        entries: Vec::new(alloc),
+    };
+    journal.enter(Entry::Acquire {
+        edt: MAIN,
+        block: Guid(1),
+    })?;
+    journal.enter(Entry::Start { edt: MAIN })?;
+    journal.call(
+        MAIN,
+        Call::TemplateCreate {
+            function: 2,
+            paramc: 0,
+            depc: 0,
+        },
+        TEMPLATE,
+    )?;
+    journal.create(MAIN, TEMPLATE + 1)?;
+    journal.enter(Entry::Free {
+        edt: MAIN,
+        block: Guid(1),
+        writes: Writes::none(alloc),
+    })?;
+    journal.enter(Entry::End {
+        edt: MAIN,
+        returned: Guid::NULL,
+    })?;
+    for edt in 0..edts {
+        journal.enter(Entry::Start {
+            edt: Guid(TEMPLATE + 1 + edt),
+        })?;
+        journal.create(Guid(TEMPLATE + 1 + edt), TEMPLATE + 2 + edt)?;
+    }
+    for _ in 0..TURNS {
+        for edt in 0..edts {
+            journal.call(Guid(TEMPLATE + 1 + edt), Call::Print { value: 7 }, 0)?;
+        }
+    }
+    for edt in 0..edts {
+        journal.enter(Entry::End {
+            edt: Guid(TEMPLATE + 1 + edt),
+            returned: Guid::NULL,
+        })?;
+    }
+    Ok(journal)
+}
+
+// What replay says of the entries of so many EDTs.
+fn replayed(rt: &HostRuntime, edts: u64) -> io::Result<()>
+    requires { edts < 65536 }
+{
+    let Ok(checked) = Checked::new(rt.alloc(), program(rt.alloc())?) else {
+        return Err(Error::from(ErrorKind::OutOfMemory));
+    };
+    let Ok(journal) = side_by_side(rt.alloc(), edts) else {
+        return Err(Error::from(ErrorKind::OutOfMemory));
+    };
+    let outcome = replay(rt.alloc(), &checked, &[], 65_536, &journal.entries);
+    println!(rt; "{} {:?}", journal.entries.len(), outcome)
+}
+
+// The number of EDTs that the first word is.
+fn wanted(rt: &HostRuntime) -> io::Result<u64>
+    ensures { IfOk result (λ edts. edts < 65536) }
+{
+    let Some(word) = env::args(rt)?.nth(1) else {
+        return Err(Error::from(ErrorKind::InvalidInput));
+    };
+    match word.parse::<u64>() {
+        Ok(edts) if edts < 60_000 => Ok(edts),
+        _ => Err(Error::from(ErrorKind::InvalidInput)),
+    }
+}
+
+fn main(rt: HostRuntime) -> io::Result<()> {
+    let edts = wanted(&rt)?;
+    replayed(&rt, edts)
+}
