@@ -1,0 +1,11 @@
+//! Tests of replays, which cross crates: programs that are run, and their journals replayed, as they are and changed.
+#![tactic(auto)]
+
+#[cfg(test)]
+mod edits;
+#[cfg(test)]
+mod journals;
+#[cfg(test)]
+mod runs;
+#[cfg(test)]
+mod stops;

@@ -1,0 +1,79 @@
+// Programs, their runs, and what replay says.
+ghost use Rattle.std.specs.Prelude.{◌≡◌, ◌≤◌, ◌<◌, length, IfOk};
+ghost use Rattle.ocr_body.specs.Checked.{checked_tree};
+ghost use Rattle.ocr_body.specs.Serving.{number_of_main};
+
+use crate::edits::add;
+use ocr_body::Checked;
+use ocr_check::check;
+use ocr_io::{MemorySink, MemorySource};
+use ocr_machine::{Entry, Journal};
+use ocr_program::parse;
+use ocr_replay::{ReplayStop, replay};
+use ocr_run::ocr_main;
+use ocr_text::tokens;
+use std::alloc::Global;
+use std::test::Fail;
+
+/// A program with entries that its run made.
+#[derive(Drop)]
+pub struct Recording {
+    pub program: Checked,
+    pub entries: Vec<Entry>,
+    ghost main: { number_of_main (checked_tree program) ≤ length (checked_tree program) },
+}
+
+#[tactic(auto, using(ocr_run::proofs::Mains::main_within))]
+fn program_of(alloc: Global, text: &[u8]) -> Result<Checked, Fail>
+    ensures { IfOk result (λ p. number_of_main (checked_tree p) ≤ length (checked_tree p)) }
+{
+    let tokens = tokens(alloc, text)?;
+    let program = parse(alloc, text, &tokens)?;
+    Ok(check(alloc, program)?)
+}
+
+// The journal of the program's run.
+fn journal_of(alloc: Global, text: &[u8]) -> Result<Journal, Fail> {
+    let mut words = Vec::new(alloc);
+    words.push("run".to_string(alloc)?)?;
+    let mut source = MemorySource::new(text.to_vec(alloc)?, 4096, Vec::new(alloc));
+    let mut out = MemorySink::new(Vec::with_capacity(alloc, 1000)?, 1000, Vec::new(alloc));
+    let mut err = MemorySink::new(Vec::with_capacity(alloc, 100)?, 100, Vec::new(alloc));
+    let ended = ocr_main(alloc, &words, &mut source, &mut out, &mut err);
+    Ok(ended.journal.ok_or("a journal")?)
+}
+
+/// The program that a text is, with the entries of its run.
+pub fn recording_of(alloc: Global, text: &[u8]) -> Result<Recording, Fail> {
+    let program = program_of(alloc, text)?;
+    let journal = journal_of(alloc, text)?;
+    let mut entries = Vec::new(alloc);
+    for entry in journal.entries() {
+        add(alloc, &mut entries, entry, None)?;
+    }
+    Ok(Recording { program, entries })
+}
+
+/// What replay says of the entries.
+pub fn verdict(alloc: Global, recording: &Recording, entries: &[Entry]) -> Result<(), ReplayStop> {
+    replay(alloc, &recording.program, &[], 4096, entries)
+}
+
+/// What replay is to say, by the first illegal place.
+pub fn wanted(illegal: Option<usize>) -> Result<(), ReplayStop> {
+    match illegal {
+        Some(place) => Err(ReplayStop::Illegal(place)),
+        None => Ok(()),
+    }
+}
+
+/// Whether each front of the entries is a run.
+pub fn are_runs(alloc: Global, recording: &Recording) -> bool {
+    let entries = recording.entries.as_slice();
+    for length in 0..entries.len() + 1 {
+        if verdict(alloc, recording, &entries[..length]).is_err() {
+            return false;
+        }
+    }
+    true
+}
