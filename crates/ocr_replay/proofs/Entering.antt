@@ -1,5 +1,5 @@
 -- What can be entered, and what a body does next.
-use Rattle.std.proofs.Common.{◌≡◌, ◌-◌, ◌⊎◌, inl, inr, ℕ, ◌+◌, ◌<◌, ◌≤◌, List, length, slice_index_or, Bool, true, false, not, ◌==◌, ◌||◌, ◌&&◌, zero, suc, arith, refl, sym, ◌∙◌, ap, subst}
+use Rattle.std.proofs.Common.{◌≡◌, ◌-◌, ◌⊎◌, inl, inr, ℕ, ◌+◌, ◌<◌, ◌≤◌, List, length, slice_index_or, Bool, true, false, not, ◌==◌, ◌||◌, zero, suc, arith, refl, sym, ◌∙◌, ap, subst}
 use Rattle.std.proofs.lemmas.Bool.{eqb-true}
 use Rattle.std.proofs.lemmas.List.{nil_from_length}
 use Rattle.ocr_guid.specs.declared.Code.{Code}
@@ -22,7 +22,7 @@ use Rattle.ocr_machine.specs.LegalOn.{IsNamed, IsFresh, IsAnswered}
 use Rattle.ocr_machine.proofs.Told.{done_code}
 use Rattle.ocr_replay.specs.Judging.{Whether, ended_as, runs, IsIdle, IsSaidIn, IsSaidNow, at_place}
 use Rattle.ocr_replay.specs.Stopping.{CanEnter, HasRoom, IsCoreless, is_print, is_enterable, IsToldAs}
-use Rattle.ocr_replay.proofs.Steps.{only_call, own_at, item, item_is, ended_next, next_no_stop}
+use Rattle.ocr_replay.proofs.Steps.{both_true, not_true, only_call, own_at, item, item_is, ended_next, next_no_stop}
 
 -- AN ANSWER to a call that is built
 done_is : (c : Code) → is_done c ≡ true → c ≡ code.Done
@@ -33,14 +33,6 @@ named_room limit f a fresh refused = record { fresh = fresh; refused = refused }
 
 abbrev answer_of : Code → ℕ → Answer
 answer_of c v = record { code = c; value = v; scope = 0; output = 0 }
-
-pub both_true : (a b : Bool) → (a && b) ≡ true → (a ≡ true) × (b ≡ true)
-both_true true b is = (refl, is)
-both_true false b is = cc
-
-pub not_true : (b : Bool) → not b ≡ true → b ≡ false
-not_true true is = cc
-not_true false is = refl
 
 -- a creation is entered with a fresh number, or refused
 creation_enters : (limit : ℕ) (f : Parts) (c : body.Call) → (HasRoom limit f ⊎ (code_of f.face c ≡ code.Done → ⊥))
@@ -169,10 +161,6 @@ stays b t xs n place end least within said ended =
 -- what is told of a body that stopped
 pub stopped_told : (limit : ℕ) (f : Parts) (b : Behaviour) (s : BodyStop) → b ≡ Stops s → IsToldAs limit f b next.Stopped
 stopped_told limit f b s is = (λ g ends. let no : Stops s ≡ Ends g = sym is ∙ ends in cc, λ c asks. next_no_stop b c s asks is)
-
-pub not_false : (b : Bool) → not b ≡ false → b ≡ true
-not_false true is = refl
-not_false false is = cc
 
 pub asked_end : (b : Body) (t : ℕ) (xs : List Entry) (place end next : ℕ) (c : body.Call) → place ≤ end → end ≤ length xs → end ≤ next → IsIdle t xs place next → IsNext c (at_place b t xs place) → IsNext c (at_place b t xs end)
 asked_end b t xs place end next c least within past idle asks =

@@ -1,5 +1,5 @@
 -- Each entry is linked to the next one of its EDT.
-use Rattle.std.proofs.Common.{◌≡◌, ℕ, ◌+◌, ◌<◌, ◌≤◌, List, length, slice_index_or, slice_set, Bool, true, false, ◌==◌, ◌||◌, if◌then◌else◌, arith, refl, sym, ◌∙◌, ap, subst, inl, inr, rules}
+use Rattle.std.proofs.Common.{◌≡◌, ℕ, ◌+◌, ◌<◌, ◌≤◌, List, length, slice_index_or, slice_set, Bool, true, false, ◌==◌, ◌||◌, if◌then◌else◌, arith, refl, sym, ◌∙◌, ap, subst, inl, inr}
 use Rattle.std.proofs.lemmas.Grind.{common_steps}
 use Rattle.std.proofs.lemmas.Bool.{eqb-true}
 use Rattle.std.specs.Prelude.{Option, Some, None, IfSome, IfNone}
@@ -11,7 +11,7 @@ use Rattle.ocr_replay.specs.declared.judging.Ending.{Ending}
 use Rattle.ocr_replay.specs.declared.linking.Links.{Links}
 use Rattle.ocr_replay.specs.Judging.{runs, IsIdle, IsSaidNow, IsSaidIn, IsUnsaid, IsWrong, IsStuck, at_place, ended_as}
 use Rattle.ocr_replay.specs.Linking.{starts, IsNextOwn, IsLinkedFrom, IsLinked, IsFollowing}
-use Rattle.ocr_replay.proofs.Steps.{same_item, item, item_is, below_or_equal, true_false, own_at, said_idle, ended_next, ended_verdict, stuck_verdict}
+use Rattle.ocr_replay.proofs.Steps.{same, same_item, item, item_is, below_or_equal, true_false, own_at, said_idle, ended_next, ended_verdict, stuck_verdict}
 
 -- an entry of the EDT is the next one from its own place on
 pub next_here : (t : ℕ) (xs : List Entry) (at : ℕ) (e : Entry) → at < length xs → e ≡ slice_index_or xs at e → runs t e ≡ true → IsNextOwn t xs at at
@@ -147,23 +147,20 @@ following_next t xs links from at next following below is = record {
   later = following.later;
 }
 
-same : (n : ℕ) → (n == n) ≡ true
-same n = search rules
-
 pub following_start : (limit : ℕ) (xs : List Entry) (links : Links) (t place next : ℕ) → IsLinked limit xs links → t ≤ limit → place < length xs → Start t ≡ slice_index_or xs place (Start t)
     → next ≡ slice_index_or links.nexts.items place next → IsFollowing t xs links (place + 1) next
 following_start limit xs links t place next linked fits below is next_is = record {
-  nexts = linked.nexts;
-  now = subst (λ (k : ℕ). IsNextOwn t xs (place + 1) k) (sym (read_at links.nexts.items place next (omega (arith, below, linked.nexts)) next_is)) (linked.next t place fits below (Start t) is (same t));
-  later = λ m upper e at mine. linked.next t m fits upper e at (or_true (runs t e) (starts t e) mine);
+  nexts = linked.nexts_are;
+  now = subst (λ (k : ℕ). IsNextOwn t xs (place + 1) k) (sym (read_at links.nexts.items place next (omega (arith, below, linked.nexts_are)) next_is)) (linked.next t place fits (omega arith) below (Start t) is (same t));
+  later = λ m upper e at mine. linked.next t m fits (omega arith) upper e at (or_true (runs t e) (starts t e) mine);
 }
 
 -- from the first entry of an EDT
 pub following_first : (limit : ℕ) (xs : List Entry) (links : Links) (t : ℕ) → IsLinked limit xs links → t ≤ limit → IsFollowing t xs links 0 (slice_index_or links.firsts.items t 0)
 following_first limit xs links t linked fits = record {
-  nexts = linked.nexts;
+  nexts = linked.nexts_are;
   now = linked.first t fits;
-  later = λ m upper e at mine. linked.next t m fits upper e at (or_true (runs t e) (starts t e) mine);
+  later = λ m upper e at mine. linked.next t m fits (omega arith) upper e at (or_true (runs t e) (starts t e) mine);
 }
 
 -- a body that ended goes on over the entries that it makes

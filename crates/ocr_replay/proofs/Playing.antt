@@ -1,5 +1,5 @@
 -- A replay goes on by an entry, or stops at it.
-use Rattle.std.proofs.Common.{zero, suc, ◌≡◌, ℕ, ◌+◌, ◌<◌, ◌≤◌, List, [], ◌∷◌, map, take, length, slice_index_or, slice_set, Bool, true, false, not, ◌==◌, ◌||◌, ◌&&◌, if◌then◌else◌, Option, Some, None, is_some, arith, refl, sym, ◌∙◌, ap, subst, rules}
+use Rattle.std.proofs.Common.{zero, suc, ◌≡◌, ℕ, ◌+◌, ◌<◌, ◌≤◌, List, [], ◌∷◌, map, take, length, slice_index_or, slice_set, Bool, true, false, not, ◌==◌, ◌||◌, ◌&&◌, if◌then◌else◌, Option, Some, None, is_some, arith, refl, sym, ◌∙◌, ap, subst}
 use Rattle.std.proofs.lemmas.Grind.{common_steps}
 use Rattle.std.proofs.lemmas.Bool.{eqb-true}
 use Rattle.ocr_slots.specs.Slots as slot
@@ -30,7 +30,7 @@ use Rattle.ocr_machine.proofs.Told.{known, told_law, body_law, fresh_law, begins
 use Rattle.ocr_machine.proofs.Present.{IsPresent, IsBare, present}
 use Rattle.ocr_replay.specs.Judging.{runs, IsSaidNow, IsSaidIn, IsUnsaid, IsWrong, body_with}
 use Rattle.ocr_replay.specs.Replaying.{body_on, IsVerdict, verdict_at, agrees, IsReplaying, IsFirstIllegal}
-use Rattle.ocr_replay.proofs.Steps.{history_next, item, item_is}
+use Rattle.ocr_replay.proofs.Steps.{same, both_true, not_true, not_false, history_next, item, item_is}
 
 -- NO BLOCK is on loan
 bare_unlent : (x : Part) → IsBare x → is_lent x ≡ false
@@ -69,9 +69,6 @@ pub body_parts : (s : Setting) (past : History) (t : ℕ) → body_on s.program 
 body_parts s past t = body_made s.program (made s past t) t (slot_calls past t) (block_calls s past t) (edt_calls s past t)
 
 -- WHAT A LEGAL ENTRY says of its EDT's body
-same : (n : ℕ) → (n == n) ≡ true
-same n = search rules
-
 moved_said : (s : Setting) (past : History) (u t : ℕ) (e : Entry) → (u == t) ≡ true → IsSaidNow (says_next s past u) e → IsSaidNow (says_next s past t) e
 moved_said s past u t e is said = subst (λ (k : ℕ). IsSaidNow (says_next s past k) e) (eqb-true u t is) said
 
@@ -102,14 +99,6 @@ verdict_right b t xs start within said = record {
 }
 
 -- A LEGAL ENTRY by its parts and its EDT's verdict
-not_true : (b : Bool) → not b ≡ true → b ≡ false
-not_true true is = cc
-not_true false is = refl
-
-not_false : (b : Bool) → not b ≡ false → b ≡ true
-not_false true is = refl
-not_false false is = cc
-
 past_it : (v n : ℕ) → n ≤ v → (v == n) ≡ false → n < v
 past_it v n after apart = grind (arith, common_steps)
 
@@ -178,6 +167,13 @@ not_said s xs n ps vs (End t g) so_far below is legal agreed =
 not_said s xs n ps vs other so_far below is legal agreed = cc
 
 -- ONE ENTRY MORE
+-- who runs is made
+pub running_made : (s : Setting) (past : History) (t : ℕ) → IsRun s past → IsRunning past t → is_edt past t ≡ true
+running_made s past t run running = elim (is_edt past t) as (λ b. is_edt past t ≡ b → b ≡ true) [
+  | true ↦ λ _. refl
+  | false ↦ λ off. let not_started : is_started past t ≡ false = (told_law s past t run).started off in let started : is_started past t ≡ true = running.started in cc (started, not_started)
+] refl
+
 restrict : (s : Setting) (xs : List Entry) (n : ℕ) (e : Entry) (t v : ℕ) → IsRun s (e ∷ history_of (take n xs)) → n < length xs → e ≡ slice_index_or xs n e
     → IsRunning (history_of (take n xs)) t → IsVerdict (body_of s (history_of (take n xs)) t) t xs n v → IsVerdict (body_of s (e ∷ history_of (take n xs)) t) t xs (n + 1) v
 restrict s xs n e t v run below is running verdict =
@@ -190,11 +186,7 @@ restrict s xs n e t v run below is running verdict =
       | false ↦ λ _. refl
     ] refl in
     let more : n < v = past_it v n verdict.after not_here in
-    let made_edt : is_edt past t ≡ true = elim (is_edt past t) as (λ b. is_edt past t ≡ b → b ≡ true) [
-      | true ↦ λ _. refl
-      | false ↦ λ off. let not_started : is_started past t ≡ false = (told_law s past t run.0).started off in let started : is_started past t ≡ true = running.started in cc (started, not_started)
-    ] refl in
-    subst (λ (b : Body). IsVerdict b t xs (n + 1) v) (sym (body_law s past e t run made_edt)) (record {
+    subst (λ (b : Body). IsVerdict b t xs (n + 1) v) (sym (body_law s past e t run (running_made s past t run.0 running))) (record {
       after = omega arith;
       within = verdict.within;
       said = λ m lower upper. verdict.said m (omega arith) upper;
@@ -284,10 +276,6 @@ start_within limit ps u legal = elim (is_within limit u) as (λ b. is_within lim
 after_true : (a b : Bool) → (a && b) ≡ false → a ≡ true → b ≡ false
 after_true true b off on = off
 after_true false b off on = cc
-
-both_true : (a b : Bool) → (a && b) ≡ true → (a ≡ true) × (b ≡ true)
-both_true true b is = (refl, is)
-both_true false b is = cc
 
 pub stop_illegal : (s : Setting) (xs : List Entry) (n : ℕ) (ps : List Part) (vs : List ℕ) (t : ℕ) (e : Entry) → IsReplaying s xs n ps vs → n < length xs → e ≡ slice_index_or xs n e
     → (is_running (core_at s.limit ps t) && not (verdict_at vs t == n)) ≡ false → runs t e ≡ true

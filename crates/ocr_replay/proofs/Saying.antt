@@ -8,14 +8,14 @@ use Rattle.ocr_machine.specs.declared.entry.Entry.TheVariants.{Call, Free, End, 
 use Rattle.ocr_machine.specs.declared.entry.Stop.TheVariants as by
 use Rattle.ocr_machine.specs.History.{History, Setting, history_of, own}
 use Rattle.ocr_machine.specs.Made.{is_edt, makes}
-use Rattle.ocr_machine.specs.Edts.{is_started, IsRunning, body_of}
+use Rattle.ocr_machine.specs.Edts.{IsRunning, body_of}
 use Rattle.ocr_machine.specs.Parts.{parts_of}
 use Rattle.ocr_machine.specs.LegalOn.{is_running}
 use Rattle.ocr_machine.specs.Legal.{IsRun, IsLegal}
 use Rattle.ocr_machine.proofs.Told.{told_law, body_law}
 use Rattle.ocr_replay.specs.Judging.{runs, IsSaidNow, IsSaidIn}
 use Rattle.ocr_replay.proofs.Steps.{history_next, item, item_is}
-use Rattle.ocr_replay.proofs.Playing.{legal_said}
+use Rattle.ocr_replay.proofs.Playing.{legal_said, running_made}
 
 or_true : (b : Bool) → (b || true) ≡ true
 or_true true = refl
@@ -25,13 +25,6 @@ or_true false = refl
 edt_stays : (past : History) (e : Entry) (t : ℕ) → is_edt past t ≡ true → is_edt (e ∷ past) t ≡ true
 edt_stays past (Call u home (call.EdtCreate from pc ps dc ds fl o) a w) t made = rw made (or_true (makes a t))
 edt_stays past other t made = made
-
--- who runs is made
-pub running_made : (s : Setting) (past : History) (t : ℕ) → IsRun s past → IsRunning past t → is_edt past t ≡ true
-running_made s past t run running = elim (is_edt past t) as (λ b. is_edt past t ≡ b → b ≡ true) [
-  | true ↦ λ _. refl
-  | false ↦ λ off. let not_started : is_started past t ≡ false = (told_law s past t run).started off in let started : is_started past t ≡ true = running.started in cc (started, not_started)
-] refl
 
 on_made : (s : Setting) (past : History) (u t : ℕ) → IsRun s past → is_running ((parts_of s past).core u) ≡ true → (u == t) ≡ true → is_edt past t ≡ true
 on_made s past u t run on same = subst (λ (k : ℕ). is_edt past k ≡ true) (eqb-true u t same) (running_made s past u run ((told_law s past u run).running.0 on))

@@ -1,5 +1,5 @@
 -- Places of a list of entries.
-use Rattle.std.proofs.Common.{◌≡◌, ◌⊎◌, inl, inr, ℕ, ◌+◌, ◌-◌, ◌<◌, ◌≤◌, List, [], ◌∷◌, ◌++◌, zero, suc, take, length, slice_index_or, Bool, true, false, ◌==◌, arith, refl, sym, ◌∙◌, ap, subst}
+use Rattle.std.proofs.Common.{◌≡◌, ◌⊎◌, inl, inr, ℕ, ◌+◌, ◌-◌, ◌<◌, ◌≤◌, List, [], ◌∷◌, ◌++◌, zero, suc, take, length, slice_index_or, Bool, true, false, ◌==◌, ◌&&◌, not, rules, arith, refl, sym, ◌∙◌, ap, subst}
 use Rattle.std.proofs.lemmas.Grind.{common_steps}
 use Rattle.std.specs.Prelude.{Option, Some, None, IfSome, IfNone}
 use Rattle.std.proofs.lemmas.List.{reverse-append}
@@ -21,6 +21,22 @@ use Rattle.ocr_body.specs.declared.call.BodyStop.TheVariants as stop
 use Rattle.ocr_replay.specs.declared.judging.Ending.{Ending}
 use Rattle.ocr_replay.specs.declared.judging.Ending.TheVariants as ending
 use Rattle.ocr_replay.specs.Judging.{ended_as, runs, IsIdle, IsSaidIn, IsWrong, IsStuck, IsSaidNow, IsUnsaid, at_place, body_with, IsJudging}
+
+-- what two tests tell
+pub same : (n : ℕ) → (n == n) ≡ true
+same n = search rules
+
+pub both_true : (a b : Bool) → (a && b) ≡ true → (a ≡ true) × (b ≡ true)
+both_true true b is = (refl, is)
+both_true false b is = cc
+
+pub not_true : (b : Bool) → not b ≡ true → b ≡ false
+not_true true is = cc
+not_true false is = refl
+
+pub not_false : (b : Bool) → not b ≡ false → b ≡ true
+not_false true is = refl
+not_false false is = cc
 
 pub same_item : (xs : List Entry) (i : ℕ) (p q : Entry) → i < length xs → p ≡ slice_index_or xs i p → q ≡ slice_index_or xs i q → p ≡ q
 same_item xs i p q below first second = grind (arith, common_steps)

@@ -1,5 +1,5 @@
 -- Whether a run may be stopped.
-use Rattle.std.proofs.Common.{◌≡◌, ℕ, ◌<◌, List, take, length, slice_index_or, Bool, true, false, not, ◌==◌, ◌&&◌, sym, subst, rules}
+use Rattle.std.proofs.Common.{◌≡◌, ℕ, ◌<◌, List, take, length, slice_index_or, Bool, true, false, not, ◌==◌, ◌&&◌, sym, subst}
 use Rattle.ocr_machine.specs.declared.entry.Entry.{Entry}
 use Rattle.ocr_machine.specs.declared.entry.Entry.TheVariants.{Stop}
 use Rattle.ocr_machine.specs.declared.entry.Fault.{Fault}
@@ -14,7 +14,7 @@ use Rattle.ocr_machine.specs.Whole.{core_at}
 use Rattle.ocr_replay.specs.Judging.{Whether, runs, IsSaidNow}
 use Rattle.ocr_replay.specs.Replaying.{verdict_at, IsReplaying, IsFirstIllegal}
 use Rattle.ocr_replay.specs.Stopping.{CanGoOn}
-use Rattle.ocr_replay.proofs.Steps.{history_next}
+use Rattle.ocr_replay.proofs.Steps.{same, history_next}
 use Rattle.ocr_replay.proofs.Playing.{illegal_at, stop_illegal, stop_legal, by_stop}
 use Rattle.ocr_replay.proofs.Weighing.{weighs_one}
 
@@ -32,9 +32,6 @@ stop_made s xs n ps vs t why so_far below is mine running stops = record {
       (stop_illegal s xs n ps vs t (Stop why) so_far below is off mine (λ legal. running legal.stopping)).broken
       (subst (λ (h : History). IsRun s h) (sym (history_next xs n (Stop why) below is)) (so_far.run, by_stop s xs n ps vs why so_far stop));
 }
-
-same : (n : ℕ) → (n == n) ≡ true
-same n = search rules
 
 pub shutdown_made : (s : Setting) (xs : List Entry) (n : ℕ) (ps : List Part) (vs : List ℕ) (t : ℕ) (why : run.Stop) → IsReplaying s xs n ps vs → n < length xs → Stop why ≡ slice_index_or xs n (Stop why)
     → why ≡ by.Shutdown t → Whether (made_at s.limit ps vs t n) (IsStop s (history_of (take n xs)) why)

@@ -38,8 +38,7 @@ use Rattle.ocr_replay.specs.declared.telling.Next.TheVariants as next
 use Rattle.ocr_replay.specs.Judging.{Whether, IsSaidIn, at_place}
 use Rattle.ocr_replay.specs.Replaying.{body_on}
 use Rattle.ocr_replay.specs.Stopping.{creates, CanEnter, IsCoreless, IsToldAs, IsFront, setting_in, past_in, parts_in, Creates, creates_by, GoesOn, goes_by, edt_of}
-use Rattle.ocr_replay.proofs.Steps.{next_same, next_no_end}
-use Rattle.ocr_replay.proofs.Entering.{both_true}
+use Rattle.ocr_replay.proofs.Steps.{both_true, next_same, next_no_end}
 use Rattle.ocr_replay.proofs.Playing.{body_parts}
 use Rattle.ocr_replay.proofs.Saying.{said_before}
 

@@ -25,11 +25,8 @@ pub record IsLinkedFrom (limit : ℕ) (entries : List Entry) (from : ℕ) (nexts
   pub next : (t m : ℕ) → t ≤ limit → from ≤ m → m < length entries → (e : Entry) → e ≡ slice_index_or entries m e → (runs t e || starts t e) ≡ true → IsNextOwn t entries (m + 1) (slice_index_or nexts m 0)
 
 -- each entry is linked to the next one of its EDT, and each EDT to its first one
-pub record IsLinked (limit : ℕ) (entries : List Entry) (links : Links) : Type 0 where
-  pub nexts : length links.nexts.items ≡ length entries
-  pub firsts : length links.firsts.items ≡ limit + 1
-  pub first : (t : ℕ) → t ≤ limit → IsNextOwn t entries 0 (slice_index_or links.firsts.items t 0)
-  pub next : (t m : ℕ) → t ≤ limit → m < length entries → (e : Entry) → e ≡ slice_index_or entries m e → (runs t e || starts t e) ≡ true → IsNextOwn t entries (m + 1) (slice_index_or links.nexts.items m 0)
+abbrev pub IsLinked : ℕ → List Entry → Links → Type 0
+IsLinked limit entries links = IsLinkedFrom limit entries 0 links.nexts.items links.firsts.items
 
 -- by the links, one goes from this place to the next entry of the EDT's body, and from each of them to the next
 pub record IsFollowing (t : ℕ) (entries : List Entry) (links : Links) (place next : ℕ) : Type 0 where

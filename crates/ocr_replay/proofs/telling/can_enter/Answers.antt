@@ -2,7 +2,8 @@ use Rattle.std.proofs.Common.{◌≡◌, ◌||◌, ◌∙◌, refl, sym, true, f
 use Rattle.ocr_machine.specs.Parts.{Parts}
 use Rattle.ocr_machine.specs.Whole.{all_parts}
 use Rattle.ocr_replay.specs.Stopping.{is_enterable, is_print}
-use Rattle.ocr_replay.proofs.Entering.{by_room, by_refusal, no_room, not_true, not_false}
+use Rattle.ocr_replay.proofs.Entering.{by_room, by_refusal, no_room}
+use Rattle.ocr_replay.proofs.Steps.{not_true, not_false}
 use Rattle.ocr_replay.proofs.telling.can_enter.Goals.{then-room-via-then-room, then-room-via-else-room+then-is_print}
 use Rattle.ocr_replay.proofs.telling.can_enter.Goals as goal
 
