@@ -3,14 +3,14 @@
 # In each, all EDTs run side by side, and their entries take turns one by one: each EDT's next entry stands as far off as
 # there are EDTs. The seconds rise with the entries. Fails where a replay takes more than 1 s, or does not end with Ok.
 #
-# Build the program first: cd crates/ocr_replay_bench && rt run -- 250, which leaves it as
-# crates/ocr_replay_bench/out/ocr_replay_bench.
+# Build the program first: cd crates/ocr_bench && rt run -- 250, which leaves it as
+# crates/ocr_bench/out/ocr_bench.
 # Then, in any folder: bench/replay.sh [PROGRAM]
 
 set -euo pipefail
 
 here=$(cd "$(dirname "$0")" && pwd)
-program=${1:-$here/../crates/ocr_replay_bench/out/ocr_replay_bench}
+program=${1:-$here/../crates/ocr_bench/out/ocr_bench}
 work=$(mktemp -d)
 trap 'rm -rf "$work"' EXIT
 

@@ -1,7 +1,7 @@
 -- The numbers of a program that has code.
 use Rattle.std.proofs.Common.{◌≡◌, ℕ, List, [], ◌∷◌, true, map, length, refl, ap, sym, ◌∙◌}
 use Rattle.ocr_body.specs.Code.{is_placed, are_args_placed, is_step_placed, is_row_placed, are_placed, are_sound, given_to, arguments_at, expression_at, statement_at, row_at, statements_in, body_in, bodies_in}
-use Rattle.ocr_body.specs.Tree.{Arguments, FunctionTree}
+use Rattle.ocr_tree.specs.Tree.{Arguments, FunctionTree}
 use Rattle.ocr_body.specs.Words.{is_of_words, are_of_words, is_statement_of_words, are_statements_of_words, is_program_of_words}
 use Rattle.ocr_body.specs.declared.code.Args.{Args}
 use Rattle.ocr_body.specs.declared.code.Args.TheVariants as args

@@ -1,9 +1,9 @@
 -- Code as the plain tree that it stands for.
 use Rattle.std.specs.Prelude.{ℕ, List, [], ◌∷◌, Bool, true, ◌&&◌, not, nat_lt, ◌==◌, ◌^◌, bytes_eq, map, length, slice_index_or}
 use Rattle.std.specs.List.{list_any}
-use Rattle.ocr_body.specs.Tree as tree
-use Rattle.ocr_body.specs.declared.tree.CallName.{CallName}
-use Rattle.ocr_body.specs.declared.tree.CallName.TheVariants as call
+use Rattle.ocr_tree.specs.Tree as tree
+use Rattle.ocr_tree.specs.declared.tree.CallName.{CallName}
+use Rattle.ocr_tree.specs.declared.tree.CallName.TheVariants as call
 use Rattle.ocr_body.specs.declared.code.Node.{Node}
 use Rattle.ocr_body.specs.declared.code.Node.TheVariants as node
 use Rattle.ocr_body.specs.declared.code.Made.{Made}

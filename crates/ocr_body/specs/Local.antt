@@ -1,7 +1,8 @@
 -- What the walker keeps, as the meaning names it.
 use Rattle.std.specs.Prelude.{◌≡◌, ℕ, List, [], ◌∷◌, Option, None, Some, bytes_eq, if◌then◌else◌}
 use Rattle.ocr_body.specs.Behaviour.{Behaviour, Ends}
-use Rattle.ocr_body.specs.Serving.{IsDone, numbers_in}
+use Rattle.ocr_body.specs.Serving.{IsDone}
+use Rattle.ocr_tree.specs.Functions.{numbers_in}
 use Rattle.ocr_body.specs.Checked.{checked_tree}
 use Rattle.ocr_body.specs.Code.{name_at}
 use Rattle.ocr_body.specs.Meaning.{State, Frame, Given}

@@ -2,9 +2,9 @@
 ghost use Rattle.std.specs.Prelude.{◌≡◌, ◌<◌, ℕ, List, true, IfSome};
 ghost use Rattle.ocr_body.specs.Code.{arguments_at, are_args_placed};
 ghost use Rattle.ocr_body.specs.Local.{output_at};
-ghost use Rattle.ocr_body.specs.Meaning.{names_in};
+ghost use Rattle.ocr_tree.specs.Tree.{names_in};
 
-use crate::tree::{BinaryOp, Constant, Name, UnaryOp};
+use ocr_tree::{BinaryOp, Constant, Name, UnaryOp};
 
 /// An expression of the code.
 #[cycle(node)]

@@ -8,7 +8,7 @@ ghost use Rattle.ocr_body.specs.Local.{state_of};
 
 use crate::call::BodyStop;
 use crate::checked::Checked;
-use crate::tree::Name;
+use ocr_tree::Name;
 use ocr_guid::Guid;
 use std::alloc::Global;
 

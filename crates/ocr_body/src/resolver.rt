@@ -2,18 +2,17 @@
 ghost use Rattle.std.specs.Prelude.{◌≡◌, ◌<◌, ◌+◌, ◌^◌, ℕ, List, true, false, map, length, IfOk, OnOk, IfSome, IfNone};
 ghost use Rattle.std.specs.List.{list_any};
 ghost use Rattle.std.specs.Prelude.{bytes_eq};
-ghost use Rattle.ocr_body.specs.Built.{is_built, is_call_built, are_arguments_built, is_statement_built, are_statements_built, are_built};
+ghost use Rattle.ocr_tree.specs.Built.{is_built, is_call_built, are_arguments_built, is_statement_built, are_statements_built, are_built};
 ghost use Rattle.ocr_body.specs.Code.{are_distinct, body_in, bodies_in, is_sound, are_sound};
-ghost use Rattle.ocr_body.specs.Serving.{numbers_in};
-ghost use Rattle.ocr_body.specs.Tree as tree;
-ghost use Rattle.ocr_body.specs.Tree.{Arguments};
+ghost use Rattle.ocr_tree.specs.Functions.{numbers_in};
+ghost use Rattle.ocr_tree.specs.Tree as tree;
+ghost use Rattle.ocr_tree.specs.Tree.{Arguments};
 ghost use Rattle.ocr_body.specs.Resolved.{Grew, IsPlace, IsExpression, IsArguments, IsCall, IsStatement, AreStatements};
-ghost use Rattle.ocr_body.specs.View.{expression_of, name_of, arguments_of, members_of, output_of, statement_of, statements_of, functions_of, tree_of};
+ghost use Rattle.ocr_tree.specs.View.{expression_of, name_of, arguments_of, members_of, output_of, statement_of, statements_of, functions_of, tree_of};
 
 use crate::code::{Args, FunctionCode, Made, Node, Step};
-use crate::numbers::number_named;
-use crate::tree::{Expr, Function, Invoke, Name, Program, Stmt};
-use ocr_guid::NoMemory;
+use ocr_tree::{Expr, Function, Invoke, Name, Program, Stmt, number_named};
+use ocr_base::NoMemory;
 use std::alloc::Global;
 
 // The place of a name that was met before.

@@ -6,7 +6,7 @@ ghost use Rattle.ocr_body.specs.Code.{are_distinct, is_placed, is_numbered, are_
 ghost use Rattle.ocr_body.specs.Local.{state_of, frame_of, numbers_of, given_of, output_at, Flows};
 ghost use Rattle.ocr_body.specs.Meaning.{State, Value};
 ghost use Rattle.ocr_body.specs.Meaning as meaning;
-ghost use Rattle.ocr_body.specs.Tree.{While};
+ghost use Rattle.ocr_tree.specs.Tree.{While};
 ghost use Rattle.ocr_body.specs.Serving.{Body, says, behaviour, IsTrace, Begins, BeginsValue, BeginsGiven, IsDone, HasValue, IsGiven, Rose, StoppedBy};
 
 use crate::api::Api;
@@ -16,8 +16,8 @@ use crate::code::{Args, Made, Node, Step};
 use crate::given::{Given, edt_create, template_create};
 use crate::local::{Flow, Frame, Local, read, spend, write};
 use crate::operators::{apply, operate};
-use ocr_guid::{Guid, NoMemory};
-use ocr_list::Seq;
+use ocr_guid::Guid;
+use ocr_base::{NoMemory, Seq};
 use std::alloc::Global;
 
 // The value of an expression.

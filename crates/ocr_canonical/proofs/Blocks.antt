@@ -1,11 +1,11 @@
 -- Blocks in memory, and the text of a choice with a second block and without one.
 use Rattle.std.proofs.Common.{◌≡◌, ◌<◌, ◌++◌, refl, ap, ◌∙◌, sym, Vec, Global, List, [], ◌∷◌, ℕ, length, arith, codes}
-use Rattle.ocr_body.specs.Tree as tree
-use Rattle.ocr_body.specs.View.{expression_of, statement_of, row_statements, statements_of}
-use Rattle.ocr_body.specs.declared.tree.Expr.{Expr}
-use Rattle.ocr_body.specs.declared.tree.Stmt.{Stmt, Row_of-Stmt, end_of-Stmt, more_of-Stmt}
-use Rattle.ocr_body.specs.declared.tree.Stmt.TheViews as views
-use Rattle.ocr_body.specs.declared.tree.Stmt.TheBlock.{items-the_row-Stmt, hidden-the_row-Stmt-0, items_hidden-the_row-Stmt-0}
+use Rattle.ocr_tree.specs.Tree as tree
+use Rattle.ocr_tree.specs.View.{expression_of, statement_of, row_statements, statements_of}
+use Rattle.ocr_tree.specs.declared.tree.Expr.{Expr}
+use Rattle.ocr_tree.specs.declared.tree.Stmt.{Stmt, Row_of-Stmt, end_of-Stmt, more_of-Stmt}
+use Rattle.ocr_tree.specs.declared.tree.Stmt.TheViews as views
+use Rattle.ocr_tree.specs.declared.tree.Stmt.TheBlock.{items-the_row-Stmt, hidden-the_row-Stmt-0, items_hidden-the_row-Stmt-0}
 use Rattle.ocr_canonical.specs.Canonical.{expression_text, statement_text, statements_text, line, deeper}
 
 row_is_statements : (n : _) (row : Row_of-Stmt n) → row_statements row ≡ statements_of (items-the_row-Stmt n row)

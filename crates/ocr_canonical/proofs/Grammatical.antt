@@ -1,10 +1,10 @@
 -- The canonical lexemes have the tree that they were made of.
 use Rattle.std.proofs.Common.{◌≡◌, ◌+◌, ◌≤◌, ℕ, List, [], ◌∷◌, Bool, true, false, refl, sym, subst, arith}
 use Rattle.std.proofs.lemmas.Bool.{ltb-false}
-use Rattle.ocr_body.specs.declared.tree.CallName.{CallName}
-use Rattle.ocr_body.specs.declared.tree.CallName.TheVariants as name
-use Rattle.ocr_body.specs.Tree as tree
-use Rattle.ocr_body.specs.Tree.{Expression, Arguments, empty, value, list, named, Statement, Statements, FunctionTree}
+use Rattle.ocr_tree.specs.declared.tree.CallName.{CallName}
+use Rattle.ocr_tree.specs.declared.tree.CallName.TheVariants as name
+use Rattle.ocr_tree.specs.Tree as tree
+use Rattle.ocr_tree.specs.Tree.{Expression, Arguments, empty, value, list, named, Statement, Statements, FunctionTree}
 use Rattle.ocr_grammar.specs.declared.lexeme.Lexeme.{Lexeme}
 use Rattle.ocr_grammar.specs.declared.lexeme.Lexeme.TheVariants as lexeme
 use Rattle.ocr_grammar.specs.Shape.{shape}

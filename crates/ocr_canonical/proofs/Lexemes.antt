@@ -1,9 +1,9 @@
 -- The lexemes of the canonical text, and how many an expression has. What follows them is the last argument.
 use Rattle.std.proofs.Common.{ℕ, ◌+◌, List, [], ◌∷◌, Bool, true, false}
 use Rattle.std.specs.Prelude.{nat_lt}
-use Rattle.ocr_body.specs.declared.tree.BinaryOp.TheVariants as binary
-use Rattle.ocr_body.specs.declared.tree.CallName.{CallName}
-use Rattle.ocr_body.specs.Tree.{Expression, Number, Named, Var, Paramc, Depc, LastCode, Paramv, Depv, Unary, Binary, Invoked, Arguments, empty, value, list, named, Statement, Let, Assign, If, While, Print, Return, Do, Statements, nothing, statement, FunctionTree}
+use Rattle.ocr_tree.specs.declared.tree.BinaryOp.TheVariants as binary
+use Rattle.ocr_tree.specs.declared.tree.CallName.{CallName}
+use Rattle.ocr_tree.specs.Tree.{Expression, Number, Named, Var, Paramc, Depc, LastCode, Paramv, Depv, Unary, Binary, Invoked, Arguments, empty, value, list, named, Statement, Let, Assign, If, While, Print, Return, Do, Statements, nothing, statement, FunctionTree}
 use Rattle.ocr_grammar.specs.declared.lexeme.Lexeme.{Lexeme}
 use Rattle.ocr_grammar.specs.declared.lexeme.Lexeme.TheVariants as lexeme
 use Rattle.ocr_grammar.specs.declared.lexeme.Word.TheVariants as word

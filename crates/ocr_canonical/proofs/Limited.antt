@@ -1,9 +1,9 @@
 -- The canonical lexemes keep the limits.
 use Rattle.std.proofs.Common.{◌≡◌, ◌+◌, ◌-◌, ◌≤◌, ℕ, List, ◌∷◌, Bool, true, false, refl, sym, subst, arith}
-use Rattle.ocr_body.specs.declared.tree.UnaryOp.{UnaryOp}
-use Rattle.ocr_body.specs.declared.tree.UnaryOp.TheVariants as unary
-use Rattle.ocr_body.specs.declared.tree.BinaryOp.TheVariants as binary
-use Rattle.ocr_body.specs.Tree.{Expression, Number, Named, Var, Paramc, Depc, LastCode, Paramv, Depv, Unary, Binary, Invoked, Arguments, empty, value, list, named, Statement, Statements, FunctionTree}
+use Rattle.ocr_tree.specs.declared.tree.UnaryOp.{UnaryOp}
+use Rattle.ocr_tree.specs.declared.tree.UnaryOp.TheVariants as unary
+use Rattle.ocr_tree.specs.declared.tree.BinaryOp.TheVariants as binary
+use Rattle.ocr_tree.specs.Tree.{Expression, Number, Named, Var, Paramc, Depc, LastCode, Paramv, Depv, Unary, Binary, Invoked, Arguments, empty, value, list, named, Statement, Statements, FunctionTree}
 use Rattle.ocr_grammar.specs.declared.lexeme.Lexeme.{Lexeme}
 use Rattle.ocr_grammar.specs.declared.lexeme.Lexeme.TheVariants as lexeme
 use Rattle.ocr_grammar.specs.declared.lexeme.Word.TheVariants as word

@@ -1,6 +1,6 @@
 -- The canonical text of a tree that some text has is read as that tree.
 use Rattle.std.proofs.Common.{ℕ, List, length, refl, sym, subst, arith}
-use Rattle.ocr_body.specs.Tree.{FunctionTree}
+use Rattle.ocr_tree.specs.Tree.{FunctionTree}
 use Rattle.ocr_grammar.specs.declared.lexeme.Lexeme.{Lexeme}
 use Rattle.ocr_grammar.specs.Parsing.{IsTree}
 use Rattle.ocr_grammar.specs.Limits.{nothing_read}

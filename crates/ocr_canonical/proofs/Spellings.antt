@@ -1,9 +1,9 @@
 -- The names of calls and constants have the form of a name.
 use Rattle.std.proofs.Common.{◌≡◌, true, refl}
-use Rattle.ocr_body.specs.declared.tree.CallName.{CallName}
-use Rattle.ocr_body.specs.declared.tree.CallName.TheVariants as name
-use Rattle.ocr_body.specs.declared.tree.Constant as of_constant
-use Rattle.ocr_body.specs.declared.tree.Constant.TheVariants as constant
+use Rattle.ocr_tree.specs.declared.tree.CallName.{CallName}
+use Rattle.ocr_tree.specs.declared.tree.CallName.TheVariants as name
+use Rattle.ocr_tree.specs.declared.tree.Constant as of_constant
+use Rattle.ocr_tree.specs.declared.tree.Constant.TheVariants as constant
 use Rattle.ocr_text.specs.declared.token.TokenKind.TheVariants as kind
 use Rattle.ocr_text.specs.Forms.{is_form}
 use Rattle.ocr_grammar.specs.Texts.{call_text, constant_text}

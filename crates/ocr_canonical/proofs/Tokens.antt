@@ -8,8 +8,8 @@ use Rattle.ocr_text.specs.Forms.{is_form}
 use Rattle.ocr_text.specs.Tokens.{IsLongest, IsInRange, Tile, text_of}
 use Rattle.ocr_text.specs.Scan.{found}
 use Rattle.ocr_text.proofs.Laws.{found_longest}
-use Rattle.ocr_body.specs.declared.tree.CallName.{CallName}
-use Rattle.ocr_body.specs.declared.tree.Constant as of_constant
+use Rattle.ocr_tree.specs.declared.tree.CallName.{CallName}
+use Rattle.ocr_tree.specs.declared.tree.Constant as of_constant
 use Rattle.ocr_grammar.specs.declared.lexeme.Lexeme.{Lexeme}
 use Rattle.ocr_grammar.specs.declared.lexeme.Word.{Word}
 use Rattle.ocr_grammar.specs.Texts as texts

@@ -1,6 +1,6 @@
 -- The canonical text of a task program: its one spelling with the fewest brackets, in lines.
 use Rattle.std.specs.Prelude.{ℕ, ◌+◌, List, [], ◌∷◌, ◌++◌, Bool, true, false, nat_lt, codes, decimal}
-use Rattle.ocr_body.specs.Tree.{Expression, Number, Named, Var, Paramc, Depc, LastCode, Paramv, Depv, Unary, Binary, Invoked, Arguments, empty, value, list, named, Statement, Let, Assign, If, While, Print, Return, Do, Statements, nothing, statement, FunctionTree}
+use Rattle.ocr_tree.specs.Tree.{Expression, Number, Named, Var, Paramc, Depc, LastCode, Paramv, Depv, Unary, Binary, Invoked, Arguments, empty, value, list, named, Statement, Let, Assign, If, While, Print, Return, Do, Statements, nothing, statement, FunctionTree}
 use Rattle.ocr_grammar.specs.Grammar.{level, unary_level}
 use Rattle.ocr_grammar.specs.Texts.{operator_text, constant_text, call_text}
 use Rattle.ocr_canonical.specs.Words.{unary_text}

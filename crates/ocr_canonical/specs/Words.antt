@@ -1,7 +1,7 @@
 -- The sign before an operand.
 use Rattle.std.specs.Prelude.{ℕ, List, codes}
-use Rattle.ocr_body.specs.declared.tree.UnaryOp.{UnaryOp}
-use Rattle.ocr_body.specs.declared.tree.UnaryOp.TheVariants as unary
+use Rattle.ocr_tree.specs.declared.tree.UnaryOp.{UnaryOp}
+use Rattle.ocr_tree.specs.declared.tree.UnaryOp.TheVariants as unary
 
 abbrev pub unary_text : UnaryOp → List ℕ
 unary_text unary.Not = codes "!"

@@ -1,14 +1,14 @@
 // Expressions and calls.
 ghost use Rattle.std.specs.Prelude.{◌≡◌, ◌++◌, OnOk, codes};
-ghost use Rattle.ocr_body.specs.Tree.{Number, Invoked};
-ghost use Rattle.ocr_body.specs.View as view;
-ghost use Rattle.ocr_body.specs.View.{expression_of, arguments_of, members_of, output_of};
+ghost use Rattle.ocr_tree.specs.Tree.{Number, Invoked};
+ghost use Rattle.ocr_tree.specs.View as view;
+ghost use Rattle.ocr_tree.specs.View.{expression_of, arguments_of, members_of, output_of};
 ghost use Rattle.ocr_canonical.specs.Canonical as canonical;
 ghost use Rattle.ocr_canonical.specs.Canonical.{expression_text, operand_text, arguments_text, further_text};
 
 use crate::words::{UNARY_LEVEL, level, unary_text};
 use itoa::Buffer;
-use ocr_body::{CallName, Expr, Invoke, Name};
+use ocr_tree::{CallName, Expr, Invoke, Name};
 use ocr_grammar::{call_text, constant_text, operator_text};
 use std::alloc::AllocError;
 

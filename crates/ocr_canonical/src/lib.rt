@@ -2,7 +2,7 @@
 #![tactic(auto)]
 
 ghost use Rattle.std.specs.Prelude.{◌≡◌, ℕ, List, IfOk};
-ghost use Rattle.ocr_body.specs.View.{tree_of};
+ghost use Rattle.ocr_tree.specs.View.{tree_of};
 ghost use Rattle.ocr_canonical.specs.Canonical.{program_text};
 ghost use Rattle.ocr_canonical.specs.RoundTrip.{IsTextOf};
 
@@ -10,8 +10,8 @@ mod expression;
 mod statement;
 mod words;
 
-use ocr_body::Program;
-use ocr_guid::NoMemory;
+use ocr_tree::Program;
+use ocr_base::NoMemory;
 use std::alloc::Global;
 
 /// The canonical text of a program: its one spelling in lines, with the fewest brackets. For a program that some

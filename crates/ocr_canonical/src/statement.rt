@@ -1,11 +1,11 @@
 // Statements, functions and whole programs.
 ghost use Rattle.std.specs.Prelude.{◌≡◌, ◌++◌, OnOk, IfOk, codes};
-ghost use Rattle.ocr_body.specs.View.{expression_of, statement_of, statements_of, function_of, tree_of};
+ghost use Rattle.ocr_tree.specs.View.{expression_of, statement_of, statements_of, function_of, tree_of};
 ghost use Rattle.ocr_canonical.specs.Canonical as canonical;
 ghost use Rattle.ocr_canonical.specs.Canonical.{expression_text, statement_text, statements_text, function_text, program_text};
 
 use crate::expression::{expression, invoke};
-use ocr_body::{Expr, Function, Name, Program, Stmt};
+use ocr_tree::{Expr, Function, Name, Program, Stmt};
 use std::alloc::{AllocError, Global};
 
 // The spaces two deeper.

@@ -3,7 +3,7 @@ ghost use Rattle.std.specs.Prelude.{◌≡◌};
 ghost use Rattle.ocr_grammar.specs.Grammar as grammar;
 ghost use Rattle.ocr_canonical.specs.Words as words;
 
-use ocr_body::{BinaryOp, UnaryOp};
+use ocr_tree::{BinaryOp, UnaryOp};
 
 // The level of what no operator joins, above the levels of the operators.
 pub const UNARY_LEVEL: u8 = 8;

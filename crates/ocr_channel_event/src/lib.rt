@@ -6,8 +6,8 @@ ghost use Rattle.ocr_guid.specs.declared.target.Target.{Target};
 ghost use Rattle.ocr_channel_event.specs.Channel.{state_of, is_unwanted, is_welcome, is_full, refusal, satisfied, on_satisfy, linked, on_link, doomed, on_destroy, RefusalLaw, SatisfyLaw, LinkLaw, DestroyLaw, DestroyedLaw, MatchLaw, RoomLaw};
 
 use ocr_guid::target::{Linked, Satisfied, Target};
-use ocr_guid::{Code, Guid, NoMemory};
-use ocr_list::Seq;
+use ocr_guid::{Code, Guid};
+use ocr_base::{NoMemory, Seq};
 use std::alloc::Global;
 use std::collections::VecDeque;
 use std::marker::Model;

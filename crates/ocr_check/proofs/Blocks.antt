@@ -1,11 +1,11 @@
 -- The blocks of a tree in memory.
 use Rattle.std.proofs.Common.{◌≡◌, refl, ap, ◌∙◌, Vec, Global}
-use Rattle.ocr_body.specs.Tree as tree
-use Rattle.ocr_body.specs.View.{expression_of, statement_of, statements_of, row_statements}
-use Rattle.ocr_body.specs.declared.tree.Expr.{Expr}
-use Rattle.ocr_body.specs.declared.tree.Stmt.{Stmt, Row_of-Stmt, end_of-Stmt, more_of-Stmt}
-use Rattle.ocr_body.specs.declared.tree.Stmt.TheViews as views
-use Rattle.ocr_body.specs.declared.tree.Stmt.TheBlock.{items-the_row-Stmt, hidden-the_row-Stmt-0, items_hidden-the_row-Stmt-0}
+use Rattle.ocr_tree.specs.Tree as tree
+use Rattle.ocr_tree.specs.View.{expression_of, statement_of, statements_of, row_statements}
+use Rattle.ocr_tree.specs.declared.tree.Expr.{Expr}
+use Rattle.ocr_tree.specs.declared.tree.Stmt.{Stmt, Row_of-Stmt, end_of-Stmt, more_of-Stmt}
+use Rattle.ocr_tree.specs.declared.tree.Stmt.TheViews as views
+use Rattle.ocr_tree.specs.declared.tree.Stmt.TheBlock.{items-the_row-Stmt, hidden-the_row-Stmt-0, items_hidden-the_row-Stmt-0}
 
 row_is_items : (n : _) (row : Row_of-Stmt n) → row_statements row ≡ statements_of (items-the_row-Stmt n row)
 row_is_items n end_of-Stmt = refl

@@ -2,14 +2,14 @@
 use Rattle.std.proofs.Common.{◌≡◌, ◌≤◌, ◌+◌, ℕ, suc, nat_le, Bool, true, false, ◌&&◌, ◌||◌, if◌then◌else◌, cond, List, [], ◌∷◌, length, Option, None, Some, refl, bytes_eq, arith}
 use Rattle.std.proofs.lemmas.Bool.{le-leb}
 use Rattle.std.specs.Option.{option_or}
-use Rattle.ocr_body.specs.Tree.{Expression, Arguments, Statement, Statements, FunctionTree}
-use Rattle.ocr_body.specs.Tree as tree
-use Rattle.ocr_body.specs.Each.{is_each_call, is_each_call_of_all, is_each_call_in, is_each_call_in_all, is_each_call_of}
-use Rattle.ocr_body.specs.Built.{is_call_built, is_function_and_counts, are_built}
-use Rattle.ocr_body.specs.Rules.{is_function_named, are_functions_named, are_short, is_list_short, are_lists_short}
-use Rattle.ocr_body.specs.Serving.{number_named}
-use Rattle.ocr_body.specs.declared.tree.CallName.TheVariants as name
-use Rattle.ocr_body.specs.declared.tree.CallName.{CallName}
+use Rattle.ocr_tree.specs.Tree.{Expression, Arguments, Statement, Statements, FunctionTree}
+use Rattle.ocr_tree.specs.Tree as tree
+use Rattle.ocr_tree.specs.Each.{is_each_call, is_each_call_of_all, is_each_call_in, is_each_call_in_all, is_each_call_of}
+use Rattle.ocr_tree.specs.Built.{is_call_built, is_function_and_counts, are_built}
+use Rattle.ocr_tree.specs.Rules.{is_function_named, are_functions_named, are_short, is_list_short, are_lists_short}
+use Rattle.ocr_tree.specs.Functions.{number_named}
+use Rattle.ocr_tree.specs.declared.tree.CallName.TheVariants as name
+use Rattle.ocr_tree.specs.declared.tree.CallName.{CallName}
 use Rattle.ocr_check.specs.Check.{FailsNowhere, Breaks, BreaksSome}
 use Rattle.ocr_check.specs.Check as check
 use Rattle.ocr_check.specs.Checking.{Kept, Outcome, Passed, Broken, told, and_then, leaving, let_rule, value_rule, with_name, event_rule, expression_rule, arguments_rule, statement_outcome, statements_outcome, rule_of, function_rule, nothing_kept}

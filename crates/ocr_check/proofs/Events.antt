@@ -1,13 +1,13 @@
 -- The events of a function one after the other: what they leave to the events after them.
 use Rattle.std.proofs.Common.{◌≡◌, ℕ, suc, Bool, List, [], ◌∷◌, ◌++◌, Option, None, Some, refl, sym, ap, ◌∙◌}
 use Rattle.std.specs.Option.{option_or}
-use Rattle.ocr_body.specs.Tree.{Expression, Arguments, Statement, Statements}
-use Rattle.ocr_body.specs.Tree as tree
+use Rattle.ocr_tree.specs.Tree.{Expression, Arguments, Statement, Statements}
+use Rattle.ocr_tree.specs.Tree as tree
 use Rattle.ocr_check.specs.Check.{Event, rule_broken, is_among, is_declared, let_names, naming, count_of, events_of_expression, events_of_arguments, events_of_statement, events_of_statements}
 use Rattle.ocr_check.specs.Check as check
 use Rattle.ocr_check.specs.Checking.{event_rule, expression_rule, arguments_rule}
-use Rattle.ocr_body.specs.declared.tree.CallName.{CallName}
-use Rattle.ocr_body.specs.declared.tree.CallName.TheVariants as name
+use Rattle.ocr_tree.specs.declared.tree.CallName.{CallName}
+use Rattle.ocr_tree.specs.declared.tree.CallName.TheVariants as name
 use Rattle.ocr_check.specs.declared.scope.ListKind.{ListKind}
 use Rattle.ocr_check.specs.declared.scope.ListKind.TheVariants.{Parameters, Dependences}
 

@@ -2,7 +2,7 @@
 use Rattle.std.proofs.Common.{◌≡◌, ℕ, ◌+◌, List, [], ◌∷◌, ◌++◌, length, true, Option, None, Some, reverse, refl, sym, ap, ◌∙◌, subst}
 use Rattle.std.specs.Option.{option_or, is_some}
 use Rattle.std.proofs.lemmas.List.{append_assoc, append-nil, reverse-append}
-use Rattle.ocr_body.specs.Tree.{FunctionTree}
+use Rattle.ocr_tree.specs.Tree.{FunctionTree}
 use Rattle.ocr_check.specs.Check.{Event, IsFirst, FailsNowhere, BreaksRule, BreaksSome, Breaks, rule_broken, HasNamesake, same_name, no_main, in_body, BreachLaw, names_of, events_of}
 use Rattle.ocr_check.proofs.Events.{first_broken}
 

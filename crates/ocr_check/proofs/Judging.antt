@@ -5,8 +5,8 @@ use Rattle.std.proofs.lemmas.List.Folds.{list_any-append}
 use Rattle.std.specs.Bool.{nat_lt}
 use Rattle.std.specs.Option.{option_or}
 use Rattle.std.specs.Str.{bytes_eq}
-use Rattle.ocr_body.specs.Tree.{Expression, Statement, Statements, FunctionTree}
-use Rattle.ocr_body.specs.Tree as tree
+use Rattle.ocr_tree.specs.Tree.{Expression, Statement, Statements, FunctionTree}
+use Rattle.ocr_tree.specs.Tree as tree
 use Rattle.ocr_check.specs.Check.{Event, rule_broken, is_among, is_declared, let_names, most_lets, events_of, events_of_expression, events_of_statement, events_of_statements}
 use Rattle.ocr_check.specs.Check as check
 use Rattle.ocr_check.specs.Checking.{event_rule, expression_rule, value_rule, let_rule, with_name, Kept, Outcome, Passed, Broken, told, and_then, leaving, statement_outcome, statements_outcome, rule_of, function_rule, nothing_kept}

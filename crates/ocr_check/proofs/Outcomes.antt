@@ -3,13 +3,13 @@ use Rattle.std.proofs.Common.{◌≡◌, ℕ, Bool, Vec, Global, List, [], ◌�
 use Rattle.std.specs.Option.{option_or}
 use Rattle.std.proofs.lemmas.List.{append_assoc, append-nil}
 use Rattle.std.proofs.Math.Seq.{take-append_seam}
-use Rattle.ocr_body.specs.Tree as tree
-use Rattle.ocr_body.specs.Tree.{Expression, Statement, Statements}
+use Rattle.ocr_tree.specs.Tree as tree
+use Rattle.ocr_tree.specs.Tree.{Expression, Statement, Statements}
 use Rattle.ocr_check.specs.Checking.{Kept, Outcome, Passed, Broken, told, and_then, leaving, let_rule, value_rule, with_name, statement_outcome, statements_outcome, rule_of}
-use Rattle.ocr_body.specs.View.{expression_of, statement_of, statements_of}
-use Rattle.ocr_body.specs.declared.tree.Expr.{Expr}
-use Rattle.ocr_body.specs.declared.tree.Stmt.{Stmt}
-use Rattle.ocr_body.specs.declared.tree.Stmt.TheViews as views
+use Rattle.ocr_tree.specs.View.{expression_of, statement_of, statements_of}
+use Rattle.ocr_tree.specs.declared.tree.Expr.{Expr}
+use Rattle.ocr_tree.specs.declared.tree.Stmt.{Stmt}
+use Rattle.ocr_tree.specs.declared.tree.Stmt.TheViews as views
 use Rattle.ocr_check.proofs.Parts.{or_both, or_first, or_second}
 use Rattle.ocr_check.proofs.Blocks.{if_view, while_view}
 

@@ -1,13 +1,13 @@
 -- Creations without dependences and without an output event.
 use Rattle.std.proofs.Common.{◌≡◌, ℕ, suc, sym, arith, Bool, true, false, ◌&&◌, ◌==◌, List, [], ◌∷◌, length, Option, None, Some, is_none as none_in, refl, ap, ◌∙◌, Vec, Box, Global}
 use Rattle.std.proofs.lemmas.Bool.{eqb-true}
-use Rattle.ocr_body.specs.Tree as tree
-use Rattle.ocr_body.specs.Tree.{Expression, Arguments}
-use Rattle.ocr_body.specs.View.{expression_of, members_of, name_of, arguments_of, output_of}
-use Rattle.ocr_body.specs.Built.{is_none, is_plain_creation}
-use Rattle.ocr_body.specs.declared.tree.Expr.{Expr}
-use Rattle.ocr_body.specs.declared.tree.Invoke.{Invoke}
-use Rattle.ocr_body.specs.declared.tree.Expr.TheViews as views
+use Rattle.ocr_tree.specs.Tree as tree
+use Rattle.ocr_tree.specs.Tree.{Expression, Arguments}
+use Rattle.ocr_tree.specs.View.{expression_of, members_of, name_of, arguments_of, output_of}
+use Rattle.ocr_tree.specs.Built.{is_none, is_plain_creation}
+use Rattle.ocr_tree.specs.declared.tree.Expr.{Expr}
+use Rattle.ocr_tree.specs.declared.tree.Invoke.{Invoke}
+use Rattle.ocr_tree.specs.declared.tree.Expr.TheViews as views
 use Rattle.ocr_check.specs.Check.{is_built}
 use Rattle.ocr_check.proofs.Rows.{members_are}
 

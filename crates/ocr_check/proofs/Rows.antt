@@ -1,20 +1,20 @@
 -- The lists of a tree in memory.
 use Rattle.std.proofs.Common.{◌≡◌, ℕ, suc, Bool, List, [], ◌∷◌, length, Option, None, Some, refl, sym, ap, ◌∙◌, Vec, Box, Global}
 use Rattle.std.specs.Option.{option_or}
-use Rattle.ocr_body.specs.Tree as tree
-use Rattle.ocr_body.specs.Tree.{Expression, Arguments}
-use Rattle.ocr_body.specs.View.{expression_of, row_arguments, members_of, name_of, arguments_of, output_of}
+use Rattle.ocr_tree.specs.Tree as tree
+use Rattle.ocr_tree.specs.Tree.{Expression, Arguments}
+use Rattle.ocr_tree.specs.View.{expression_of, row_arguments, members_of, name_of, arguments_of, output_of}
 use Rattle.ocr_check.specs.Check.{count_of, ListClosed}
 use Rattle.ocr_check.specs.Checking.{expression_rule, arguments_rule, event_rule}
 use Rattle.ocr_check.specs.Scope.{known_in, declared_in, members_rule, edt_rule}
 use Rattle.ocr_check.specs.declared.scope.Scope.{Scope}
 use Rattle.ocr_check.specs.declared.scope.ListKind.{ListKind}
 use Rattle.ocr_check.specs.declared.scope.ListKind.TheVariants.{Parameters, Dependences}
-use Rattle.ocr_body.specs.declared.tree.CallName.TheVariants as name
-use Rattle.ocr_body.specs.declared.tree.Expr.{Expr}
-use Rattle.ocr_body.specs.declared.tree.Invoke.{Invoke, Row_of-Expr, end_of-Expr, more_of-Expr}
-use Rattle.ocr_body.specs.declared.tree.Expr.TheViews as views
-use Rattle.ocr_body.specs.declared.tree.Expr.TheBlock.{items-the_row-Expr, hidden-the_row-Expr-0, items_hidden-the_row-Expr-0}
+use Rattle.ocr_tree.specs.declared.tree.CallName.TheVariants as name
+use Rattle.ocr_tree.specs.declared.tree.Expr.{Expr}
+use Rattle.ocr_tree.specs.declared.tree.Invoke.{Invoke, Row_of-Expr, end_of-Expr, more_of-Expr}
+use Rattle.ocr_tree.specs.declared.tree.Expr.TheViews as views
+use Rattle.ocr_tree.specs.declared.tree.Expr.TheBlock.{items-the_row-Expr, hidden-the_row-Expr-0, items_hidden-the_row-Expr-0}
 use Rattle.ocr_check.proofs.Events.{option_or-assoc}
 use Rattle.ocr_check.proofs.Parts.{or_first, or_of_none}
 

@@ -4,12 +4,12 @@
 use Rattle.std.specs.Prelude.{◌≡◌, ℕ, zero, suc, ◌+◌, Bool, true, false, cond, ◌||◌, nat_lt, nat_le, List, [], ◌∷◌, ◌++◌, map, length, reverse, Option, None, Some, IsSome}
 use Rattle.std.specs.Str.{bytes_eq}
 use Rattle.std.specs.List.{list_any}
-use Rattle.ocr_body.specs.Tree.{Expression, Arguments, Statement, Statements, FunctionTree}
-use Rattle.ocr_body.specs.Tree as tree
-use Rattle.ocr_body.specs.Built.{is_call_built}
-pub use Rattle.ocr_body.specs.Rules.{count_of}
-use Rattle.ocr_body.specs.declared.tree.CallName.{CallName}
-use Rattle.ocr_body.specs.declared.tree.CallName.TheVariants as name
+use Rattle.ocr_tree.specs.Tree.{Expression, Arguments, Statement, Statements, FunctionTree}
+use Rattle.ocr_tree.specs.Tree as tree
+use Rattle.ocr_tree.specs.Built.{is_call_built}
+pub use Rattle.ocr_tree.specs.Rules.{count_of}
+use Rattle.ocr_tree.specs.declared.tree.CallName.{CallName}
+use Rattle.ocr_tree.specs.declared.tree.CallName.TheVariants as name
 use Rattle.ocr_check.specs.declared.scope.ListKind.{ListKind}
 use Rattle.ocr_check.specs.declared.scope.ListKind.TheVariants.{Parameters, Dependences}
 

@@ -1,11 +1,11 @@
 -- What the walk over a tree finds at each place, with the names that it keeps: the way from the tree in memory to its breach.
 use Rattle.std.specs.Prelude.{ℕ, Bool, cond, nat_lt, nat_le, List, [], ◌∷◌, ◌++◌, length, Option, None, Some}
 use Rattle.std.specs.Option.{option_or}
-use Rattle.ocr_body.specs.Tree.{Expression, Arguments, Statement, Statements, FunctionTree}
-use Rattle.ocr_body.specs.Tree as tree
+use Rattle.ocr_tree.specs.Tree.{Expression, Arguments, Statement, Statements, FunctionTree}
+use Rattle.ocr_tree.specs.Tree as tree
 use Rattle.ocr_check.specs.Check.{Event, rule_broken, is_among, is_built, naming, most_members, most_lets, count_of}
 use Rattle.ocr_check.specs.Check as check
-use Rattle.ocr_body.specs.declared.tree.CallName.{CallName}
+use Rattle.ocr_tree.specs.declared.tree.CallName.{CallName}
 use Rattle.ocr_check.specs.declared.scope.ListKind.{ListKind}
 use Rattle.ocr_check.specs.declared.scope.ListKind.TheVariants.{Parameters, Dependences}
 

@@ -6,10 +6,10 @@ use Rattle.std.specs.BTreeSet.{BTreeSet, contains_by}
 use Rattle.std.specs.Cmp.Lexicographic.{slice_cmp}
 use Rattle.std.specs.Ordering.{nat_cmp}
 use Rattle.ocr_check.specs.Check.{IsBreach, is_among, Used, ListClosed}
-use Rattle.ocr_body.specs.Tree.{FunctionTree, Expression}
-use Rattle.ocr_body.specs.View.{members_of, output_of}
-use Rattle.ocr_body.specs.declared.tree.Expr.{Expr}
-use Rattle.ocr_body.specs.declared.tree.CallName.TheVariants as name
+use Rattle.ocr_tree.specs.Tree.{FunctionTree, Expression}
+use Rattle.ocr_tree.specs.View.{members_of, output_of}
+use Rattle.ocr_tree.specs.declared.tree.Expr.{Expr}
+use Rattle.ocr_tree.specs.declared.tree.CallName.TheVariants as name
 use Rattle.ocr_check.specs.declared.scope.ListKind.{ListKind}
 use Rattle.ocr_check.specs.declared.scope.ListKind.TheVariants.{Parameters, Dependences}
 use Rattle.ocr_check.specs.Checking.{Kept, Outcome, Broken, event_rule, expression_rule, arguments_rule}

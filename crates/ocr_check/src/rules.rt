@@ -3,14 +3,15 @@ ghost use Rattle.std.specs.Prelude.{◌≡◌, ◌<◌, ◌^◌, ℕ, true, List
 ghost use Rattle.ocr_check.specs.Check.{FailsNowhere, HasNamesake, BreaksNoRule, BreachLaw, is_among, main_name};
 ghost use Rattle.ocr_check.specs.Check.{names_of as names_in};
 ghost use Rattle.ocr_check.specs.Scope.{knows, IsStopOf};
-ghost use Rattle.ocr_body.specs.Built.{are_built};
-ghost use Rattle.ocr_body.specs.Rules.{are_functions_named, are_lists_short};
+ghost use Rattle.ocr_tree.specs.Built.{are_built};
+ghost use Rattle.ocr_tree.specs.Rules.{are_functions_named, are_lists_short};
 ghost use Rattle.ocr_body.specs.Checked.{checked_tree};
-ghost use Rattle.ocr_body.specs.View.{functions_of, tree_of};
+ghost use Rattle.ocr_tree.specs.View.{functions_of, tree_of};
 
 use crate::scope::walk_function;
-use ocr_body::{Checked, Function, Program};
-use ocr_guid::NoMemory;
+use ocr_body::Checked;
+use ocr_tree::{Function, Program};
+use ocr_base::NoMemory;
 use std::alloc::{AllocFailed, Global};
 use std::collections::BTreeSet;
 

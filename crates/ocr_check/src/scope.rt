@@ -2,16 +2,16 @@
 ghost use Rattle.std.specs.Prelude.{◌≡◌, ◌&&◌, ℕ, List, None, IfErr, OnOk};
 ghost use Rattle.ocr_check.specs.Check.{Used, FunctionNamed};
 ghost use Rattle.ocr_check.specs.declared.scope.ListKind.TheVariants.{Parameters, Dependences};
-ghost use Rattle.ocr_body.specs.declared.tree.CallName.TheVariants.{EdtCreate};
+ghost use Rattle.ocr_tree.specs.declared.tree.CallName.TheVariants.{EdtCreate};
 ghost use Rattle.ocr_check.specs.Check.{is_among as among, is_built as built};
 ghost use Rattle.ocr_check.specs.Checking.{event_rule, expression_rule, arguments_rule, call_rule, let_rule, with_name, nothing_kept, Passed, leaving, statement_outcome, statements_outcome, function_rule};
 ghost use Rattle.ocr_check.specs.Scope.{texts, known_in, declared_in, kept_in, knows, members_rule, assign_rule, IsFaultIn, IsStopIn, IsStopAt, IsSameFunction};
-ghost use Rattle.ocr_body.specs.Tree.{Let};
-ghost use Rattle.ocr_body.specs.Built.{is_none};
-ghost use Rattle.ocr_body.specs.View.{expression_of, name_of, arguments_of, members_of, output_of, statement_of, statements_of, function_of};
+ghost use Rattle.ocr_tree.specs.Tree.{Let};
+ghost use Rattle.ocr_tree.specs.Built.{is_none};
+ghost use Rattle.ocr_tree.specs.View.{expression_of, name_of, arguments_of, members_of, output_of, statement_of, statements_of, function_of};
 
 use crate::rules::{CheckFault, CheckStop};
-use ocr_body::{Expr, Function, Invoke, Name, Stmt};
+use ocr_tree::{Expr, Function, Invoke, Name, Stmt};
 use std::alloc::Global;
 use std::collections::BTreeSet;
 

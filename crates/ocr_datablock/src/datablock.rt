@@ -8,7 +8,8 @@ ghost use Rattle.ocr_datablock.specs.Block.{state_of, names, mode_in, without, f
 
 use crate::loan::Lent;
 use ocr_acquire::{Mode, fits};
-use ocr_guid::{Guid, NoMemory};
+use ocr_base::NoMemory;
+use ocr_guid::Guid;
 use std::alloc::Global;
 use std::marker::Model;
 

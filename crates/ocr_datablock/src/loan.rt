@@ -5,7 +5,7 @@ ghost use Rattle.ocr_acquire.specs.declared.Mode.TheVariants.{Ew};
 ghost use Rattle.ocr_datablock.specs.Lent.{IsRising, StoredLaw, ListingLaw, WritesLaw, WordLaw, loan_of, put, written, words_in, stored, with_list, is_exclusive};
 
 use ocr_acquire::Mode;
-use ocr_guid::NoMemory;
+use ocr_base::NoMemory;
 use std::alloc::Global;
 use std::collections::BTreeMap;
 use std::marker::Model;

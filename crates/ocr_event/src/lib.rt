@@ -5,8 +5,8 @@ ghost use Rattle.std.specs.Prelude.{◌≡◌, ◌↔◌, ℕ, ◌&&◌, not, []
 ghost use Rattle.ocr_event.specs.Event.{state_of, is_unwanted, is_welcome, is_fired_sticky, is_fired_idem, refusal, satisfied, on_satisfy, linked, on_link, doomed, on_destroy, RefusalLaw, SatisfyLaw, LinkLaw, DestroyLaw, DestroyedLaw, DeliveryLaw};
 
 use ocr_guid::target::{Linked, Satisfied, Target};
-use ocr_guid::{Code, Guid, NoMemory};
-use ocr_list::Seq;
+use ocr_guid::{Code, Guid};
+use ocr_base::{NoMemory, Seq};
 use std::alloc::Global;
 use std::marker::Model;
 

@@ -1,9 +1,9 @@
 -- The tally counts the tokens of an expression, one by one.
 use Rattle.std.proofs.Common.{◌≡◌, ◌+◌, ℕ, List, [], ◌∷◌, ◌++◌, length, Some, refl, sym, ap, ◌∙◌, arith, append_assoc, length-append}
-use Rattle.ocr_body.specs.declared.tree.BinaryOp.TheVariants as binary
-use Rattle.ocr_body.specs.declared.tree.UnaryOp.{UnaryOp}
-use Rattle.ocr_body.specs.declared.tree.UnaryOp.TheVariants as unary
-use Rattle.ocr_body.specs.Tree.{Expression, Arguments}
+use Rattle.ocr_tree.specs.declared.tree.BinaryOp.TheVariants as binary
+use Rattle.ocr_tree.specs.declared.tree.UnaryOp.{UnaryOp}
+use Rattle.ocr_tree.specs.declared.tree.UnaryOp.TheVariants as unary
+use Rattle.ocr_tree.specs.Tree.{Expression, Arguments}
 use Rattle.ocr_grammar.specs.declared.lexeme.Lexeme.{Lexeme}
 use Rattle.ocr_grammar.specs.declared.lexeme.Lexeme.TheVariants as lexeme
 use Rattle.ocr_grammar.specs.declared.lexeme.Word.TheVariants as word

@@ -1,11 +1,11 @@
 -- What is written for a reserved name or an operator is read as that.
 use Rattle.std.proofs.Common.{◌≡◌, Some, refl}
-use Rattle.ocr_body.specs.declared.tree.BinaryOp.{BinaryOp}
-use Rattle.ocr_body.specs.declared.tree.BinaryOp.TheVariants as binary
-use Rattle.ocr_body.specs.declared.tree.CallName.{CallName}
-use Rattle.ocr_body.specs.declared.tree.CallName.TheVariants as name
-use Rattle.ocr_body.specs.declared.tree.Constant as of_constant
-use Rattle.ocr_body.specs.declared.tree.Constant.TheVariants as constant
+use Rattle.ocr_tree.specs.declared.tree.BinaryOp.{BinaryOp}
+use Rattle.ocr_tree.specs.declared.tree.BinaryOp.TheVariants as binary
+use Rattle.ocr_tree.specs.declared.tree.CallName.{CallName}
+use Rattle.ocr_tree.specs.declared.tree.CallName.TheVariants as name
+use Rattle.ocr_tree.specs.declared.tree.Constant as of_constant
+use Rattle.ocr_tree.specs.declared.tree.Constant.TheVariants as constant
 use Rattle.ocr_grammar.specs.declared.lexeme.Lexeme.TheVariants as lexeme
 use Rattle.ocr_grammar.specs.declared.lexeme.Word.{Word}
 use Rattle.ocr_grammar.specs.declared.lexeme.Word.TheVariants as word

@@ -1,13 +1,13 @@
 -- The grammar. Each relation leads from the tokens at a place to the tokens after what stands there.
 use Rattle.std.specs.Prelude.{◌+◌, ◌≤◌, ℕ, List, [], ◌∷◌, ◌++◌}
-use Rattle.ocr_body.specs.declared.tree.UnaryOp.{UnaryOp}
-use Rattle.ocr_body.specs.declared.tree.UnaryOp.TheVariants as unary
-use Rattle.ocr_body.specs.declared.tree.BinaryOp.{BinaryOp}
-use Rattle.ocr_body.specs.declared.tree.BinaryOp.TheVariants as binary
-use Rattle.ocr_body.specs.declared.tree.Constant as of_constant
-use Rattle.ocr_body.specs.declared.tree.CallName.{CallName}
-use Rattle.ocr_body.specs.Tree as tree
-use Rattle.ocr_body.specs.Tree.{Expression, Arguments, empty, value, list, named, Statement, Statements, nothing, statement, FunctionTree}
+use Rattle.ocr_tree.specs.declared.tree.UnaryOp.{UnaryOp}
+use Rattle.ocr_tree.specs.declared.tree.UnaryOp.TheVariants as unary
+use Rattle.ocr_tree.specs.declared.tree.BinaryOp.{BinaryOp}
+use Rattle.ocr_tree.specs.declared.tree.BinaryOp.TheVariants as binary
+use Rattle.ocr_tree.specs.declared.tree.Constant as of_constant
+use Rattle.ocr_tree.specs.declared.tree.CallName.{CallName}
+use Rattle.ocr_tree.specs.Tree as tree
+use Rattle.ocr_tree.specs.Tree.{Expression, Arguments, empty, value, list, named, Statement, Statements, nothing, statement, FunctionTree}
 use Rattle.ocr_grammar.specs.declared.lexeme.Lexeme.{Lexeme}
 use Rattle.ocr_grammar.specs.declared.lexeme.Lexeme.TheVariants as lexeme
 use Rattle.ocr_grammar.specs.declared.lexeme.Word.TheVariants as word

@@ -1,9 +1,9 @@
 -- Laws of the grammar and its limits.
 use Rattle.std.specs.Prelude.{◌≡◌, ◌+◌, ℕ, List, ◌++◌, Option, Some, None, length}
-use Rattle.ocr_body.specs.Tree.{Expression, Arguments}
-use Rattle.ocr_body.specs.declared.tree.BinaryOp.{BinaryOp}
-use Rattle.ocr_body.specs.declared.tree.CallName.{CallName}
-use Rattle.ocr_body.specs.declared.tree.Constant as of_constant
+use Rattle.ocr_tree.specs.Tree.{Expression, Arguments}
+use Rattle.ocr_tree.specs.declared.tree.BinaryOp.{BinaryOp}
+use Rattle.ocr_tree.specs.declared.tree.CallName.{CallName}
+use Rattle.ocr_tree.specs.declared.tree.Constant as of_constant
 use Rattle.ocr_grammar.specs.declared.lexeme.Lexeme.{Lexeme}
 use Rattle.ocr_grammar.specs.declared.lexeme.Lexeme.TheVariants as lexeme
 use Rattle.ocr_grammar.specs.declared.lexeme.Word.{Word}

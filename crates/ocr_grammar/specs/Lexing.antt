@@ -5,7 +5,7 @@ use Rattle.ocr_text.specs.declared.token.TokenKind.TheVariants as kind
 use Rattle.ocr_text.specs.declared.token.Token.{Token}
 use Rattle.ocr_text.specs.Forms.{value_of}
 use Rattle.ocr_text.specs.Tokens.{text_of}
-use Rattle.ocr_body.specs.Tree.{FunctionTree}
+use Rattle.ocr_tree.specs.Tree.{FunctionTree}
 use Rattle.ocr_grammar.specs.declared.lexeme.Lexeme.{Lexeme}
 use Rattle.ocr_grammar.specs.declared.lexeme.Lexeme.TheVariants as lexeme
 use Rattle.ocr_grammar.specs.Texts.{named, symbol}

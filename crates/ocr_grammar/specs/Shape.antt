@@ -1,7 +1,7 @@
 -- What stands between the round brackets of a call.
 use Rattle.std.specs.Prelude.{List, [], ◌∷◌}
-use Rattle.ocr_body.specs.declared.tree.CallName.{CallName}
-use Rattle.ocr_body.specs.declared.tree.CallName.TheVariants as name
+use Rattle.ocr_tree.specs.declared.tree.CallName.{CallName}
+use Rattle.ocr_tree.specs.declared.tree.CallName.TheVariants as name
 use Rattle.ocr_grammar.specs.declared.slots.Slot.{Slot}
 use Rattle.ocr_grammar.specs.declared.slots.Slot.TheVariants.{Value, Values, Named, Flags}
 

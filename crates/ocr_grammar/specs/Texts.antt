@@ -1,12 +1,12 @@
 -- How tokens are written.
 use Rattle.std.specs.Prelude.{ℕ, List, [], ◌∷◌, Bool, Option, Some, None, ◌==◌, if◌then◌else◌, codes, find, nat_eq}
 use Rattle.std.specs.Cmp.Lexicographic.{pointwise}
-use Rattle.ocr_body.specs.declared.tree.BinaryOp.{BinaryOp}
-use Rattle.ocr_body.specs.declared.tree.BinaryOp.TheVariants as binary
-use Rattle.ocr_body.specs.declared.tree.CallName.{CallName}
-use Rattle.ocr_body.specs.declared.tree.CallName.TheVariants as name
-use Rattle.ocr_body.specs.declared.tree.Constant as of_constant
-use Rattle.ocr_body.specs.declared.tree.Constant.TheVariants as constant
+use Rattle.ocr_tree.specs.declared.tree.BinaryOp.{BinaryOp}
+use Rattle.ocr_tree.specs.declared.tree.BinaryOp.TheVariants as binary
+use Rattle.ocr_tree.specs.declared.tree.CallName.{CallName}
+use Rattle.ocr_tree.specs.declared.tree.CallName.TheVariants as name
+use Rattle.ocr_tree.specs.declared.tree.Constant as of_constant
+use Rattle.ocr_tree.specs.declared.tree.Constant.TheVariants as constant
 use Rattle.ocr_grammar.specs.declared.lexeme.Lexeme.{Lexeme}
 use Rattle.ocr_grammar.specs.declared.lexeme.Lexeme.TheVariants as lexeme
 use Rattle.ocr_grammar.specs.declared.lexeme.Word.{Word}

@@ -1,5 +1,5 @@
 // What a token is to the grammar.
-use ocr_body::{BinaryOp, CallName, Constant, Name};
+use ocr_tree::{BinaryOp, CallName, Constant, Name};
 
 /// The reserved names that are neither a call nor a constant.
 #[derive(Clone, Copy, PartialEq, Eq, Debug)]

@@ -2,7 +2,7 @@
 ghost use Rattle.std.specs.Prelude.{◌≡◌};
 ghost use Rattle.ocr_grammar.specs.Shape as spec;
 
-use ocr_body::CallName;
+use ocr_tree::CallName;
 
 /// What stands at one place of a call's arguments.
 #[derive(Clone, Copy, PartialEq, Eq, Debug)]

@@ -3,7 +3,7 @@ ghost use Rattle.std.specs.Prelude.{◌≡◌, IfOk};
 ghost use Rattle.ocr_grammar.specs.Texts as texts;
 
 use crate::lexeme::{Lexeme, Word};
-use ocr_body::{BinaryOp, CallName, Constant, Name};
+use ocr_tree::{BinaryOp, CallName, Constant, Name};
 use std::alloc::{AllocError, Global};
 
 const WORDS: [Word; 12] = [

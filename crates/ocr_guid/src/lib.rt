@@ -74,7 +74,3 @@ impl Code {
         }
     }
 }
-
-/// Memory was refused.
-#[derive(Clone, Copy, PartialEq, Eq, Debug)]
-pub struct NoMemory;

@@ -1,6 +1,6 @@
 // What events send to, and what they answer.
 use crate::{Code, Guid};
-use ocr_list::Seq;
+use ocr_base::Seq;
 
 /// What a satisfied event reaches: a slot of an EDT or of another event.
 #[derive(Clone, Copy, PartialEq, Eq, Debug)]

@@ -5,8 +5,8 @@ ghost use Rattle.std.specs.Prelude.{◌≡◌, ◌↔◌, ◌+◌, ◌-◌, ◌^
 ghost use Rattle.ocr_latch.specs.Latch.{state_of, is_unwanted, is_welcome, refusal, satisfied, on_satisfy, linked, on_link, doomed, on_destroy, RefusalLaw, SatisfyLaw, DropLaw, LinkLaw, DestroyLaw, DestroyedLaw, DeliveryLaw};
 
 use ocr_guid::target::{Linked, Satisfied, Target};
-use ocr_guid::{Code, Guid, NoMemory};
-use ocr_list::Seq;
+use ocr_guid::{Code, Guid};
+use ocr_base::{NoMemory, Seq};
 use std::alloc::Global;
 use std::marker::Model;
 

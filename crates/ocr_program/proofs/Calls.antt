@@ -1,11 +1,11 @@
 -- The calls that are being read, in memory.
 use Rattle.std.proofs.Common.{◌≡◌, ◌+◌, ℕ, List, [], ◌∷◌, ◌++◌, Option, Some, None, true, length, drop, refl, sym, ap, subst, ◌∙◌, Vec, Global}
 use Rattle.std.specs.List.{slice_get}
-use Rattle.ocr_body.specs.declared.tree.CallName.{CallName}
-use Rattle.ocr_body.specs.declared.tree.BinaryOp.{BinaryOp}
-use Rattle.ocr_body.specs.declared.tree.Expr.{Expr}
-use Rattle.ocr_body.specs.View.{expression_of, members_of}
-use Rattle.ocr_body.specs.Tree.{Expression, Arguments, empty, value, list, named}
+use Rattle.ocr_tree.specs.declared.tree.CallName.{CallName}
+use Rattle.ocr_tree.specs.declared.tree.BinaryOp.{BinaryOp}
+use Rattle.ocr_tree.specs.declared.tree.Expr.{Expr}
+use Rattle.ocr_tree.specs.View.{expression_of, members_of}
+use Rattle.ocr_tree.specs.Tree.{Expression, Arguments, empty, value, list, named}
 use Rattle.ocr_grammar.specs.declared.lexeme.Lexeme.{Lexeme}
 use Rattle.ocr_grammar.specs.Grammar.{level}
 use Rattle.ocr_grammar.specs.declared.slots.Slot.{Slot}

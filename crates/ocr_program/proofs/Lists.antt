@@ -1,13 +1,13 @@
 -- Lists in memory whose last element is the nearest.
 use Rattle.std.proofs.Common.{◌≡◌, ℕ, List, [], ◌∷◌, ◌++◌, Option, Some, None, length, drop, suc, zero, refl, sym, ap, ◌∙◌}
 use Rattle.std.specs.List.{slice_get}
-use Rattle.ocr_body.specs.declared.tree.CallName.{CallName}
-use Rattle.ocr_body.specs.declared.tree.Function.{Function}
-use Rattle.ocr_body.specs.declared.tree.Stmt.{Stmt}
-use Rattle.ocr_body.specs.declared.tree.Expr.{Expr}
-use Rattle.ocr_body.specs.Tree as tree
-use Rattle.ocr_body.specs.Tree.{Arguments, empty, value, list, named}
-use Rattle.ocr_body.specs.View.{expression_of, members_of, statement_of, statements_of, function_of, functions_of}
+use Rattle.ocr_tree.specs.declared.tree.CallName.{CallName}
+use Rattle.ocr_tree.specs.declared.tree.Function.{Function}
+use Rattle.ocr_tree.specs.declared.tree.Stmt.{Stmt}
+use Rattle.ocr_tree.specs.declared.tree.Expr.{Expr}
+use Rattle.ocr_tree.specs.Tree as tree
+use Rattle.ocr_tree.specs.Tree.{Arguments, empty, value, list, named}
+use Rattle.ocr_tree.specs.View.{expression_of, members_of, statement_of, statements_of, function_of, functions_of}
 use Rattle.ocr_grammar.specs.declared.slots.Slot.{Slot}
 use Rattle.ocr_grammar.specs.Shape.{shape}
 use Rattle.ocr_program.specs.Joined.{with, ended_by}

@@ -1,12 +1,12 @@
 -- What comes where a block may be chosen, and where a list begins.
 use Rattle.std.proofs.Common.{◌≡◌, ℕ, List, [], Option, Some, None, Result, Ok, Err, IfOk, true, false, refl, ap, ◌∙◌, Vec, Global}
 use Rattle.std.specs.declared.alloc.AllocError.{AllocError}
-use Rattle.ocr_body.specs.declared.tree.CallName.{CallName}
-use Rattle.ocr_body.specs.declared.tree.Expr.{Expr}
-use Rattle.ocr_body.specs.declared.tree.Function.{Function}
-use Rattle.ocr_body.specs.View.{members_of}
-use Rattle.ocr_body.specs.Tree as tree
-use Rattle.ocr_body.specs.Tree.{Expression, Arguments, Statements, FunctionTree, empty, list, nothing}
+use Rattle.ocr_tree.specs.declared.tree.CallName.{CallName}
+use Rattle.ocr_tree.specs.declared.tree.Expr.{Expr}
+use Rattle.ocr_tree.specs.declared.tree.Function.{Function}
+use Rattle.ocr_tree.specs.View.{members_of}
+use Rattle.ocr_tree.specs.Tree as tree
+use Rattle.ocr_tree.specs.Tree.{Expression, Arguments, Statements, FunctionTree, empty, list, nothing}
 use Rattle.ocr_grammar.specs.declared.lexeme.Lexeme.{Lexeme}
 use Rattle.ocr_grammar.specs.declared.lexeme.Lexeme.TheVariants as lexeme
 use Rattle.ocr_grammar.specs.declared.lexeme.Word.TheVariants as word

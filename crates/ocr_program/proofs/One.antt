@@ -4,9 +4,9 @@ use Rattle.std.proofs.lemmas.Bool.{cases_lt}
 use Rattle.std.proofs.lemmas.List.{take-append-drop}
 use Rattle.std.specs.Prelude.{Result, Ok, Err}
 use Rattle.ocr_text.specs.declared.token.Token.{Token}
-use Rattle.ocr_body.specs.declared.tree.Program.{Program}
-use Rattle.ocr_body.specs.Tree.{FunctionTree}
-use Rattle.ocr_body.specs.View.{tree_of}
+use Rattle.ocr_tree.specs.declared.tree.Program.{Program}
+use Rattle.ocr_tree.specs.Tree.{FunctionTree}
+use Rattle.ocr_tree.specs.View.{tree_of}
 use Rattle.ocr_grammar.specs.declared.lexeme.Lexeme.{Lexeme}
 use Rattle.ocr_grammar.specs.Grammar.{IsProgram, GoesOn}
 use Rattle.ocr_grammar.specs.Limits.{IsOver}

@@ -4,7 +4,7 @@ use Rattle.std.proofs.lemmas.Bool.{cases_lt}
 use Rattle.std.proofs.lemmas.List.{take_more, take_all, take-append-drop}
 use Rattle.ocr_text.specs.declared.token.Token.{Token}
 use Rattle.ocr_text.specs.Tokens.{IsToken, Tile, AreTokens}
-use Rattle.ocr_body.specs.Tree.{FunctionTree}
+use Rattle.ocr_tree.specs.Tree.{FunctionTree}
 use Rattle.ocr_grammar.specs.declared.lexeme.Lexeme.{Lexeme}
 use Rattle.ocr_grammar.specs.Grammar.{IsProgram, GoesOn}
 use Rattle.ocr_grammar.specs.Limits.{Tally, tally, tallied, nothing_read, is_over, IsOver}

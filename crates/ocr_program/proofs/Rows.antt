@@ -1,13 +1,13 @@
 -- The statements of a block, and the members of a list, in memory.
 use Rattle.std.proofs.Common.{◌≡◌, refl, ap, ◌∙◌, Vec, Global, Option, Some, None}
-use Rattle.ocr_body.specs.Tree as tree
-use Rattle.ocr_body.specs.View.{statement_of, statements_of, row_statements, expression_of, row_arguments, members_of}
-use Rattle.ocr_body.specs.declared.tree.Stmt.{Stmt, Row_of-Stmt, end_of-Stmt, more_of-Stmt}
-use Rattle.ocr_body.specs.declared.tree.Expr.{Expr}
-use Rattle.ocr_body.specs.declared.tree.Invoke.{Row_of-Expr, end_of-Expr, more_of-Expr}
-use Rattle.ocr_body.specs.declared.tree.Expr.TheBlock.{items-the_row-Expr, hidden-the_row-Expr-0, items_hidden-the_row-Expr-0}
-use Rattle.ocr_body.specs.declared.tree.Stmt.TheViews as views
-use Rattle.ocr_body.specs.declared.tree.Stmt.TheBlock.{items-the_row-Stmt, hidden-the_row-Stmt-0, items_hidden-the_row-Stmt-0}
+use Rattle.ocr_tree.specs.Tree as tree
+use Rattle.ocr_tree.specs.View.{statement_of, statements_of, row_statements, expression_of, row_arguments, members_of}
+use Rattle.ocr_tree.specs.declared.tree.Stmt.{Stmt, Row_of-Stmt, end_of-Stmt, more_of-Stmt}
+use Rattle.ocr_tree.specs.declared.tree.Expr.{Expr}
+use Rattle.ocr_tree.specs.declared.tree.Invoke.{Row_of-Expr, end_of-Expr, more_of-Expr}
+use Rattle.ocr_tree.specs.declared.tree.Expr.TheBlock.{items-the_row-Expr, hidden-the_row-Expr-0, items_hidden-the_row-Expr-0}
+use Rattle.ocr_tree.specs.declared.tree.Stmt.TheViews as views
+use Rattle.ocr_tree.specs.declared.tree.Stmt.TheBlock.{items-the_row-Stmt, hidden-the_row-Stmt-0, items_hidden-the_row-Stmt-0}
 
 pub row_is_items : (n : _) (row : Row_of-Stmt n) → row_statements row ≡ statements_of (items-the_row-Stmt n row)
 row_is_items n end_of-Stmt = refl

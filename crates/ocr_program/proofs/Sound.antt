@@ -3,12 +3,12 @@ use Rattle.std.proofs.Common.{◌≡◌, ◌+◌, ◌≤◌, ℕ, List, [], ◌�
 use Rattle.std.proofs.lemmas.Bool.{leb-true, cond_both}
 use Rattle.std.proofs.lemmas.Bool.Decides.{leb_tells}
 use Rattle.std.specs.Prelude.{nat_le}
-use Rattle.ocr_body.specs.declared.tree.BinaryOp.{BinaryOp}
-use Rattle.ocr_body.specs.declared.tree.BinaryOp.TheVariants as binary
-use Rattle.ocr_body.specs.declared.tree.UnaryOp.TheVariants as unary
-use Rattle.ocr_body.specs.declared.tree.CallName.{CallName}
-use Rattle.ocr_body.specs.Tree as tree
-use Rattle.ocr_body.specs.Tree.{Expression, Arguments, empty, value, list, named, Statement, Statements, nothing, FunctionTree}
+use Rattle.ocr_tree.specs.declared.tree.BinaryOp.{BinaryOp}
+use Rattle.ocr_tree.specs.declared.tree.BinaryOp.TheVariants as binary
+use Rattle.ocr_tree.specs.declared.tree.UnaryOp.TheVariants as unary
+use Rattle.ocr_tree.specs.declared.tree.CallName.{CallName}
+use Rattle.ocr_tree.specs.Tree as tree
+use Rattle.ocr_tree.specs.Tree.{Expression, Arguments, empty, value, list, named, Statement, Statements, nothing, FunctionTree}
 use Rattle.ocr_grammar.specs.declared.lexeme.Lexeme.{Lexeme}
 use Rattle.ocr_grammar.specs.declared.lexeme.Lexeme.TheVariants as lexeme
 use Rattle.ocr_grammar.specs.declared.lexeme.Word.TheVariants as word

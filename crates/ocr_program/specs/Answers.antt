@@ -1,9 +1,9 @@
 -- What parsing answers.
 use Rattle.std.specs.Prelude.{◌≡◌, ℕ, List, Result, Ok, Err}
 use Rattle.ocr_text.specs.declared.token.Token.{Token}
-use Rattle.ocr_body.specs.declared.tree.Program.{Program}
-use Rattle.ocr_body.specs.Tree.{FunctionTree}
-use Rattle.ocr_body.specs.View.{tree_of}
+use Rattle.ocr_tree.specs.declared.tree.Program.{Program}
+use Rattle.ocr_tree.specs.Tree.{FunctionTree}
+use Rattle.ocr_tree.specs.View.{tree_of}
 use Rattle.ocr_grammar.specs.Lexing.{IsTreeOf, IsSyntaxFault}
 use Rattle.ocr_program.specs.declared.parsing.SyntaxFault.{SyntaxFault}
 use Rattle.ocr_program.specs.declared.parsing.ParseStop.{ParseStop}

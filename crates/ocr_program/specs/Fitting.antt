@@ -1,7 +1,7 @@
 -- The arguments of each call so far fit its slots.
 use Rattle.std.specs.Prelude.{◌≡◌, ℕ, List, [], ◌∷◌, Bool, true, false, Option, Some, None}
-use Rattle.ocr_body.specs.declared.tree.CallName.{CallName}
-use Rattle.ocr_body.specs.Tree.{Expression, Arguments, empty, value, list, named}
+use Rattle.ocr_tree.specs.declared.tree.CallName.{CallName}
+use Rattle.ocr_tree.specs.Tree.{Expression, Arguments, empty, value, list, named}
 use Rattle.ocr_grammar.specs.declared.slots.Slot.{Slot}
 use Rattle.ocr_grammar.specs.declared.slots.Slot.TheVariants.{Value, Values, Named, Flags}
 use Rattle.ocr_grammar.specs.Shape.{shape}

@@ -1,6 +1,6 @@
 -- Arguments and statements one after another.
 use Rattle.std.specs.Prelude.{ℕ}
-use Rattle.ocr_body.specs.Tree.{Arguments, empty, value, list, named, Statement, Statements, nothing, statement}
+use Rattle.ocr_tree.specs.Tree.{Arguments, empty, value, list, named, Statement, Statements, nothing, statement}
 
 abbrev pub with : Arguments → Arguments → Arguments
 with empty after = after

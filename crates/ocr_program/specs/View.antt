@@ -1,11 +1,11 @@
 -- What was read, as the reading of tokens sees it.
 use Rattle.std.specs.Prelude.{◌≡◌, ℕ, List, [], ◌∷◌, map, drop, length, Option, Some, None}
-use Rattle.ocr_body.specs.declared.tree.CallName.{CallName}
-use Rattle.ocr_body.specs.declared.tree.Expr.{Expr}
-use Rattle.ocr_body.specs.declared.tree.Invoke.{Invoke}
-use Rattle.ocr_body.specs.Tree as tree
-use Rattle.ocr_body.specs.Tree.{Arguments, empty, value, list, named}
-use Rattle.ocr_body.specs.View.{name_of, expression_of, arguments_of, members_of, statements_of, functions_of}
+use Rattle.ocr_tree.specs.declared.tree.CallName.{CallName}
+use Rattle.ocr_tree.specs.declared.tree.Expr.{Expr}
+use Rattle.ocr_tree.specs.declared.tree.Invoke.{Invoke}
+use Rattle.ocr_tree.specs.Tree as tree
+use Rattle.ocr_tree.specs.Tree.{Arguments, empty, value, list, named}
+use Rattle.ocr_tree.specs.View.{name_of, expression_of, arguments_of, members_of, statements_of, functions_of}
 use Rattle.ocr_grammar.specs.declared.slots.Slot.{Slot}
 use Rattle.ocr_grammar.specs.Shape.{shape}
 use Rattle.ocr_program.specs.Joined.{with}

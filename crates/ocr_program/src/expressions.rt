@@ -1,9 +1,9 @@
 // Expressions: what begins one, what goes on with it, and what ends it.
 ghost use Rattle.std.specs.Prelude.{◌≡◌, ◌∷◌, IfOk, true, slice_get};
-ghost use Rattle.ocr_body.specs.View.{expression_of, members_of};
+ghost use Rattle.ocr_tree.specs.View.{expression_of, members_of};
 ghost use Rattle.ocr_grammar.specs.Grammar as grammar;
-ghost use Rattle.ocr_body.specs.Tree as tree;
-ghost use Rattle.ocr_body.specs.declared.tree.CallName.{CallName};
+ghost use Rattle.ocr_tree.specs.Tree as tree;
+ghost use Rattle.ocr_tree.specs.declared.tree.CallName.{CallName};
 ghost use Rattle.ocr_grammar.specs.Shape.{shape as slots_of};
 ghost use Rattle.ocr_grammar.specs.declared.slots.Slot.TheVariants.{Values};
 ghost use Rattle.ocr_program.specs.Joined.{with};
@@ -15,7 +15,7 @@ ghost use Rattle.ocr_program.specs.View.{IsPushed, given_of, slots_left, slots_a
 use crate::invoking::invoke;
 use crate::statements::whole;
 use crate::states::{Arg, Around, Here, Indexed, Purpose, Stack, State};
-use ocr_body::{BinaryOp, CallName, Expr, Name, UnaryOp};
+use ocr_tree::{BinaryOp, CallName, Expr, Name, UnaryOp};
 use ocr_grammar::{Lexeme, Slot, Word, shape};
 use std::alloc::{AllocError, Global};
 

@@ -1,14 +1,14 @@
 // Makes a call of its name and its arguments.
 ghost use Rattle.std.specs.Prelude.{◌≡◌, ◌∷◌, [], IfOk, true};
-ghost use Rattle.ocr_body.specs.Tree.{empty, value, list, named};
-ghost use Rattle.ocr_body.specs.View.{expression_of, members_of, output_of};
+ghost use Rattle.ocr_tree.specs.Tree.{empty, value, list, named};
+ghost use Rattle.ocr_tree.specs.View.{expression_of, members_of, output_of};
 ghost use Rattle.ocr_grammar.specs.Shape.{shape};
 ghost use Rattle.ocr_grammar.specs.declared.slots.Slot.TheVariants as slot;
 ghost use Rattle.ocr_program.specs.Fitting.{fits};
 ghost use Rattle.ocr_program.specs.View.{given_of, in_order, argument_onto, Invokes};
 
 use crate::states::Arg;
-use ocr_body::{CallName, Expr, Invoke, Name};
+use ocr_tree::{CallName, Expr, Invoke, Name};
 use std::alloc::{AllocError, Global};
 
 /// The arguments of a call in their order.

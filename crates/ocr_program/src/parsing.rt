@@ -1,7 +1,7 @@
 // Reads the tokens of a text to its program, one by one.
 ghost use Rattle.std.specs.Prelude.{◌≡◌, ℕ, List, IfOk, option_map};
-ghost use Rattle.ocr_body.specs.Tree.{FunctionTree};
-ghost use Rattle.ocr_body.specs.View.{tree_of};
+ghost use Rattle.ocr_tree.specs.Tree.{FunctionTree};
+ghost use Rattle.ocr_tree.specs.View.{tree_of};
 ghost use Rattle.ocr_text.specs.Tokens.{AreTokens};
 ghost use Rattle.ocr_grammar.specs.Lexing.{IsTreeOf, IsSyntaxFault};
 ghost use Rattle.ocr_program.specs.Answers.{Answers, IsFaultOrNoMemory, IsTreeOrNoMemory};
@@ -11,7 +11,7 @@ ghost use Rattle.ocr_program.specs.View.{state_of};
 use crate::limits::{Tally, is_over, tallied};
 use crate::states::State;
 use crate::steps::step;
-use ocr_body::Program;
+use ocr_tree::Program;
 use ocr_grammar::read_token;
 use ocr_text::Token;
 use std::alloc::{AllocError, Global};

@@ -1,13 +1,13 @@
 // Statements, blocks and functions.
 ghost use Rattle.std.specs.Prelude.{◌≡◌, IfOk};
-ghost use Rattle.ocr_body.specs.Tree as tree;
-ghost use Rattle.ocr_body.specs.View.{arguments_of, expression_of, name_of, statement_of, statements_of};
+ghost use Rattle.ocr_tree.specs.Tree as tree;
+ghost use Rattle.ocr_tree.specs.View.{arguments_of, expression_of, name_of, statement_of, statements_of};
 ghost use Rattle.ocr_program.specs.Machine as machine;
 ghost use Rattle.ocr_program.specs.Marks.{is_else};
 ghost use Rattle.ocr_program.specs.View.{here_of, kind_of, purpose_of, state_of, seen, ended_at};
 
 use crate::states::{Around, Here, Kind, Outer, Purpose, Stack, State};
-use ocr_body::{Expr, Function, Invoke, Stmt};
+use ocr_tree::{Expr, Function, Invoke, Stmt};
 use ocr_grammar::{Lexeme, Word};
 use std::alloc::{AllocError, Global};
 

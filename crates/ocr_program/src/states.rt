@@ -1,5 +1,5 @@
 // What was read of the tokens so far.
-use ocr_body::{BinaryOp, CallName, Expr, Function, Invoke, Name, Stmt, UnaryOp};
+use ocr_tree::{BinaryOp, CallName, Expr, Function, Invoke, Name, Stmt, UnaryOp};
 
 /// What an outermost expression is for.
 #[derive(Drop)]

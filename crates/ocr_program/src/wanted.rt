@@ -1,12 +1,12 @@
 // The steps where one token alone goes on.
 ghost use Rattle.std.specs.Prelude.{◌≡◌, IfOk};
-ghost use Rattle.ocr_body.specs.View.{expression_of, functions_of, statements_of};
+ghost use Rattle.ocr_tree.specs.View.{expression_of, functions_of, statements_of};
 ghost use Rattle.ocr_program.specs.Machine as machine;
 ghost use Rattle.ocr_program.specs.View.{given_of, slots_after, stack_of, around_of, here_of, indexed_of, state_of, seen};
 
 use crate::expressions::{argument, with_name};
 use crate::states::{Arg, Around, Here, Indexed, Purpose, Stack, State};
-use ocr_body::{BinaryOp, CallName, Function, Name};
+use ocr_tree::{BinaryOp, CallName, Function, Name};
 use ocr_grammar::{Lexeme, Word};
 use std::alloc::{AllocError, Global};
 

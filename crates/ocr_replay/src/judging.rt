@@ -9,7 +9,8 @@ ghost use Rattle.ocr_replay.specs.Judging.{Whether, runs, IsSaidIn, IsWrong, IsS
 
 use crate::linking::Links;
 use ocr_body::{Answer, Api, BodyStop, Call, Checked, walk};
-use ocr_guid::{Guid, NoMemory};
+use ocr_base::NoMemory;
+use ocr_guid::Guid;
 use ocr_machine::{Entry, Fault, Journal, Stop};
 use std::alloc::Global;
 

@@ -12,7 +12,8 @@ ghost use Rattle.ocr_replay.specs.Judging.{Whether};
 use ocr_acquire::Mode;
 use ocr_body::{Answer, Call};
 use ocr_edt::Edt;
-use ocr_guid::{Code, Guid, NoMemory};
+use ocr_base::NoMemory;
+use ocr_guid::{Code, Guid};
 use ocr_machine::{Entry, Part, Table, Writes};
 use std::alloc::Global;
 

@@ -4,7 +4,8 @@ ghost use Rattle.ocr_replay.specs.Judging.{runs};
 ghost use Rattle.ocr_replay.specs.Linking.{starts, IsLinkedFrom, IsLinked};
 
 use crate::judging::is_run_by;
-use ocr_guid::{Guid, NoMemory};
+use ocr_base::NoMemory;
+use ocr_guid::Guid;
 use ocr_machine::{Entry, Stop};
 use std::alloc::Global;
 

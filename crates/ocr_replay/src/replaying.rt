@@ -1,7 +1,7 @@
 // Goes through a journal, entry by entry.
 ghost use Rattle.std.specs.Prelude.{◌≡◌, ◌≤◌, ◌<◌, ◌+◌, ℕ, [], length, true, false, not, ◌&&◌, ◌==◌, take, slice_set, slice_index_or, map, vec_len, IfOk, IfErr};
 ghost use Rattle.ocr_body.specs.Checked.{checked_tree};
-ghost use Rattle.ocr_body.specs.Serving.{number_of_main};
+ghost use Rattle.ocr_tree.specs.Functions.{number_of_main};
 ghost use Rattle.ocr_machine.specs.Parts.{parts_of};
 ghost use Rattle.ocr_machine.specs.History.{Setting, own, history_of};
 ghost use Rattle.ocr_machine.specs.Legal.{is_stop, IsRun};
@@ -16,7 +16,8 @@ use crate::legality::is_legal_on;
 use crate::linking::{Links, link};
 use crate::stopping::{Front, has_room};
 use ocr_body::Checked;
-use ocr_guid::{Guid, NoMemory};
+use ocr_base::NoMemory;
+use ocr_guid::Guid;
 use ocr_machine::{Entry, Part, Stop, Table, number_of, opening};
 use ocr_slots::Slots;
 use std::alloc::Global;

@@ -15,7 +15,8 @@ use crate::linking::Links;
 use crate::replaying::{function_at, params_at, payloads_at, verdict_of};
 use crate::telling::{Next, fresh_number, next_of};
 use ocr_body::Checked;
-use ocr_guid::{Guid, NoMemory};
+use ocr_base::NoMemory;
+use ocr_guid::Guid;
 use ocr_machine::{Entry, Stop, Table};
 use std::alloc::Global;
 

@@ -15,7 +15,8 @@ use crate::judging::{FUEL, same_call};
 use crate::legality::is_fresh;
 use crate::linking::Links;
 use ocr_body::{Answer, Api, BodyStop, Call, Checked, walk};
-use ocr_guid::{Code, Guid, NoMemory};
+use ocr_base::NoMemory;
+use ocr_guid::{Code, Guid};
 use ocr_machine::{Entry, Journal, Table};
 use std::alloc::Global;
 

@@ -1,11 +1,12 @@
 // Journals of a small program.
 ghost use Rattle.std.specs.Prelude.{◌≡◌, ◌<◌, ◌+◌, ◌≤◌, ◌^◌, length, true, IfOk};
-ghost use Rattle.ocr_body.specs.Built.{are_built};
-ghost use Rattle.ocr_body.specs.Serving.{number_of_main};
-ghost use Rattle.ocr_body.specs.View.{tree_of};
+ghost use Rattle.ocr_tree.specs.Built.{are_built};
+ghost use Rattle.ocr_tree.specs.Functions.{number_of_main};
+ghost use Rattle.ocr_tree.specs.View.{tree_of};
 
 use crate::{ReplayStop, replay};
-use ocr_body::{Answer, Call, Checked, Expr, Function, Name, Program, Stmt};
+use ocr_body::{Answer, Call, Checked};
+use ocr_tree::{Expr, Function, Name, Program, Stmt};
 use ocr_guid::{Code, Guid};
 use ocr_machine::{Entry, Stop, Writes};
 use std::alloc::Global;

@@ -8,7 +8,7 @@ use Rattle.ocr_guid.specs.declared.Code.TheVariants as code
 use Rattle.ocr_slots.specs.Slots as slot
 use Rattle.ocr_datablock.specs.Block as block
 use Rattle.ocr_edt.specs.Edt as edt
-use Rattle.ocr_body.specs.Tree.{FunctionTree}
+use Rattle.ocr_tree.specs.Tree.{FunctionTree}
 use Rattle.ocr_body.specs.Behaviour.{Behaviour, Ends, Stops, Asks, NotBuilt, IsNext}
 use Rattle.ocr_body.specs.Laws.{IsSaid, IsServed, IsOfBuilt}
 use Rattle.ocr_body.specs.Serving.{StoppedBy, by_closing, by_memory, by_body, Rose}

@@ -1,7 +1,7 @@
 -- The number of `mainEdt` in a program that has it.
 use Rattle.std.proofs.Common.{◌≡◌, ◌≤◌, ◌<◌, ◌+◌, ℕ, List, [], ◌∷◌, Bool, true, false, if◌then◌else◌, bytes_eq, length, arith}
-use Rattle.ocr_body.specs.Tree.{FunctionTree}
-use Rattle.ocr_body.specs.Serving.{number_named, number_of_main}
+use Rattle.ocr_tree.specs.Tree.{FunctionTree}
+use Rattle.ocr_tree.specs.Functions.{number_named, number_of_main}
 use Rattle.ocr_check.specs.Check.{is_among, names_of, main_name}
 use Rattle.ocr_check.proofs.Built.{named_within}
 

@@ -6,8 +6,8 @@ use Rattle.std.proofs.lemmas.Bool.{eqb-true}
 use Rattle.std.proofs.lemmas.List.Elements.{All-cons}
 use Rattle.std.specs.Prelude.{bytes_eq, codes, IfSome, IfNone}
 use Rattle.ocr_edt.specs.Edt as edt
-use Rattle.ocr_body.specs.Tree.{FunctionTree}
-use Rattle.ocr_body.specs.Serving.{number_named, number_of_main}
+use Rattle.ocr_tree.specs.Tree.{FunctionTree}
+use Rattle.ocr_tree.specs.Functions.{number_named, number_of_main}
 use Rattle.ocr_machine.specs.declared.part.Core.{Core}
 use Rattle.ocr_machine.specs.declared.part.Part.{Part}
 use Rattle.ocr_machine.specs.declared.part.Part.TheVariants as part

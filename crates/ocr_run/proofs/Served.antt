@@ -3,7 +3,7 @@ use Rattle.std.proofs.Common.{◌≡◌, ◌⊎◌, inl, inr, ℕ, ◌+◌, ◌<
 use Rattle.std.proofs.lemmas.Bool.{eqb-true}
 use Rattle.ocr_guid.specs.declared.Code.{Code}
 use Rattle.ocr_edt.specs.Edt as edt
-use Rattle.ocr_body.specs.Tree.{FunctionTree}
+use Rattle.ocr_tree.specs.Tree.{FunctionTree}
 use Rattle.ocr_body.specs.Behaviour.{Behaviour, IsNext}
 use Rattle.ocr_body.specs.Laws.{IsSaid}
 use Rattle.ocr_body.specs.Serving.{Body, says, StoppedBy, Rose}

@@ -3,7 +3,7 @@ use Rattle.std.proofs.Common.{◌≡◌, ℕ, List, sym, ap, subst}
 use Rattle.ocr_text.specs.Tokens.{AreTokens}
 use Rattle.ocr_text.proofs.Laws.{tokens_law}
 use Rattle.ocr_text.specs.declared.token.Token.{Token}
-use Rattle.ocr_body.specs.Tree.{FunctionTree}
+use Rattle.ocr_tree.specs.Tree.{FunctionTree}
 use Rattle.ocr_grammar.specs.Lexing.{IsTreeOf, IsSyntaxFault}
 use Rattle.ocr_program.proofs.One as parsing
 use Rattle.ocr_check.specs.Check.{IsBreach, BreaksNoRule}

@@ -11,7 +11,7 @@ use Rattle.ocr_datablock.specs.Block as block
 use Rattle.ocr_edt.specs.declared.Edt.{Edt}
 use Rattle.ocr_edt.specs.declared.Edt.TheVariants as phase
 use Rattle.ocr_edt.specs.Edt as edt
-use Rattle.ocr_body.specs.Tree.{FunctionTree}
+use Rattle.ocr_tree.specs.Tree.{FunctionTree}
 use Rattle.ocr_body.specs.Behaviour.{Ends}
 use Rattle.ocr_body.specs.declared.call.Call.TheVariants as call
 use Rattle.ocr_machine.specs.declared.entry.Entry.{Entry}

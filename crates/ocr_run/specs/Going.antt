@@ -1,7 +1,7 @@
 -- A run by one worker that goes on: it runs each EDT to its end, in the order in which they were made.
 use Rattle.std.specs.Prelude.{◌≡◌, ◌≤◌, ◌<◌, ℕ, List, [], ◌∷◌, length, true, false, Option, Some, None, is_some}
 use Rattle.ocr_acquire.specs.declared.Mode.TheVariants as mode
-use Rattle.ocr_body.specs.Tree.{FunctionTree}
+use Rattle.ocr_tree.specs.Tree.{FunctionTree}
 use Rattle.ocr_machine.specs.declared.entry.Entry.{Entry}
 use Rattle.ocr_machine.specs.declared.entry.Entry.TheVariants.{Acquire, Start, Free, End, Stop}
 use Rattle.ocr_body.specs.declared.call.BodyStop.{BodyStop}

@@ -2,7 +2,7 @@
 use Rattle.std.specs.Prelude.{◌≡◌, ◌≤◌, ℕ, List, length}
 use Rattle.ocr_text.specs.Tokens.{AreTokens, IsFault}
 use Rattle.ocr_text.specs.declared.token.Token.{Token}
-use Rattle.ocr_body.specs.Tree.{FunctionTree}
+use Rattle.ocr_tree.specs.Tree.{FunctionTree}
 use Rattle.ocr_grammar.specs.Lexing.{IsTreeOf, IsSyntaxFault}
 use Rattle.ocr_check.specs.Check.{IsBreach, BreaksNoRule}
 use Rattle.ocr_check.specs.declared.rules.CheckFault.{CheckFault}

@@ -1,9 +1,9 @@
 -- The run of a program by one worker.
 use Rattle.std.specs.Prelude.{◌≡◌, ◌⊎◌, ◌≤◌, ℕ, List, [], length, true}
-use Rattle.ocr_body.specs.Tree.{FunctionTree}
-use Rattle.ocr_body.specs.Built.{are_built}
-use Rattle.ocr_body.specs.Rules.{are_functions_named, are_lists_short}
-use Rattle.ocr_body.specs.Serving.{number_of_main}
+use Rattle.ocr_tree.specs.Tree.{FunctionTree}
+use Rattle.ocr_tree.specs.Built.{are_built}
+use Rattle.ocr_tree.specs.Rules.{are_functions_named, are_lists_short}
+use Rattle.ocr_tree.specs.Functions.{number_of_main}
 use Rattle.ocr_machine.specs.History.{History, Setting, is_stopped}
 use Rattle.ocr_machine.specs.Legal.{IsQuiet}
 

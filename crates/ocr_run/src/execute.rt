@@ -10,7 +10,7 @@ use crate::lines::line_of_ending;
 use crate::output::output;
 use crate::text::{TextStop, program_of};
 use crate::worker::run;
-use ocr_guid::NoMemory;
+use ocr_base::NoMemory;
 use ocr_machine::Journal;
 use std::alloc::Global;
 

@@ -16,8 +16,8 @@ ghost use Rattle.ocr_run.specs.Serving.{GoesOn, MayStop};
 
 use crate::log::Log;
 use ocr_body::{Answer, Call, Checked};
-use ocr_guid::{Code, Guid, NoMemory};
-use ocr_list::Seq;
+use ocr_guid::{Code, Guid};
+use ocr_base::{NoMemory, Seq};
 use ocr_machine::{Core, Entry, Part, Stop, Table, Writes, number_of, opening, weight};
 use std::alloc::Global;
 

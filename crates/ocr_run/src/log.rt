@@ -1,7 +1,7 @@
 // The entries of a run that goes on.
 ghost use Rattle.std.specs.Prelude.{◌≡◌, ◌<◌, ◌+◌, ◌++◌, ◌∷◌, [], vec_len, vec_capacity, IfOk, OnOk};
 
-use ocr_guid::NoMemory;
+use ocr_base::NoMemory;
 use ocr_machine::{Entry, Journal, Stop};
 use std::alloc::Global;
 

@@ -1,13 +1,14 @@
 // The program that a task text is.
 ghost use Rattle.std.specs.Prelude.{◌≡◌, ◌≤◌, IfOk, IfErr, length};
 ghost use Rattle.ocr_text.specs.Tokens.{AreTokens};
-ghost use Rattle.ocr_body.specs.View.{tree_of};
+ghost use Rattle.ocr_tree.specs.View.{tree_of};
 ghost use Rattle.ocr_body.specs.Checked.{checked_tree};
 ghost use Rattle.ocr_grammar.specs.Lexing.{IsTreeOf};
 ghost use Rattle.ocr_run.specs.UnderWay.{IsRunnable};
 ghost use Rattle.ocr_run.specs.ProgramText.{IsProgramText, IsTextStop, TextLaw, most_bytes};
 
-use ocr_body::{Checked, Program};
+use ocr_body::Checked;
+use ocr_tree::Program;
 use ocr_check::{CheckFault, CheckStop, check};
 use ocr_program::{ParseStop, SyntaxFault, parse};
 use ocr_text::{LexFault, Token, TokensStop, tokens};

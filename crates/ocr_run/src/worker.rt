@@ -18,7 +18,8 @@ use crate::ending::Ending;
 use crate::going::{ARGUMENTS, Going, LIMIT, MAIN_EDT};
 use crate::log::Log;
 use ocr_body::{BodyStop, Checked, walk};
-use ocr_guid::{Guid, NoMemory};
+use ocr_base::NoMemory;
+use ocr_guid::Guid;
 use ocr_machine::{Entry, Fault, Journal, Stop};
 use std::alloc::Global;
 

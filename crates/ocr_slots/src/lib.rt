@@ -5,7 +5,8 @@ ghost use Rattle.std.specs.Prelude.{◌≡◌, ◌<◌, ◌≤◌, [], ◌↔◌
 ghost use Rattle.ocr_slots.specs.Slots.{state_of, slot_at, linked_at, on_link, after_link, after_set, unset_in, LinkLaw, SetLaw, AnswerLaw, ReadLaw, SizeLaw, OpenLaw};
 
 use ocr_acquire::Mode;
-use ocr_guid::{Code, Guid, NoMemory};
+use ocr_base::NoMemory;
+use ocr_guid::{Code, Guid};
 use std::alloc::Global;
 use std::marker::Model;
 

@@ -1,7 +1,7 @@
 // The rules of arguments, which `check` does not come to while their calls are not built.
 use crate::rules::CheckFault;
 use crate::scope::Scope;
-use ocr_body::{Expr, Invoke, Name};
+use ocr_tree::{Expr, Invoke, Name};
 use std::alloc::{AllocError, Global};
 use std::collections::BTreeSet;
 use std::test::Fail;

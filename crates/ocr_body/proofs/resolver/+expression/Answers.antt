@@ -1,10 +1,10 @@
 use Rattle.std.proofs.Common.{◌≡◌, ◌<◌, ◌-◌, refl, ap, sym, ◌∙◌, length, drop, rules, arith}
-use Rattle.ocr_body.specs.Tree as tree
+use Rattle.ocr_tree.specs.Tree as tree
 use Rattle.ocr_body.specs.Resolved.{Grew}
-use Rattle.ocr_body.specs.Serving.{numbers_in, number_named}
-use Rattle.ocr_body.specs.View.{expression_of, name_of, arguments_of, members_of, functions_of}
+use Rattle.ocr_tree.specs.Functions.{numbers_in, number_named}
+use Rattle.ocr_tree.specs.View.{expression_of, name_of, arguments_of, members_of, functions_of}
 use Rattle.std.proofs.lemmas.Grind.{common_steps}
-use Rattle.ocr_body.specs.declared.tree.Expr.TheViews.{the_lemmas}
+use Rattle.ocr_tree.specs.declared.tree.Expr.TheViews.{the_lemmas}
 use Rattle.ocr_body.proofs.Creations.{creation_view, params_built, deps_built, value_is, number_few, member_built, member_more}
 use Rattle.ocr_body.proofs.Names.{binary_is, grew_twice, arguments_kept}
 use Rattle.ocr_body.proofs.resolver.+expression.Goals as goal

@@ -1,7 +1,7 @@
 use Rattle.std.proofs.Common.{rules, arith, ◌≡◌, ◌∙◌, sym, ap, subst, ◌+◌, ◌-◌, ◌<◌, ◌≤◌, ◌∷◌, ◌&&◌, suc, List, true, length, drop}
 use Rattle.std.proofs.lemmas.Grind.{common_steps}
 use Rattle.ocr_body.specs.Behaviour.{Behaviour, Stops}
-use Rattle.ocr_body.specs.Tree as tree
+use Rattle.ocr_tree.specs.Tree as tree
 use Rattle.ocr_body.specs.Code.{statement_at, statements_in, expression_at, is_step_placed, is_placed, are_placed}
 use Rattle.ocr_body.specs.Meaning as meaning
 use Rattle.ocr_body.specs.Local.{state_of, frame_of, numbers_of}

@@ -2,7 +2,8 @@ use Rattle.std.proofs.Common.{◌≡◌, ◌∙◌, refl}
 use Rattle.ocr_body.specs.Behaviour.{Ends}
 use Rattle.ocr_body.specs.Checked.{checked_tree}
 use Rattle.ocr_body.specs.Code.{statements_in}
-use Rattle.ocr_body.specs.Serving.{statements_at, by_memory}
+use Rattle.ocr_body.specs.Serving.{by_memory}
+use Rattle.ocr_tree.specs.Functions.{statements_at}
 use Rattle.ocr_body.proofs.Start.{starts, state_is_fresh}
 use Rattle.ocr_body.proofs.Turns.{flowed_on}
 use Rattle.ocr_body.proofs.walker.walk.Goals as goal

@@ -1,6 +1,6 @@
 use Rattle.std.proofs.Common.{◌≡◌, ◌++◌, ◌∙◌, sym, ap, List, ℕ, codes}
-use Rattle.ocr_body.specs.Tree.{Arguments}
-use Rattle.ocr_body.specs.View.{expression_of, members_of, arguments_of, output_of}
+use Rattle.ocr_tree.specs.Tree.{Arguments}
+use Rattle.ocr_tree.specs.View.{expression_of, members_of, arguments_of, output_of}
 use Rattle.ocr_canonical.specs.Canonical as canonical
 use Rattle.ocr_canonical.proofs.Pieces.{seven, on_ok}
 use Rattle.ocr_canonical.proofs.Rows.{edt_view}

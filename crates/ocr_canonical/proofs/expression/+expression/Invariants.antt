@@ -1,5 +1,5 @@
 use Rattle.std.proofs.Common.{◌≡◌, ◌++◌, drop}
-use Rattle.ocr_body.specs.View as view
+use Rattle.ocr_tree.specs.View as view
 use Rattle.ocr_canonical.specs.Canonical as canonical
 use Rattle.ocr_canonical.proofs.expression.+expression.Given as goal
 

@@ -1,6 +1,6 @@
 use Rattle.std.proofs.Common.{◌≡◌, ◌<◌, ◌++◌, ◌∙◌, sym, ap, List, ℕ, length, codes, rules}
-use Rattle.ocr_body.specs.Tree.{Statement}
-use Rattle.ocr_body.specs.View.{expression_of, statement_of, statements_of}
+use Rattle.ocr_tree.specs.Tree.{Statement}
+use Rattle.ocr_tree.specs.View.{expression_of, statement_of, statements_of}
 use Rattle.ocr_canonical.specs.Canonical.{expression_text, statement_text, statements_text, line, deeper}
 use Rattle.ocr_canonical.proofs.Pieces.{three, five, on_ok}
 use Rattle.ocr_canonical.proofs.Blocks.{while_view, if_view, without_else, with_else}

@@ -1,5 +1,5 @@
 use Rattle.std.proofs.Common.{◌≡◌, ◌++◌, drop}
-use Rattle.ocr_body.specs.View.{statements_of}
+use Rattle.ocr_tree.specs.View.{statements_of}
 use Rattle.ocr_canonical.specs.Canonical.{statements_text}
 use Rattle.ocr_canonical.proofs.statement.+statement.Given as goal
 

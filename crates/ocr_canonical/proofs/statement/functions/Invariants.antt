@@ -1,5 +1,5 @@
 use Rattle.std.proofs.Common.{◌≡◌, ◌++◌, drop}
-use Rattle.ocr_body.specs.View.{functions_of}
+use Rattle.ocr_tree.specs.View.{functions_of}
 use Rattle.ocr_canonical.specs.Canonical.{further_functions}
 use Rattle.ocr_canonical.proofs.statement.functions.Given as goal
 

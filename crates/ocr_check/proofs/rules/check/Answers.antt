@@ -1,10 +1,10 @@
 use Rattle.std.proofs.Common.{◌-◌, ◌^◌, ◌≡◌, ◌<◌, length, true, List, subst, arith}
-use Rattle.ocr_body.specs.View.{tree_of}
+use Rattle.ocr_tree.specs.View.{tree_of}
 use Rattle.ocr_check.specs.Check.{BreaksNoRule, is_among, main_name, names_of}
-use Rattle.ocr_body.specs.Built.{are_built}
-use Rattle.ocr_body.specs.Rules.{are_functions_named, are_lists_short}
-use Rattle.ocr_body.specs.View.{functions_of}
-use Rattle.ocr_body.specs.declared.tree.Function.{Function}
+use Rattle.ocr_tree.specs.Built.{are_built}
+use Rattle.ocr_tree.specs.Rules.{are_functions_named, are_lists_short}
+use Rattle.ocr_tree.specs.View.{functions_of}
+use Rattle.ocr_tree.specs.declared.tree.Function.{Function}
 use Rattle.ocr_check.proofs.Programs.{few_functions}
 use Rattle.ocr_check.proofs.rules.check.Goals as goal
 

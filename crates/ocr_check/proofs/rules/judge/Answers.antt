@@ -3,8 +3,8 @@ use Rattle.std.proofs.lemmas.List.{take_all}
 use Rattle.std.proofs.lemmas.Result.{err_from_is_err_and}
 use Rattle.ocr_check.specs.Check.{BreaksSome, FailsNowhere, is_among, main_name, names_of, no_main}
 use Rattle.ocr_check.specs.Scope.{knows}
-use Rattle.ocr_body.specs.View.{function_of, functions_of}
-use Rattle.ocr_body.specs.declared.tree.Function.{Function}
+use Rattle.ocr_tree.specs.View.{function_of, functions_of}
+use Rattle.ocr_tree.specs.declared.tree.Function.{Function}
 use Rattle.ocr_check.proofs.Built.{keeps_built, keeps_named, keeps_short}
 use Rattle.ocr_check.proofs.First.{FailsNowhere-nil}
 use Rattle.ocr_check.proofs.Programs.{none_more, function_sound, walk_stops}

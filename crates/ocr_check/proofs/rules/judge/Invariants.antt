@@ -1,6 +1,6 @@
 use Rattle.std.proofs.Common.{take}
 use Rattle.ocr_check.specs.Check.{FailsNowhere, BreaksSome, names_of}
-use Rattle.ocr_body.specs.View.{functions_of}
+use Rattle.ocr_tree.specs.View.{functions_of}
 use Rattle.ocr_check.proofs.rules.judge.Given as goal
 
 -- the functions so far break no rule

@@ -1,7 +1,7 @@
 use Rattle.std.proofs.Common.{◌≡◌, ◌∙◌, ◌&&◌, sym, ap, List, Bool}
-use Rattle.ocr_body.specs.Built.{is_none}
-use Rattle.ocr_body.specs.View.{members_of, output_of}
-use Rattle.ocr_body.specs.declared.tree.Expr.{Expr}
+use Rattle.ocr_tree.specs.Built.{is_none}
+use Rattle.ocr_tree.specs.View.{members_of, output_of}
+use Rattle.ocr_tree.specs.declared.tree.Expr.{Expr}
 use Rattle.ocr_check.proofs.Plain.{plain_is}
 use Rattle.ocr_check.proofs.scope.is_built.Goals as goal
 

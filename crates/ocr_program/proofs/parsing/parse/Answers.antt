@@ -1,5 +1,5 @@
 use Rattle.std.proofs.Common.{subst}
-use Rattle.ocr_body.specs.View.{tree_of}
+use Rattle.ocr_tree.specs.View.{tree_of}
 use Rattle.ocr_program.specs.Answers.{Answers}
 use Rattle.ocr_program.specs.declared.parsing.Parsed.{Parsed}
 use Rattle.ocr_program.proofs.One.{no_tree, same_place}

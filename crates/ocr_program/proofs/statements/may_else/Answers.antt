@@ -1,7 +1,7 @@
 use Rattle.std.proofs.Common.{◌∙◌, sym, ap, List}
-use Rattle.ocr_body.specs.Tree as tree
-use Rattle.ocr_body.specs.View.{expression_of, statements_of}
-use Rattle.ocr_body.specs.declared.tree.Stmt.{Stmt}
+use Rattle.ocr_tree.specs.Tree as tree
+use Rattle.ocr_tree.specs.View.{expression_of, statements_of}
+use Rattle.ocr_tree.specs.declared.tree.Stmt.{Stmt}
 use Rattle.ocr_program.specs.Machine as machine
 use Rattle.ocr_program.specs.View.{here_of}
 use Rattle.ocr_program.proofs.Marks.{choice_goes}

@@ -1,7 +1,7 @@
 use Rattle.std.proofs.Common.{sym, subst, List}
 use Rattle.ocr_text.specs.Tokens.{AreTokens}
-use Rattle.ocr_body.specs.Tree.{FunctionTree}
-use Rattle.ocr_body.specs.View.{tree_of}
+use Rattle.ocr_tree.specs.Tree.{FunctionTree}
+use Rattle.ocr_tree.specs.View.{tree_of}
 use Rattle.ocr_grammar.specs.Lexing.{IsTreeOf}
 use Rattle.ocr_check.specs.Check.{BreaksNoRule}
 use Rattle.ocr_run.specs.ProgramText.{breaks_rule}

@@ -2,9 +2,9 @@ use Rattle.std.proofs.Common.{◌≡◌, ◌∙◌, sym, ap, List, None, Some, r
 use Rattle.std.proofs.lemmas.Result.{err_from_is_err_and}
 use Rattle.ocr_check.specs.Checking.{expression_rule, arguments_rule}
 use Rattle.ocr_check.specs.Scope.{known_in, declared_in, members_rule}
-use Rattle.ocr_body.specs.View.{expression_of, name_of, arguments_of, output_of}
-use Rattle.ocr_body.specs.declared.tree.CallName.TheVariants.{EdtCreate}
-use Rattle.ocr_body.specs.declared.tree.Expr.{Expr}
+use Rattle.ocr_tree.specs.View.{expression_of, name_of, arguments_of, output_of}
+use Rattle.ocr_tree.specs.declared.tree.CallName.TheVariants.{EdtCreate}
+use Rattle.ocr_tree.specs.declared.tree.Expr.{Expr}
 use Rattle.ocr_check.specs.declared.scope.ListKind.TheVariants.{Parameters, Dependences}
 use Rattle.ocr_check.proofs.Rows.{edt_params, edt_depc, edt_deps, edt_flags, edt_output}
 use Rattle.ocr_check.proofs.scope.Scope.+expression.Goals as goal

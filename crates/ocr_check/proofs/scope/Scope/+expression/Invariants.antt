@@ -1,9 +1,9 @@
 use Rattle.std.proofs.Common.{◌≡◌, drop}
 use Rattle.ocr_check.specs.Checking.{arguments_rule}
 use Rattle.ocr_check.specs.Scope.{known_in, declared_in}
-use Rattle.ocr_body.specs.View.{members_of}
+use Rattle.ocr_tree.specs.View.{members_of}
 use Rattle.ocr_check.specs.declared.scope.ListKind.TheVariants.{Parameters}
-use Rattle.ocr_body.specs.declared.tree.CallName.TheVariants.{EdtCreate}
+use Rattle.ocr_tree.specs.declared.tree.CallName.TheVariants.{EdtCreate}
 use Rattle.ocr_check.proofs.scope.Scope.+expression.Given as goal
 
 -- what the members break is what those that are left break

@@ -1,8 +1,8 @@
 use Rattle.std.proofs.Common.{◌≡◌, ◌∙◌, ℕ, List, Bor, length, take, sym, ap}
 use Rattle.ocr_check.specs.Checking.{Kept, Outcome, Passed, leaving, statement_outcome, statements_outcome}
 use Rattle.ocr_check.specs.Scope.{texts, knows, known_in, kept_in}
-use Rattle.ocr_body.specs.View.{statement_of, statements_of}
-use Rattle.ocr_body.specs.declared.tree.Stmt.{Stmt}
+use Rattle.ocr_tree.specs.View.{statement_of, statements_of}
+use Rattle.ocr_tree.specs.declared.tree.Stmt.{Stmt}
 use Rattle.ocr_check.proofs.Names.{length-texts, texts_take}
 use Rattle.ocr_check.proofs.Outcomes.{front_stays, block_passes, if_second, while_body}
 use Rattle.ocr_check.proofs.Stops.{stops_same}

@@ -1,7 +1,7 @@
 use Rattle.std.proofs.Common.{◌≡◌, drop}
 use Rattle.ocr_check.specs.Checking.{statements_outcome}
 use Rattle.ocr_check.specs.Scope.{known_in, kept_in, IsSameFunction}
-use Rattle.ocr_body.specs.View.{statements_of}
+use Rattle.ocr_tree.specs.View.{statements_of}
 use Rattle.ocr_check.proofs.scope.Scope.+statement.Given as goal
 
 -- where the statements lead is where those that are left lead

@@ -2,14 +2,15 @@
 #![tactic(auto)]
 
 ghost use Rattle.std.specs.Prelude.{◌≡◌, ◌<◌, ◌≤◌, ◌+◌, ◌^◌, length, true, IfOk};
-ghost use Rattle.ocr_body.specs.Built.{is_built, is_statement_built, are_built};
+ghost use Rattle.ocr_tree.specs.Built.{is_built, is_statement_built, are_built};
 ghost use Rattle.ocr_body.specs.Checked.{checked_tree};
-ghost use Rattle.ocr_body.specs.Serving.{number_of_main};
-ghost use Rattle.ocr_body.specs.View.{expression_of, statement_of, tree_of};
+ghost use Rattle.ocr_tree.specs.Functions.{number_of_main};
+ghost use Rattle.ocr_tree.specs.View.{expression_of, statement_of, tree_of};
 
-use ocr_body::{Answer, Call, Checked, Expr, Function, Invoke, Name, Program, Stmt};
-use ocr_guid::{Code, Guid, NoMemory};
-use ocr_list::Seq;
+use ocr_body::{Answer, Call, Checked};
+use ocr_tree::{Expr, Function, Invoke, Name, Program, Stmt};
+use ocr_guid::{Code, Guid};
+use ocr_base::{NoMemory, Seq};
 use ocr_machine::{Entry, Writes};
 use ocr_replay::replay;
 use std::alloc::{AllocError, Global};

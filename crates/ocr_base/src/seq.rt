@@ -1,6 +1,4 @@
-//! The one list type of the project.
-#![tactic(auto)]
-
+// The one list type of the project.
 ghost use Rattle.std.specs.Prelude.{◌≡◌, [], ◌∷◌, ◌++◌, length, IfOk, OnErr, IsTrue, ◌↔◌};
 
 use std::alloc::{AllocError, Global};

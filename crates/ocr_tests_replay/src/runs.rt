@@ -1,7 +1,7 @@
 // Programs, their runs, and what replay says.
 ghost use Rattle.std.specs.Prelude.{◌≡◌, ◌≤◌, ◌<◌, length, IfOk};
 ghost use Rattle.ocr_body.specs.Checked.{checked_tree};
-ghost use Rattle.ocr_body.specs.Serving.{number_of_main};
+ghost use Rattle.ocr_tree.specs.Functions.{number_of_main};
 
 use crate::edits::add;
 use ocr_body::Checked;

@@ -1,0 +1,7 @@
+pub mod Built
+pub mod Constant
+pub mod Each
+pub mod Functions
+pub mod Rules
+pub mod Tree
+pub mod View

@@ -1,0 +1,20 @@
+// The functions of a program by their names.
+ghost use Rattle.std.specs.Prelude.{◌≡◌, ◌+◌, ◌≤◌, length};
+ghost use Rattle.ocr_tree.specs.Functions as functions;
+ghost use Rattle.ocr_tree.specs.View.{functions_of};
+
+use crate::tree::Function;
+
+/// The number of the first function of this name, from 1; one past the last where there is none.
+pub fn number_named(program: &[Function], name: &[u8]) -> usize
+    ensures { result ≡ functions.number_named name.now (functions_of program.now) }
+{
+    let mut rest = program;
+    while let [first, after @ ..] = rest {
+        if first.name.as_bytes() == name {
+            break;
+        }
+        rest = after;
+    }
+    program.len() - rest.len() + 1
+}
