@@ -1,0 +1,88 @@
+#!/usr/bin/env python3
+"""Runs the merge gate, `rt ci`, and tells what it cost: processor minutes of each crate's proofs, edits and tests.
+
+A sampler reads /proc twice a second. The processor time of a process is what it had when it was last seen, so at most
+half a second of each is missed. A check that tries an edit is told from the others by the folder that its kept work
+stands in, and one of tests by its flag. What is not a check (linking, the programs, the tests themselves) is 'other'.
+
+In any folder:  bench/gate.sh [FILE]     FILE keeps the gate's own output (default: gate.log in the current folder).
+Ends with the gate's status.
+"""
+import collections
+import os
+import re
+import subprocess
+import sys
+import time
+
+ROOT = os.path.dirname(os.path.dirname(os.path.abspath(__file__)))
+TICKS = os.sysconf("SC_CLK_TCK")
+
+
+def kind_of(words):
+    """Which crate a process checks, and for what."""
+    if "check" not in words or "--crate-name" not in words:
+        return None
+    crate = words[words.index("--crate-name") + 1]
+    if any("rt-edits-" in word for word in words):
+        return crate, "edits"
+    return crate, "tests" if "--test" in words else "proof"
+
+
+def descendants(of):
+    """The processes below one, each with its words and its processor time in seconds."""
+    parent, seconds = {}, {}
+    for pid in filter(str.isdigit, os.listdir("/proc")):
+        try:
+            with open(f"/proc/{pid}/stat") as it:
+                fields = it.read().rpartition(")")[2].split()
+        except OSError:
+            continue
+        parent[int(pid)] = int(fields[1])
+        seconds[int(pid)] = (int(fields[11]) + int(fields[12])) / TICKS
+    for pid in parent:
+        above = pid
+        while above in parent and above != of:
+            above = parent[above]
+        if above == of and pid != of:
+            try:
+                with open(f"/proc/{pid}/cmdline", "rb") as it:
+                    words = it.read().decode(errors="replace").split("\0")
+            except OSError:
+                continue
+            yield pid, words, seconds[pid]
+
+
+def main():
+    log = sys.argv[1] if len(sys.argv) > 1 else "gate.log"
+    seen = {}
+    start = time.time()
+    with open(log, "w") as out:
+        gate = subprocess.Popen(["rt", "ci"], cwd=ROOT, stdout=out, stderr=subprocess.STDOUT)
+        while gate.poll() is None:
+            for pid, words, seconds in descendants(gate.pid):
+                name = os.path.basename(words[0]) if words else ""
+                what = kind_of(words) or (("other", "other") if not name.startswith("rt") else None)
+                if what:
+                    seen[pid] = (what, seconds)
+            time.sleep(0.5)
+    minutes = collections.Counter()
+    for what, seconds in seen.values():
+        minutes[what] += seconds / 60
+    crates = sorted({crate for crate, _ in minutes if crate != "other"})
+    print("| Crate | Proof | Edits | Tests | Sum |\n|---|---|---|---|---|")
+    for crate in crates:
+        row = [minutes[crate, kind] for kind in ("proof", "edits", "tests")]
+        print(f"| `{crate}` | " + " | ".join(f"{it:.1f}" for it in [*row, sum(row)]) + " |")
+    other = minutes["other", "other"]
+    print(f"| other | | | | {other:.1f} |")
+    print(f"| **all** | | | | **{sum(minutes.values()):.1f}** |")
+    with open(log) as it:
+        last = it.read().rstrip().splitlines()[-1:] or [""]
+    print(f"\n{last[0]}; {(time.time() - start) / 60:.0f} minutes on {os.cpu_count()} cores")
+    passed = re.fullmatch(r"\d+ passed, 0 failed", last[0])
+    return gate.returncode or (0 if passed else 1)
+
+
+if __name__ == "__main__":
+    sys.exit(main())
