@@ -33,6 +33,8 @@ mutual
   node_words w n names (node.Depv' p e) is = node_words w n names e is
   node_words w n names (node.Unary' op p e) is = node_words w n names e is
   node_words w n names (node.Binary' op p a q b) is = both _ _ (node_words w n names a (first_of _ _ is)) (node_words w n names b (second_of _ _ is))
+  node_words w n names (node.WithNumber op i v) is = second_of _ _ is
+  node_words w n names (node.WithVariable op i j) is = refl
   node_words w n names (node.Invoke m xs) is = given_words m (arguments_at names xs) (args_words w n names xs (second_of _ _ is))
 
   args_words : (w : List ℕ → ℕ) (n : ℕ) (names : List (List ℕ)) (xs : Args) → are_args_placed w n xs ≡ true → are_of_words (arguments_at names xs) ≡ true

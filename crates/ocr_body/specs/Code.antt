@@ -43,6 +43,8 @@ abbrev mutual
   expression_at names (node.Depv' p e) = tree.Depv (expression_at names e)
   expression_at names (node.Unary' op p e) = tree.Unary op (expression_at names e)
   expression_at names (node.Binary' op p a q b) = tree.Binary op (expression_at names a) (expression_at names b)
+  expression_at names (node.WithNumber op i v) = tree.Binary op (tree.Var (name_at names i)) (tree.Number v)
+  expression_at names (node.WithVariable op i j) = tree.Binary op (tree.Var (name_at names i)) (tree.Var (name_at names j))
   expression_at names (node.Invoke m xs) = tree.Invoked (called m) (given_to m (arguments_at names xs))
 
   pub arguments_at : List (List ℕ) → Args → tree.Arguments
@@ -90,6 +92,8 @@ abbrev mutual
   is_placed numbers n (node.Depv' p e) = is_placed numbers n e
   is_placed numbers n (node.Unary' op p e) = is_placed numbers n e
   is_placed numbers n (node.Binary' op p a q b) = is_placed numbers n a && is_placed numbers n b
+  is_placed numbers n (node.WithNumber op i v) = nat_lt i n && nat_lt v (2 ^ 64)
+  is_placed numbers n (node.WithVariable op i j) = nat_lt i n && nat_lt j n
   is_placed numbers n (node.Invoke m xs) = is_numbered numbers m && are_args_placed numbers n xs
 
   pub are_args_placed : (List ℕ → ℕ) → ℕ → Args → Bool

@@ -5,7 +5,8 @@ use Rattle.ocr_body.specs.Serving.{IsDone}
 use Rattle.ocr_tree.specs.Functions.{numbers_in}
 use Rattle.ocr_body.specs.Checked.{checked_tree}
 use Rattle.ocr_body.specs.Code.{name_at}
-use Rattle.ocr_body.specs.Meaning.{State, Frame, Given}
+use Rattle.ocr_body.specs.Meaning.{State, Frame, Given, Value, eval}
+use Rattle.ocr_tree.specs.Tree.{Expression}
 use Rattle.ocr_body.specs.declared.local.Flow.{Flow}
 use Rattle.ocr_body.specs.declared.local.Flow.TheVariants.{Next, Returned}
 use Rattle.ocr_body.specs.declared.local.Local.{Local}
@@ -37,7 +38,15 @@ abbrev pub output_at : List (List ℕ) → Option ℕ → List (List ℕ)
 output_at names None = []
 output_at names (Some i) = name_at names i ∷ []
 
--- statements were done, or ended the body
-abbrev pub Flows : Behaviour → ((State → Behaviour) → Behaviour) → Flow → State → Behaviour → Type 0
-Flows before part Next st now = IsDone before part st now
-Flows before part (Returned g) st now = now ≡ Ends g
+-- statements were done, or ended the body, which returned this
+abbrev pub Flows : Behaviour → ((State → Behaviour) → Behaviour) → Flow → ℕ → State → Behaviour → Type 0
+Flows before part Next g st now = IsDone before part st now
+Flows before part Returned g st now = now ≡ Ends g
+
+-- a state with so much fuel
+abbrev pub at_fuel : ℕ → State → State
+at_fuel n st = record { fuel = n; code = st.code; variables = st.variables }
+
+-- an expression has this value with so much fuel, makes no call, and leaves so much
+abbrev pub Leaves : Frame → Expression → State → ℕ → ℕ → ℕ → Type 0
+Leaves f e st before v left = (k : Value) → eval f e (at_fuel before st) k ≡ k v (at_fuel left st)

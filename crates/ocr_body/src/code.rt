@@ -20,6 +20,10 @@ pub enum Node {
     Depv(Box<Node>),
     Unary(UnaryOp, Box<Node>),
     Binary(BinaryOp, Box<Node>, Box<Node>),
+    /// An operator between a variable and a number, which are nodes of their own in the tree.
+    WithNumber(BinaryOp, usize, u64),
+    /// An operator between two variables.
+    WithVariable(BinaryOp, usize, usize),
     Invoke(Made, Args),
 }
 

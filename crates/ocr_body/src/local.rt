@@ -1,5 +1,5 @@
 // What the walker keeps of a body.
-ghost use Rattle.std.specs.Prelude.{◌≡◌, ◌<◌, ◌≤◌, List, ℕ, true, length, OnOk, IfErr};
+ghost use Rattle.std.specs.Prelude.{◌≡◌, ◌<◌, ◌≤◌, List, ℕ, true, length, OnOk, OnErr, IfErr};
 ghost use Rattle.ocr_body.specs.Behaviour.{Behaviour};
 ghost use Rattle.ocr_body.specs.Code.{are_distinct, name_at};
 ghost use Rattle.ocr_body.specs.Meaning.{State};
@@ -12,13 +12,20 @@ use ocr_tree::Name;
 use ocr_guid::Guid;
 use std::alloc::Global;
 
-// What the walker keeps of a body: its fuel, the code of its last call, and its variables by their places.
+// What the walker keeps of a body: its fuel, the code of its last call, its variables by their places, and, once it
+// stopped or returned, why and what.
 #[derive(Drop)]
 pub struct Local {
     pub fuel: u64,
     pub code: u64,
     pub values: Vec<u64>,
+    pub stop: BodyStop,
+    pub returned: Guid,
 }
+
+// The body stopped, and why is kept in `stop`: so small an answer goes in a register.
+#[derive(Clone, Copy)]
+pub struct Halt;
 
 // What a body was given, its program, and the names of its variables.
 #[derive(Clone, Copy)]
@@ -30,11 +37,11 @@ pub struct Frame<'a> {
     pub names: &'a [Name],
 }
 
-// Where a statement leads.
+// Where a statement leads. What a body returned is kept in `returned`.
 #[derive(Clone, Copy)]
 pub enum Flow {
     Next,
-    Returned(Guid),
+    Returned,
 }
 
 // One unit of fuel.
@@ -48,6 +55,34 @@ pub fn spend(local: &mut Local) -> Result<(), BodyStop>
 {
     if local.fuel == 0 {
         return Err(BodyStop::Fuel);
+    }
+    local.fuel -= 1;
+    Ok(())
+}
+
+// The body stops for this.
+#[inline(always)]
+pub fn stopped(stop: BodyStop, local: &mut Local) -> Halt
+    ensures stop { local.new.stop ≡ stop }
+    ensures fuel { local.new.fuel ≡ local.old.fuel }
+    ensures code { local.new.code ≡ local.old.code }
+    ensures values { local.new.values ≡ local.old.values }
+{
+    local.stop = stop;
+    Halt
+}
+
+// One unit of fuel, or a stop for want of it.
+pub fn pay(local: &mut Local) -> Result<(), Halt>
+    ensures ok { OnOk result ((names : List (List ℕ)) (k : State → Behaviour) →
+        meaning.spend (state_of names local.old) k ≡ k (state_of names local.new)) }
+    ensures less { OnOk result (local.new.fuel < local.old.fuel) }
+    ensures fuel { local.new.fuel ≤ local.old.fuel }
+    ensures values { local.new.values ≡ local.old.values }
+    ensures err { OnErr result ((local.new.stop ≡ BodyStop.Fuel) × (local.old.fuel ≡ 0)) }
+{
+    if local.fuel == 0 {
+        return Err(stopped(BodyStop::Fuel, local));
     }
     local.fuel -= 1;
     Ok(())

@@ -3,7 +3,7 @@ ghost use Rattle.std.specs.Prelude.{◌≡◌, ◌<◌, ◌+◌, ◌^◌, ℕ, L
 ghost use Rattle.std.specs.List.{list_any};
 ghost use Rattle.std.specs.Prelude.{bytes_eq};
 ghost use Rattle.ocr_tree.specs.Built.{is_built, is_call_built, are_arguments_built, is_statement_built, are_statements_built, are_built};
-ghost use Rattle.ocr_body.specs.Code.{are_distinct, body_in, bodies_in, is_sound, are_sound};
+ghost use Rattle.ocr_body.specs.Code.{are_distinct, is_placed, expression_at, body_in, bodies_in, is_sound, are_sound};
 ghost use Rattle.ocr_tree.specs.Functions.{numbers_in};
 ghost use Rattle.ocr_tree.specs.Tree as tree;
 ghost use Rattle.ocr_tree.specs.Tree.{Arguments};
@@ -69,6 +69,24 @@ fn boxed(alloc: Global, node: Node) -> Result<Box<Node>, NoMemory>
         Ok(node) => Ok(node),
         Err(_) => Err(NoMemory),
     }
+}
+
+// The same code in fewer nodes, where an operator stands behind a variable and before a number or a variable.
+fn joined(node: Node) -> Node
+    ensures placed { (numbers : List ℕ → ℕ) (n : ℕ) → is_placed numbers n node ≡ true → is_placed numbers n result ≡ true }
+    ensures same { (names : List (List ℕ)) → expression_at names result ≡ expression_at names node }
+{
+    if let Node::Binary(op, left, right) = &node {
+        if let Node::Variable(place) = &**left {
+            if let Node::Number(n) = &**right {
+                return Node::WithNumber(*op, *place, *n);
+            }
+            if let Node::Variable(other) = &**right {
+                return Node::WithVariable(*op, *place, *other);
+            }
+        }
+    }
+    node
 }
 
 // Arguments with memory of their own.
@@ -149,7 +167,7 @@ fn expression(
             let left = boxed(alloc, left)?;
             let right = expression(alloc, functions, right, names)?;
             let right = boxed(alloc, right)?;
-            Ok(Node::Binary(*op, left, right))
+            Ok(joined(Node::Binary(*op, left, right)))
         }
         Expr::Invoke(made) => {
             let (made, args) = invocation(alloc, functions, made, names)?;

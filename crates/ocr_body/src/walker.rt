@@ -14,14 +14,15 @@ use crate::call::{BodyStop, Call};
 use crate::checked::Checked;
 use crate::code::{Args, Made, Node, Step};
 use crate::given::{Given, edt_create, template_create};
-use crate::local::{Flow, Frame, Local, read, spend, write};
+use crate::local::{Flow, Frame, Halt, Local, pay, read, spend, stopped, write};
 use crate::operators::{apply, operate};
 use ocr_guid::Guid;
 use ocr_base::{NoMemory, Seq};
+use crate::plain::{NONE_LEFT, plain};
 use std::alloc::Global;
 
 // The value of an expression.
-#[tactic(auto, using(crate::proofs::Stopped::stopped_later, crate::proofs::Stopped::stopped_by_body, crate::proofs::Stopped::eval_stopped, crate::proofs::Stopped::exec_stopped, crate::proofs::Stopped::says_more, crate::proofs::Stopped::stopped_by_refusal, crate::proofs::Variables::first_of, crate::proofs::Variables::second_of))]
+#[tactic(auto, using(crate::proofs::Operands::spend_stopped, crate::proofs::Stopped::stopped_later, crate::proofs::Stopped::stopped_by_body, crate::proofs::Stopped::eval_stopped, crate::proofs::Stopped::exec_stopped, crate::proofs::Stopped::says_more, crate::proofs::Stopped::stopped_by_refusal, crate::proofs::Variables::first_of, crate::proofs::Variables::second_of))]
 #[cycle(eval)]
 fn eval<A: Api>(frame: &Frame, node: &Node, local: &mut Local, api: &mut A) -> Result<u64, BodyStop>
     requires ready { A.is_ready api.old }
@@ -76,7 +77,20 @@ fn eval<A: Api>(frame: &Frame, node: &Node, local: &mut Local, api: &mut A) -> R
         }
         Node::Binary(op, left, right) => {
             let x = eval(frame, left, local, api)?;
-            let y = eval(frame, right, local, api)?;
+            let y = eval(frame, right, local, api)?; // after the left one
+            operate(*op, x, y)
+        }
+        Node::WithNumber(op, place, number) => {
+            spend(local)?; // for the variable
+            let x = read(frame, *place, local);
+            spend(local)?; // for the number
+            operate(*op, x, *number)
+        }
+        Node::WithVariable(op, place, other) => {
+            spend(local)?; // for each variable
+            let x = read(frame, *place, local);
+            spend(local)?;
+            let y = read(frame, *other, local);
             operate(*op, x, y)
         }
         Node::Invoke(_, _) => unreachable!(),
@@ -240,15 +254,145 @@ fn print<A: Api>(frame: &Frame, value: u64, local: &Local, api: &mut A) -> Resul
     Ok(())
 }
 
+// The value of an expression that makes calls or stops.
+#[tactic(auto, using(crate::proofs::Stopped::stopped_later, crate::proofs::Stopped::stopped_by_body, crate::proofs::Stopped::eval_stopped, crate::proofs::Stopped::exec_stopped, crate::proofs::Stopped::says_more, crate::proofs::Stopped::stopped_by_refusal, crate::proofs::Variables::first_of, crate::proofs::Variables::second_of))]
+#[inline(never)]
+fn slow<A: Api>(frame: &Frame, node: &Node, local: &mut Local, api: &mut A) -> Result<u64, Halt>
+    requires ready { A.is_ready api.old }
+    requires distinct { are_distinct frame.now.names.now ≡ true }
+    requires room { length local.old.values.items ≡ length frame.now.names.now }
+    requires placed { is_placed (numbers_of frame.now) (length frame.now.names.now) node.now ≡ true }
+    requires begins { BeginsValue (says (A.serves api.old) (A.log api.old))
+        (meaning.eval (frame_of frame.now) (expression_at frame.now.names.now node.now) (state_of frame.now.names.now local.old)) }
+    ensures ready { A.is_ready api.new }
+    ensures serves { A.serves api.new ≡ A.serves api.old }
+    ensures kept { A.kept api.new ≡ A.kept api.old }
+    ensures trace { IsTrace (behaviour (A.serves api.old)) (A.log api.old) →
+        IsTrace (behaviour (A.serves api.old)) (A.log api.new) }
+    ensures room { length local.new.values.items ≡ length frame.now.names.now }
+    ensures fuel { local.new.fuel ≤ local.old.fuel }
+    ensures ok { IfOk result (λ v. HasValue (says (A.serves api.old) (A.log api.old))
+        (meaning.eval (frame_of frame.now) (expression_at frame.now.names.now node.now) (state_of frame.now.names.now local.old)) v (state_of frame.now.names.now local.new)
+        (says (A.serves api.old) (A.log api.new))) }
+    ensures err { OnErr result (StoppedBy (says (A.serves api.old) (A.log api.new))
+        (Rose (A.closed api.old) (A.closed api.new)) local.new.stop) }
+    ensures later { A.closed api.old ≤ A.closed api.new }
+{
+    match eval(frame, node, local, api) {
+        Ok(value) => Ok(value),
+        Err(stop) => Err(stopped(stop, local)),
+    }
+}
+
+// A call that is a statement.
+#[tactic(auto, using(crate::proofs::Stopped::stopped_later, crate::proofs::Stopped::stopped_by_body, crate::proofs::Stopped::eval_stopped, crate::proofs::Stopped::exec_stopped, crate::proofs::Stopped::says_more, crate::proofs::Stopped::stopped_by_refusal, crate::proofs::Variables::first_of, crate::proofs::Variables::second_of))]
+#[inline(never)]
+fn perform<A: Api>(
+    frame: &Frame,
+    made: &Made,
+    args: &Args,
+    local: &mut Local,
+    api: &mut A,
+) -> Result<u64, Halt>
+    requires ready { A.is_ready api.old }
+    requires distinct { are_distinct frame.now.names.now ≡ true }
+    requires room { length local.old.values.items ≡ length frame.now.names.now }
+    requires numbered { is_numbered (numbers_of frame.now) made.now ≡ true }
+    requires placed { are_args_placed (numbers_of frame.now) (length frame.now.names.now) args.now ≡ true }
+    requires begins { BeginsValue (says (A.serves api.old) (A.log api.old))
+        (meaning.invoke (frame_of frame.now) (called made.now) (given_to made.now (arguments_at frame.now.names.now args.now)) (state_of frame.now.names.now local.old)) }
+    ensures ready { A.is_ready api.new }
+    ensures serves { A.serves api.new ≡ A.serves api.old }
+    ensures kept { A.kept api.new ≡ A.kept api.old }
+    ensures trace { IsTrace (behaviour (A.serves api.old)) (A.log api.old) →
+        IsTrace (behaviour (A.serves api.old)) (A.log api.new) }
+    ensures room { length local.new.values.items ≡ length frame.now.names.now }
+    ensures fuel { local.new.fuel ≤ local.old.fuel }
+    ensures ok { IfOk result (λ v. HasValue (says (A.serves api.old) (A.log api.old))
+        (meaning.invoke (frame_of frame.now) (called made.now) (given_to made.now (arguments_at frame.now.names.now args.now)) (state_of frame.now.names.now local.old)) v (state_of frame.now.names.now local.new)
+        (says (A.serves api.old) (A.log api.new))) }
+    ensures err { OnErr result (StoppedBy (says (A.serves api.old) (A.log api.new))
+        (Rose (A.closed api.old) (A.closed api.new)) local.new.stop) }
+    ensures later { A.closed api.old ≤ A.closed api.new }
+{
+    match invoke(frame, made, args, local, api) {
+        Ok(value) => Ok(value),
+        Err(stop) => Err(stopped(stop, local)),
+    }
+}
+
+// A print.
+#[inline(never)]
+#[tactic(auto, using(crate::proofs::Stopped::stopped_later))]
+fn show<A: Api>(frame: &Frame, value: u64, local: &mut Local, api: &mut A) -> Result<(), Halt>
+    requires ready { A.is_ready api.old }
+    requires begins { Begins (says (A.serves api.old) (A.log api.old))
+        (meaning.printed value (state_of frame.now.names.now local.old)) }
+    ensures ready { A.is_ready api.new }
+    ensures serves { A.serves api.new ≡ A.serves api.old }
+    ensures kept { A.kept api.new ≡ A.kept api.old }
+    ensures trace { IsTrace (behaviour (A.serves api.old)) (A.log api.old) →
+        IsTrace (behaviour (A.serves api.old)) (A.log api.new) }
+    ensures fuel { local.new.fuel ≡ local.old.fuel }
+    ensures code { local.new.code ≡ local.old.code }
+    ensures values { local.new.values ≡ local.old.values }
+    ensures ok { OnOk result (IsDone (says (A.serves api.old) (A.log api.old))
+        (meaning.printed value (state_of frame.now.names.now local.old)) (state_of frame.now.names.now local.old)
+        (says (A.serves api.old) (A.log api.new))) }
+    ensures err { OnErr result (StoppedBy (says (A.serves api.new) (A.log api.new))
+        (Rose (A.closed api.old) (A.closed api.new)) local.new.stop) }
+    ensures later { A.closed api.old ≤ A.closed api.new }
+{
+    match print(frame, value, local, api) {
+        Ok(()) => Ok(()),
+        Err(stop) => Err(stopped(stop, local)),
+    }
+}
+
+// The value of an expression. One that makes no call and does not stop is found with its fuel in a register.
+#[tactic(auto, using(crate::proofs::Operands::with_number, crate::proofs::Stopped::stopped_later, crate::proofs::Stopped::stopped_by_body, crate::proofs::Stopped::eval_stopped, crate::proofs::Stopped::exec_stopped, crate::proofs::Stopped::says_more, crate::proofs::Stopped::stopped_by_refusal, crate::proofs::Variables::first_of, crate::proofs::Variables::second_of))]
+#[inline(always)]
+fn find<A: Api>(frame: &Frame, node: &Node, local: &mut Local, api: &mut A) -> Result<u64, Halt>
+    requires ready { A.is_ready api.old }
+    requires distinct { are_distinct frame.now.names.now ≡ true }
+    requires room { length local.old.values.items ≡ length frame.now.names.now }
+    requires placed { is_placed (numbers_of frame.now) (length frame.now.names.now) node.now ≡ true }
+    requires begins { BeginsValue (says (A.serves api.old) (A.log api.old))
+        (meaning.eval (frame_of frame.now) (expression_at frame.now.names.now node.now) (state_of frame.now.names.now local.old)) }
+    ensures ready { A.is_ready api.new }
+    ensures serves { A.serves api.new ≡ A.serves api.old }
+    ensures kept { A.kept api.new ≡ A.kept api.old }
+    ensures trace { IsTrace (behaviour (A.serves api.old)) (A.log api.old) →
+        IsTrace (behaviour (A.serves api.old)) (A.log api.new) }
+    ensures room { length local.new.values.items ≡ length frame.now.names.now }
+    ensures fuel { local.new.fuel ≤ local.old.fuel }
+    ensures ok { IfOk result (λ v. HasValue (says (A.serves api.old) (A.log api.old))
+        (meaning.eval (frame_of frame.now) (expression_at frame.now.names.now node.now) (state_of frame.now.names.now local.old)) v (state_of frame.now.names.now local.new)
+        (says (A.serves api.old) (A.log api.new))) }
+    ensures err { OnErr result (StoppedBy (says (A.serves api.old) (A.log api.new))
+        (Rose (A.closed api.old) (A.closed api.new)) local.new.stop) }
+    ensures later { A.closed api.old ≤ A.closed api.new }
+{
+    if let Node::WithNumber(op, place, number) = node {
+        if local.fuel >= 3 {
+            if let Ok(value) = operate(*op, read(frame, *place, local), *number) {
+                local.fuel -= 3;
+                return Ok(value);
+            }
+        }
+    }
+    let found = plain(frame, node, local.fuel, local);
+    if found.left == NONE_LEFT {
+        return slow(frame, node, local, api);
+    }
+    local.fuel = found.left;
+    Ok(found.value)
+}
+
 // Runs a statement.
 #[tactic(auto, using(crate::proofs::Stopped::stopped_later, crate::proofs::Stopped::stopped_by_body, crate::proofs::Stopped::eval_stopped, crate::proofs::Stopped::exec_stopped, crate::proofs::Stopped::says_more, crate::proofs::Stopped::stopped_by_refusal, crate::proofs::Variables::first_of, crate::proofs::Variables::second_of))]
 #[cycle(exec)]
-fn exec<A: Api>(
-    frame: &Frame,
-    step: &Step,
-    local: &mut Local,
-    api: &mut A,
-) -> Result<Flow, BodyStop>
+fn exec<A: Api>(frame: &Frame, step: &Step, local: &mut Local, api: &mut A) -> Result<Flow, Halt>
     requires ready { A.is_ready api.old }
     requires distinct { are_distinct frame.now.names.now ≡ true }
     requires room { length local.old.values.items ≡ length frame.now.names.now }
@@ -263,24 +407,23 @@ fn exec<A: Api>(
     ensures room { length local.new.values.items ≡ length frame.now.names.now }
     ensures fuel { local.new.fuel ≤ local.old.fuel }
     ensures ok { IfOk result (λ flow. Flows (says (A.serves api.old) (A.log api.old))
-        (meaning.exec (frame_of frame.now) (statement_at frame.now.names.now step.now) (state_of frame.now.names.now local.old)) flow (state_of frame.now.names.now local.new)
+        (meaning.exec (frame_of frame.now) (statement_at frame.now.names.now step.now) (state_of frame.now.names.now local.old)) flow local.new.returned (state_of frame.now.names.now local.new)
         (says (A.serves api.old) (A.log api.new))) }
-    ensures err { IfErr result (StoppedBy (says (A.serves api.old) (A.log api.new))
-        (Rose (A.closed api.old) (A.closed api.new))) }
+    ensures err { OnErr result (StoppedBy (says (A.serves api.old) (A.log api.new))
+        (Rose (A.closed api.old) (A.closed api.new)) local.new.stop) }
     ensures later { A.closed api.old ≤ A.closed api.new }
 {
-    if let Step::While(test, body) = step {
-        return repeat(frame, test, body, local, api);
-    }
-    spend(local)?;
     match step {
+        Step::While(test, body) => repeat(frame, test, body, local, api),
         Step::Let(place, value) | Step::Assign(place, value) => {
-            let value = eval(frame, value, local, api)?;
+            pay(local)?;
+            let value = find(frame, value, local, api)?;
             write(frame, *place, value, local);
             Ok(Flow::Next)
         }
         Step::If(test, yes, no) => {
-            let value = eval(frame, test, local, api)?;
+            pay(local)?;
+            let value = find(frame, test, local, api)?;
             if value == 0 {
                 exec_all(frame, no, local, api)
             } else {
@@ -288,19 +431,22 @@ fn exec<A: Api>(
             }
         }
         Step::Print(value) => {
-            let value = eval(frame, value, local, api)?;
-            print(frame, value, local, api)?;
+            pay(local)?;
+            let value = find(frame, value, local, api)?;
+            show(frame, value, local, api)?;
             Ok(Flow::Next)
         }
         Step::Return(value) => {
-            let value = eval(frame, value, local, api)?;
-            Ok(Flow::Returned(Guid(value)))
+            pay(local)?;
+            let value = find(frame, value, local, api)?;
+            local.returned = Guid(value);
+            Ok(Flow::Returned)
         }
         Step::Invoke(made, args) => {
-            invoke(frame, made, args, local, api)?;
+            pay(local)?;
+            perform(frame, made, args, local, api)?;
             Ok(Flow::Next)
         }
-        Step::While(_, _) => unreachable!(),
     }
 }
 
@@ -313,7 +459,7 @@ fn repeat<A: Api>(
     steps: &[Step],
     local: &mut Local,
     api: &mut A,
-) -> Result<Flow, BodyStop>
+) -> Result<Flow, Halt>
     requires ready { A.is_ready api.old }
     requires distinct { are_distinct frame.now.names.now ≡ true }
     requires room { length local.old.values.items ≡ length frame.now.names.now }
@@ -328,20 +474,20 @@ fn repeat<A: Api>(
     ensures room { length local.new.values.items ≡ length frame.now.names.now }
     ensures fuel { local.new.fuel ≤ local.old.fuel }
     ensures ok { IfOk result (λ flow. Flows (says (A.serves api.old) (A.log api.old))
-        (meaning.exec (frame_of frame.now) (While (expression_at frame.now.names.now test.now) (statements_in frame.now.names.now steps.now)) (state_of frame.now.names.now local.old)) flow (state_of frame.now.names.now local.new)
+        (meaning.exec (frame_of frame.now) (While (expression_at frame.now.names.now test.now) (statements_in frame.now.names.now steps.now)) (state_of frame.now.names.now local.old)) flow local.new.returned (state_of frame.now.names.now local.new)
         (says (A.serves api.old) (A.log api.new))) }
-    ensures err { IfErr result (StoppedBy (says (A.serves api.old) (A.log api.new))
-        (Rose (A.closed api.old) (A.closed api.new))) }
+    ensures err { OnErr result (StoppedBy (says (A.serves api.old) (A.log api.new))
+        (Rose (A.closed api.old) (A.closed api.new)) local.new.stop) }
     ensures later { A.closed api.old ≤ A.closed api.new }
 {
     loop {
-        spend(local)?; // for the turn
-        let value = eval(frame, test, local, api)?;
+        pay(local)?; // for the turn
+        let value = find(frame, test, local, api)?;
         if value == 0 {
             return Ok(Flow::Next);
         }
-        if let Flow::Returned(guid) = exec_all(frame, steps, local, api)? {
-            return Ok(Flow::Returned(guid));
+        if let Flow::Returned = exec_all(frame, steps, local, api)? {
+            return Ok(Flow::Returned);
         }
     }
 }
@@ -354,7 +500,7 @@ fn exec_all<A: Api>(
     steps: &[Step],
     local: &mut Local,
     api: &mut A,
-) -> Result<Flow, BodyStop>
+) -> Result<Flow, Halt>
     requires ready { A.is_ready api.old }
     requires distinct { are_distinct frame.now.names.now ≡ true }
     requires room { length local.old.values.items ≡ length frame.now.names.now }
@@ -369,15 +515,15 @@ fn exec_all<A: Api>(
     ensures room { length local.new.values.items ≡ length frame.now.names.now }
     ensures fuel { local.new.fuel ≤ local.old.fuel }
     ensures ok { IfOk result (λ flow. Flows (says (A.serves api.old) (A.log api.old))
-        (meaning.exec_all (frame_of frame.now) (statements_in frame.now.names.now steps.now) (state_of frame.now.names.now local.old)) flow (state_of frame.now.names.now local.new)
+        (meaning.exec_all (frame_of frame.now) (statements_in frame.now.names.now steps.now) (state_of frame.now.names.now local.old)) flow local.new.returned (state_of frame.now.names.now local.new)
         (says (A.serves api.old) (A.log api.new))) }
-    ensures err { IfErr result (StoppedBy (says (A.serves api.old) (A.log api.new))
-        (Rose (A.closed api.old) (A.closed api.new))) }
+    ensures err { OnErr result (StoppedBy (says (A.serves api.old) (A.log api.new))
+        (Rose (A.closed api.old) (A.closed api.new)) local.new.stop) }
     ensures later { A.closed api.old ≤ A.closed api.new }
 {
     for step in steps {
-        if let Flow::Returned(guid) = exec(frame, step, local, api)? {
-            return Ok(Flow::Returned(guid));
+        if let Flow::Returned = exec(frame, step, local, api)? {
+            return Ok(Flow::Returned);
         }
     }
     Ok(Flow::Next)
@@ -433,6 +579,8 @@ pub fn walk<A: Api>(
         fuel,
         code: 0,
         values,
+        stop: BodyStop::NoMemory,
+        returned: Guid::NULL,
     };
     let frame = Frame {
         alloc,
@@ -441,8 +589,11 @@ pub fn walk<A: Api>(
         deps,
         names: &code.names,
     };
-    match exec_all(&frame, &code.body, &mut local, api)? {
+    let Ok(flow) = exec_all(&frame, &code.body, &mut local, api) else {
+        return Err(local.stop)
+    };
+    match flow {
         Flow::Next => Ok(Guid::NULL),
-        Flow::Returned(guid) => Ok(guid),
+        Flow::Returned => Ok(local.returned),
     }
 }

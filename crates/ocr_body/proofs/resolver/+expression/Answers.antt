@@ -6,7 +6,7 @@ use Rattle.ocr_tree.specs.View.{expression_of, name_of, arguments_of, members_of
 use Rattle.std.proofs.lemmas.Grind.{common_steps}
 use Rattle.ocr_tree.specs.declared.tree.Expr.TheViews.{the_lemmas}
 use Rattle.ocr_body.proofs.Creations.{creation_view, params_built, deps_built, value_is, number_few, member_built, member_more}
-use Rattle.ocr_body.proofs.Names.{binary_is, grew_twice, arguments_kept}
+use Rattle.ocr_body.proofs.Names.{binary_is, joined_is, grew_twice, arguments_kept}
 use Rattle.ocr_body.proofs.resolver.+expression.Goals as goal
 
 pub expression-returns-in_ok-right-in-Binary-2-clause-ok : goal.expression-returns-in_ok-right-in-Binary-2-clause-ok
@@ -15,9 +15,9 @@ expression-returns-in_ok-right-in-Binary-2-clause-ok t c =
     let second : c.deref-in-Binary-2.result.now ≡ c.in-Binary.right.value = cc in
     let is : expression_of c.args.expr.now ≡ tree.Binary c.in-Binary.op (expression_of c.deref-in-Binary.result.now) (expression_of c.deref-in-Binary-2.result.now) =
     ap expression_of c.in-Binary.is ∙ sym (λ i. tree.Binary c.in-Binary.op (expression_of (first i)) (expression_of (second i))) in
-    binary_is (numbers_in (functions_of c.args.functions.now)) c.expression-in-Binary.new.names.items c.expression-in-Binary-2.new.names.items c.in-Binary.op c.in_ok-left-in-Binary-2.left c.in_ok-right-in-Binary-2.right
+    joined_is _ _ _ _ _ c.joined.ensures.placed c.joined.ensures.same (binary_is (numbers_in (functions_of c.args.functions.now)) c.expression-in-Binary.new.names.items c.expression-in-Binary-2.new.names.items c.in-Binary.op c.in_ok-left-in-Binary-2.left c.in_ok-right-in-Binary-2.right
     c.in_ok-left-in-Binary.left c.in_ok-right-in-Binary.right _ _ _ c.in_ok-right-in-Binary.ensures.grew c.in_ok-left-in-Binary.ensures.ok c.in_ok-right-in-Binary.ensures.ok
-    c.in_ok-left-in-Binary-2.ensures c.in_ok-right-in-Binary-2.ensures is
+    c.in_ok-left-in-Binary-2.ensures c.in_ok-right-in-Binary-2.ensures is)
 
 pub invocation-overflow_cast-number : goal.invocation-overflow_cast-number
 invocation-overflow_cast-number t c =

@@ -34,34 +34,34 @@ exec-returns-in-While-clause-ok g t c =
     let view : statement_at names c.args.step.now ≡ tree.While (expression_at names c.in-While.test) (statements_in names c.deref.result.now) =
     ap (statement_at names) c.in-While.is ∙ while_view names c.in-While.test c.in-While.body
     ∙ ap (λ (ss : List Step). tree.While (expression_at names c.in-While.test) (statements_in names ss)) (sym items) in
-    flows_along _ _ _ _ _ _ _ _ view c.repeat.ensures.ok
+    flows_along _ _ _ _ _ _ _ _ _ view c.repeat.ensures.ok
 
-pub repeat-returns-in_err-spend-clause-err : goal.repeat-returns-in_err-spend-clause-err
-repeat-returns-in_err-spend-clause-err g t c =
+pub repeat-returns-in_err-pay-clause-err : goal.repeat-returns-in_err-pay-clause-err
+repeat-returns-in_err-pay-clause-err g t c =
     let names = c.args.frame.now.names.now in
     let test : meaning.State → meaning.Value → Behaviour = meaning.eval (frame_of c.args.frame.now) (expression_at names c.args.test.now) in
     let body : meaning.State → (meaning.State → Behaviour) → Behaviour = meaning.exec_all (frame_of c.args.frame.now) (statements_in names c.args.steps.now) in
     let m = c.loop-local.invariant.left.0 in
     let before = state_of names c.loop-local.local in
-    let here : says (g.A.Api.serves c.args.api.now) (g.A.Api.log c.loop-local.api) ≡ Stops c.in_err-spend.field-0.0 =
-    c.loop-local.invariant.left.1.1 c.requires.begins.0 c.requires.begins.1 ∙ turn_stops m test body before c.requires.begins.0 c.in_err-spend.ensures.err.1
-    ∙ ap Stops (sym c.in_err-spend.ensures.err.0) in
-    let stopped : StoppedBy (says (g.A.Api.serves c.args.api.now) (g.A.Api.log c.loop-local.api)) (Rose (g.A.Api.closed c.args.api.now) (g.A.Api.closed c.loop-local.api)) c.in_err-spend.field-0.0 =
+    let here : says (g.A.Api.serves c.args.api.now) (g.A.Api.log c.loop-local.api) ≡ Stops c.pay.new.local.stop =
+    c.loop-local.invariant.left.1.1 c.requires.begins.0 c.requires.begins.1 ∙ turn_stops m test body before c.requires.begins.0 c.in_err-pay.ensures.err.1
+    ∙ ap Stops (sym c.in_err-pay.ensures.err.0) in
+    let stopped : StoppedBy (says (g.A.Api.serves c.args.api.now) (g.A.Api.log c.loop-local.api)) (Rose (g.A.Api.closed c.args.api.now) (g.A.Api.closed c.loop-local.api)) c.pay.new.local.stop =
     stopped_by_body _ _ _ here in
     search (rules, common_steps)
 
-pub repeat-eval-requires-clause-begins : goal.repeat-eval-requires-clause-begins
-repeat-eval-requires-clause-begins g t c =
+pub repeat-find-requires-clause-begins : goal.repeat-find-requires-clause-begins
+repeat-find-requires-clause-begins g t c =
     let names = c.args.frame.now.names.now in
     let test : meaning.State → meaning.Value → Behaviour = meaning.eval (frame_of c.args.frame.now) (expression_at names c.args.test.now) in
     let body : meaning.State → (meaning.State → Behaviour) → Behaviour = meaning.exec_all (frame_of c.args.frame.now) (statements_in names c.args.steps.now) in
     let m = c.loop-local.invariant.left.0 in
     let before = state_of names c.loop-local.local in
-    let spent = state_of names c.spend.new.local in (
+    let spent = state_of names c.pay.new.local in (
       tested m test body c.requires.begins.0,
       ap (λ (b : Body). says b (g.A.Api.log c.loop-local.api)) c.loop-local.invariant.serves
           ∙ c.loop-local.invariant.left.1.1 c.requires.begins.0 c.requires.begins.1
-          ∙ turn_begins m test body c.requires.begins.0 before spent (c.in_ok-spend.ensures.ok names),
+          ∙ turn_begins m test body c.requires.begins.0 before spent (c.in_ok-pay.ensures.ok names),
     )
 
 pub repeat-exec_all-requires : goal.repeat-exec_all-requires
@@ -71,15 +71,15 @@ repeat-exec_all-requires g t c = λ κs l.
     let body : meaning.State → (meaning.State → Behaviour) → Behaviour = meaning.exec_all (frame_of c.args.frame.now) (statements_in names c.args.steps.now) in
     let m = c.loop-local.invariant.left.0 in
     let before = state_of names c.loop-local.local in
-    let spent = state_of names c.spend.new.local in
-    let tried = state_of names c.eval.new.local in
+    let spent = state_of names c.pay.new.local in
+    let tried = state_of names c.find.new.local in
     let v = c.in_ok-value.value in
     let found : (k : meaning.State → Behaviour) → says (g.A.Api.serves c.args.api.now) (g.A.Api.log c.loop-local.api) ≡ meaning.turns (suc m) test body before k
-    → says (g.A.Api.serves c.eval.new.api) (g.A.Api.log c.eval.new.api) ≡ tested m test body k v tried =
+    → says (g.A.Api.serves c.find.new.api) (g.A.Api.log c.find.new.api) ≡ tested m test body k v tried =
     λ k here.
-    ap (λ (b : Body). says b (g.A.Api.log c.eval.new.api)) c.in_ok-value.ensures.serves
-    ∙ c.in_ok-value.ensures.ok (tested m test body k) (ap (λ (b : Body). says b (g.A.Api.log c.loop-local.api)) c.loop-local.invariant.serves ∙ here ∙ turn_begins m test body k before spent (c.in_ok-spend.ensures.ok names)) in
-    let served : g.A.Api.serves c.eval.new.api ≡ g.A.Api.serves c.args.api.now = c.in_ok-value.ensures.serves ∙ c.loop-local.invariant.serves in (
+    ap (λ (b : Body). says b (g.A.Api.log c.find.new.api)) c.in_ok-value.ensures.serves
+    ∙ c.in_ok-value.ensures.ok (tested m test body k) (ap (λ (b : Body). says b (g.A.Api.log c.loop-local.api)) c.loop-local.invariant.serves ∙ here ∙ turn_begins m test body k before spent (c.in_ok-pay.ensures.ok names)) in
+    let served : g.A.Api.serves c.find.new.api ≡ g.A.Api.serves c.args.api.now = c.in_ok-value.ensures.serves ∙ c.loop-local.invariant.serves in (
       omega arith,
       (
         l.0,
@@ -112,17 +112,17 @@ repeat-returns-then-value-eq0-clause-ok g t c =
     let body : meaning.State → (meaning.State → Behaviour) → Behaviour = meaning.exec_all (frame_of c.args.frame.now) (statements_in names c.args.steps.now) in
     let m = c.loop-local.invariant.left.0 in
     let before = state_of names c.loop-local.local in
-    let spent = state_of names c.spend.new.local in
-    let tried = state_of names c.eval.new.local in
+    let spent = state_of names c.pay.new.local in
+    let tried = state_of names c.find.new.local in
     let v = c.in_ok-value.value in
     let found : (k : meaning.State → Behaviour) → says (g.A.Api.serves c.args.api.now) (g.A.Api.log c.loop-local.api) ≡ meaning.turns (suc m) test body before k
-    → says (g.A.Api.serves c.eval.new.api) (g.A.Api.log c.eval.new.api) ≡ tested m test body k v tried =
+    → says (g.A.Api.serves c.find.new.api) (g.A.Api.log c.find.new.api) ≡ tested m test body k v tried =
     λ k here.
-    ap (λ (b : Body). says b (g.A.Api.log c.eval.new.api)) c.in_ok-value.ensures.serves
-    ∙ c.in_ok-value.ensures.ok (tested m test body k) (ap (λ (b : Body). says b (g.A.Api.log c.loop-local.api)) c.loop-local.invariant.serves ∙ here ∙ turn_begins m test body k before spent (c.in_ok-spend.ensures.ok names)) in
-    let served : g.A.Api.serves c.eval.new.api ≡ g.A.Api.serves c.args.api.now = c.in_ok-value.ensures.serves ∙ c.loop-local.invariant.serves in
+    ap (λ (b : Body). says b (g.A.Api.log c.find.new.api)) c.in_ok-value.ensures.serves
+    ∙ c.in_ok-value.ensures.ok (tested m test body k) (ap (λ (b : Body). says b (g.A.Api.log c.loop-local.api)) c.loop-local.invariant.serves ∙ here ∙ turn_begins m test body k before spent (c.in_ok-pay.ensures.ok names)) in
+    let served : g.A.Api.serves c.find.new.api ≡ g.A.Api.serves c.args.api.now = c.in_ok-value.ensures.serves ∙ c.loop-local.invariant.serves in
     λ k was.
-    ap (λ (b : Body). says b (g.A.Api.log c.eval.new.api)) (sym served)
+    ap (λ (b : Body). says b (g.A.Api.log c.find.new.api)) (sym served)
     ∙ found k (c.loop-local.invariant.left.1.1 k was) ∙ turn_ends m test body k v tried c.if-value-eq0.true
 
 pub repeat-loop-local-preserved : goal.repeat-loop-local-preserved
@@ -132,29 +132,29 @@ repeat-loop-local-preserved g t c =
     let body : meaning.State → (meaning.State → Behaviour) → Behaviour = meaning.exec_all (frame_of c.args.frame.now) (statements_in names c.args.steps.now) in
     let m = c.loop-local.invariant.left.0 in
     let before = state_of names c.loop-local.local in
-    let spent = state_of names c.spend.new.local in
-    let tried = state_of names c.eval.new.local in
+    let spent = state_of names c.pay.new.local in
+    let tried = state_of names c.find.new.local in
     let v = c.in_ok-value.value in
     let found : (k : meaning.State → Behaviour) → says (g.A.Api.serves c.args.api.now) (g.A.Api.log c.loop-local.api) ≡ meaning.turns (suc m) test body before k
-    → says (g.A.Api.serves c.eval.new.api) (g.A.Api.log c.eval.new.api) ≡ tested m test body k v tried =
+    → says (g.A.Api.serves c.find.new.api) (g.A.Api.log c.find.new.api) ≡ tested m test body k v tried =
     λ k here.
-    ap (λ (b : Body). says b (g.A.Api.log c.eval.new.api)) c.in_ok-value.ensures.serves
-    ∙ c.in_ok-value.ensures.ok (tested m test body k) (ap (λ (b : Body). says b (g.A.Api.log c.loop-local.api)) c.loop-local.invariant.serves ∙ here ∙ turn_begins m test body k before spent (c.in_ok-spend.ensures.ok names)) in
-    let served : g.A.Api.serves c.eval.new.api ≡ g.A.Api.serves c.args.api.now = c.in_ok-value.ensures.serves ∙ c.loop-local.invariant.serves in
-    let second : IsTrace (behaviour (g.A.Api.serves c.args.api.now)) (g.A.Api.log c.loop-local.api) → IsTrace (behaviour (g.A.Api.serves c.args.api.now)) (g.A.Api.log c.eval.new.api) =
-    subst (λ (b : Body). IsTrace (behaviour b) (g.A.Api.log c.loop-local.api) → IsTrace (behaviour b) (g.A.Api.log c.eval.new.api)) c.loop-local.invariant.serves c.in_ok-value.ensures.trace in
-    let third : IsTrace (behaviour (g.A.Api.serves c.args.api.now)) (g.A.Api.log c.eval.new.api) → IsTrace (behaviour (g.A.Api.serves c.args.api.now)) (g.A.Api.log c.exec_all.new.api) =
-    subst (λ (b : Body). IsTrace (behaviour b) (g.A.Api.log c.eval.new.api) → IsTrace (behaviour b) (g.A.Api.log c.exec_all.new.api)) served c.in_ok-guid.ensures.trace in
-    let done : IsDone (says (g.A.Api.serves c.eval.new.api) (g.A.Api.log c.eval.new.api)) (body tried) (state_of names c.exec_all.new.local) (says (g.A.Api.serves c.eval.new.api) (g.A.Api.log c.exec_all.new.api)) =
-    flowed_on _ _ (body tried) _ c.in_ok-guid.field-0 c.in_default.is c.in_ok-guid.ensures.ok in
-    let less : c.exec_all.new.local.fuel < c.loop-local.local.fuel = omega (arith, c.in_ok-guid.ensures.fuel, c.in_ok-value.ensures.fuel, c.in_ok-spend.ensures.less) in
+    ap (λ (b : Body). says b (g.A.Api.log c.find.new.api)) c.in_ok-value.ensures.serves
+    ∙ c.in_ok-value.ensures.ok (tested m test body k) (ap (λ (b : Body). says b (g.A.Api.log c.loop-local.api)) c.loop-local.invariant.serves ∙ here ∙ turn_begins m test body k before spent (c.in_ok-pay.ensures.ok names)) in
+    let served : g.A.Api.serves c.find.new.api ≡ g.A.Api.serves c.args.api.now = c.in_ok-value.ensures.serves ∙ c.loop-local.invariant.serves in
+    let second : IsTrace (behaviour (g.A.Api.serves c.args.api.now)) (g.A.Api.log c.loop-local.api) → IsTrace (behaviour (g.A.Api.serves c.args.api.now)) (g.A.Api.log c.find.new.api) =
+    subst (λ (b : Body). IsTrace (behaviour b) (g.A.Api.log c.loop-local.api) → IsTrace (behaviour b) (g.A.Api.log c.find.new.api)) c.loop-local.invariant.serves c.in_ok-value.ensures.trace in
+    let third : IsTrace (behaviour (g.A.Api.serves c.args.api.now)) (g.A.Api.log c.find.new.api) → IsTrace (behaviour (g.A.Api.serves c.args.api.now)) (g.A.Api.log c.exec_all.new.api) =
+    subst (λ (b : Body). IsTrace (behaviour b) (g.A.Api.log c.find.new.api) → IsTrace (behaviour b) (g.A.Api.log c.exec_all.new.api)) served c.in_ok-exec_all.ensures.trace in
+    let done : IsDone (says (g.A.Api.serves c.find.new.api) (g.A.Api.log c.find.new.api)) (body tried) (state_of names c.exec_all.new.local) (says (g.A.Api.serves c.find.new.api) (g.A.Api.log c.exec_all.new.api)) =
+    flowed_on _ _ (body tried) _ c.in_ok-exec_all.field-0 _ c.in_default.is c.in_ok-exec_all.ensures.ok in
+    let less : c.exec_all.new.local.fuel < c.loop-local.local.fuel = omega (arith, c.in_ok-exec_all.ensures.fuel, c.in_ok-value.ensures.fuel, c.in_ok-pay.ensures.less) in
     let enough : c.loop-local.local.fuel ≤ m = c.loop-local.invariant.left.1.0 in
     record {
-      ready = c.in_ok-guid.ensures.ready;
-      serves = c.in_ok-guid.ensures.serves ∙ served;
-      kept = c.in_ok-guid.ensures.kept ∙ c.in_ok-value.ensures.kept ∙ c.loop-local.invariant.kept;
+      ready = c.in_ok-exec_all.ensures.ready;
+      serves = c.in_ok-exec_all.ensures.serves ∙ served;
+      kept = c.in_ok-exec_all.ensures.kept ∙ c.in_ok-value.ensures.kept ∙ c.loop-local.invariant.kept;
       trace = λ was. third (second (c.loop-local.invariant.trace was));
-      room = c.in_ok-guid.ensures.room;
+      room = c.in_ok-exec_all.ensures.room;
       fuel = omega (arith, c.loop-local.invariant.fuel);
       left = (
         m - 1,
@@ -166,7 +166,7 @@ repeat-loop-local-preserved g t c =
               ∙ turns_left m c.exec_all.new.local.fuel c.loop-local.local.fuel test body (state_of names c.exec_all.new.local) k less enough,
         ),
       );
-      later = omega (arith, c.loop-local.invariant.later, c.in_ok-value.ensures.later, c.in_ok-guid.ensures.later);
+      later = omega (arith, c.loop-local.invariant.later, c.in_ok-value.ensures.later, c.in_ok-exec_all.ensures.later);
     }
 
 pub exec-exec_all-requires : goal.exec-exec_all-requires
