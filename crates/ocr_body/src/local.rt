@@ -8,8 +8,8 @@ ghost use Rattle.ocr_body.specs.Local.{state_of};
 
 use crate::call::BodyStop;
 use crate::checked::Checked;
-use ocr_tree::Name;
 use ocr_guid::Guid;
+use ocr_tree::Name;
 use std::alloc::Global;
 
 // What the walker keeps of a body: its fuel, the code of its last call, its variables by their places, and, once it

@@ -11,8 +11,8 @@ ghost use Rattle.ocr_body.specs.Resolved.{Grew, IsPlace, IsExpression, IsArgumen
 ghost use Rattle.ocr_tree.specs.View.{expression_of, name_of, arguments_of, members_of, output_of, statement_of, statements_of, functions_of, tree_of};
 
 use crate::code::{Args, FunctionCode, Made, Node, Step};
-use ocr_tree::{Expr, Function, Invoke, Name, Program, Stmt, number_named};
 use ocr_base::NoMemory;
+use ocr_tree::{Expr, Function, Invoke, Name, Program, Stmt, number_named};
 use std::alloc::Global;
 
 // The place of a name that was met before.

@@ -16,9 +16,9 @@ use crate::code::{Args, Made, Node, Step};
 use crate::given::{Given, edt_create, template_create};
 use crate::local::{Flow, Frame, Halt, Local, pay, read, spend, stopped, write};
 use crate::operators::{apply, operate};
-use ocr_guid::Guid;
-use ocr_base::{NoMemory, Seq};
 use crate::plain::{NONE_LEFT, plain};
+use ocr_base::{NoMemory, Seq};
+use ocr_guid::Guid;
 use std::alloc::Global;
 
 // The value of an expression.
