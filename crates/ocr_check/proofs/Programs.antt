@@ -8,7 +8,8 @@ use Rattle.std.specs.Ordering.{nat_cmp}
 use Rattle.std.specs.Str.{bytes_eq}
 use Rattle.ocr_tree.specs.Tree.{FunctionTree}
 use Rattle.ocr_tree.specs.View.{function_of, functions_of, tree_of}
-use Rattle.ocr_check.specs.Check.{is_among, names_of, IsFirst, FailsNowhere, HasNamesake, Breaks, BreaksSome, BreaksNoRule, IsBreach, same_name, no_main, in_body, main_name}
+use Rattle.ocr_check.specs.Check.{is_among, names_of, IsFirst, FailsNowhere, HasNamesake, Breaks, BreaksSome, BreaksNoRule, IsBreach, same_name, no_main, in_body}
+use Rattle.ocr_tree.specs.Functions.{main_name}
 use Rattle.ocr_check.specs.Checking.{function_rule}
 use Rattle.ocr_check.specs.Scope.{knows, IsStopAt, IsStopOf}
 use Rattle.ocr_check.specs.declared.rules.CheckStop.{CheckStop}

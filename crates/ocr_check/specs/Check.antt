@@ -8,6 +8,7 @@ use Rattle.ocr_tree.specs.Tree.{Expression, Arguments, Statement, Statements, Fu
 use Rattle.ocr_tree.specs.Tree as tree
 use Rattle.ocr_tree.specs.Built.{is_call_built}
 pub use Rattle.ocr_tree.specs.Rules.{count_of}
+use Rattle.ocr_tree.specs.Functions.{main_name}
 use Rattle.ocr_tree.specs.declared.tree.CallName.{CallName}
 use Rattle.ocr_tree.specs.declared.tree.CallName.TheVariants as name
 use Rattle.ocr_check.specs.declared.scope.ListKind.{ListKind}
@@ -20,10 +21,6 @@ is_among x names = list_any (λ y. bytes_eq y x) names
 -- the names of functions
 abbrev pub names_of : List FunctionTree → List (List ℕ)
 names_of functions = map (λ f. f.name) functions
-
--- the name of the function that the first EDT runs: mainEdt
-abbrev pub main_name : List ℕ
-main_name = 109 ∷ 97 ∷ 105 ∷ 110 ∷ 69 ∷ 100 ∷ 116 ∷ []
 
 -- the most names that a function lets
 abbrev pub most_lets : ℕ

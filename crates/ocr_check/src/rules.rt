@@ -1,17 +1,16 @@
 // The rules that a task program keeps.
-ghost use Rattle.std.specs.Prelude.{◌≡◌, ◌<◌, ◌^◌, ℕ, true, List, length, IfOk, IfErr, OnOk};
-ghost use Rattle.ocr_check.specs.Check.{FailsNowhere, HasNamesake, BreaksNoRule, BreachLaw, is_among, main_name};
+ghost use Rattle.std.specs.Prelude.{◌≡◌, ◌<◌, ◌+◌, ◌^◌, ℕ, List, length, IfOk, IfErr, OnOk};
+ghost use Rattle.ocr_check.specs.Check.{FailsNowhere, HasNamesake, BreaksNoRule, BreachLaw, is_among};
 ghost use Rattle.ocr_check.specs.Check.{names_of as names_in};
 ghost use Rattle.ocr_check.specs.Scope.{knows, IsStopOf};
-ghost use Rattle.ocr_tree.specs.Built.{are_built};
-ghost use Rattle.ocr_tree.specs.Rules.{are_functions_named, are_lists_short};
+ghost use Rattle.ocr_tree.specs.Runnable.{IsRunnable};
 ghost use Rattle.ocr_body.specs.Checked.{checked_tree};
 ghost use Rattle.ocr_tree.specs.View.{functions_of, tree_of};
 
 use crate::scope::walk_function;
+use ocr_base::NoMemory;
 use ocr_body::Checked;
 use ocr_tree::{Function, Program};
-use ocr_base::NoMemory;
 use std::alloc::{AllocFailed, Global};
 use std::collections::BTreeSet;
 
@@ -83,12 +82,9 @@ fn names_of(alloc: Global, functions: &[Function]) -> Result<BTreeSet<&[u8]>, Ch
 
 // Looks for the first breach of the rules.
 fn judge(alloc: Global, functions: &[Function]) -> Result<(), CheckStop>
-    requires { length functions.now < 2 ^ 32 }
+    requires { length functions.now + 1 < 2 ^ 32 }
     ensures ok { OnOk result (BreaksNoRule (functions_of functions.now)) }
-    ensures built { OnOk result (are_built (functions_of functions.now) ≡ true) }
-    ensures named { OnOk result (are_functions_named (functions_of functions.now) ≡ true) }
-    ensures short { OnOk result (are_lists_short (functions_of functions.now) ≡ true) }
-    ensures main { OnOk result (is_among main_name (names_in (functions_of functions.now)) ≡ true) }
+    ensures runnable { OnOk result (IsRunnable (functions_of functions.now)) }
     ensures err { IfErr result (IsStopOf (functions_of functions.now)) }
 {
     let names = names_of(alloc, functions)?;
@@ -104,21 +100,15 @@ fn judge(alloc: Global, functions: &[Function]) -> Result<(), CheckStop>
     Ok(())
 }
 
-/// Makes a program ready to be run where it breaks no rule. Otherwise the fault is its first breach: two functions of one name are looked
-/// for first, then whether there is a `mainEdt`, and then each function is walked in the order of the text.
-/// `NoMemory` is also the answer to more functions than a fault can number, which is 2^32 - 1 or more.
+/// Makes a program ready to be run where it breaks no rule. Otherwise the fault is its first breach: two functions
+/// of one name are looked for first, then whether there is a `mainEdt`, and then each function is walked in the
+/// order of the text. A fault numbers the functions in 32 bits.
 pub fn check(alloc: Global, program: Program) -> Result<Checked, CheckStop>
+    requires { length (tree_of program) + 1 < 2 ^ 32 }
     ensures tree { IfOk result (λ checked. checked_tree checked ≡ tree_of program) }
     ensures ok { OnOk result (BreaksNoRule (tree_of program)) }
-    ensures built { OnOk result (are_built (tree_of program) ≡ true) }
-    ensures named { OnOk result (are_functions_named (tree_of program) ≡ true) }
-    ensures short { OnOk result (are_lists_short (tree_of program) ≡ true) }
-    ensures main { OnOk result (is_among main_name (names_in (tree_of program)) ≡ true) }
     ensures fault { IfErr result (IsStopOf (tree_of program)) }
 {
-    if program.functions.len() >= u32::MAX as usize {
-        return Err(CheckStop::NoMemory);
-    }
     judge(alloc, &program.functions)?;
     Ok(Checked::new(alloc, program)?)
 }

@@ -1,3 +1,4 @@
 pub mod Digits
 pub mod Counted
 pub mod Spelling
+pub mod Sizes

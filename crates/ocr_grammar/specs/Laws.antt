@@ -1,6 +1,8 @@
 -- Laws of the grammar and its limits.
-use Rattle.std.specs.Prelude.{◌≡◌, ◌+◌, ℕ, List, ◌++◌, Option, Some, None, length}
-use Rattle.ocr_tree.specs.Tree.{Expression, Arguments}
+use Rattle.std.specs.Prelude.{◌≡◌, ◌≤◌, ◌+◌, ℕ, List, ◌++◌, Option, Some, None, length}
+use Rattle.ocr_text.specs.Tokens.{AreTokens}
+use Rattle.ocr_text.specs.declared.token.Token.{Token}
+use Rattle.ocr_tree.specs.Tree.{Expression, Arguments, FunctionTree}
 use Rattle.ocr_tree.specs.declared.tree.BinaryOp.{BinaryOp}
 use Rattle.ocr_tree.specs.declared.tree.CallName.{CallName}
 use Rattle.ocr_tree.specs.declared.tree.Constant as of_constant
@@ -9,6 +11,7 @@ use Rattle.ocr_grammar.specs.declared.lexeme.Lexeme.TheVariants as lexeme
 use Rattle.ocr_grammar.specs.declared.lexeme.Word.{Word}
 use Rattle.ocr_grammar.specs.declared.slots.Slot.{Slot}
 use Rattle.ocr_grammar.specs.Grammar.{IsExpression, AreArguments}
+use Rattle.ocr_grammar.specs.Lexing.{IsTreeOf}
 use Rattle.ocr_grammar.specs.Limits.{Tally, tally}
 use Rattle.ocr_grammar.specs.Texts.{word_text, call_text, constant_text, operator_text, named, symbol}
 
@@ -30,3 +33,8 @@ pub record SpellingLaw : Type 0 where
   pub call : (c : CallName) → named (call_text c) ≡ lexeme.Call c
   pub constant : (c : of_constant.Constant) → named (constant_text c) ≡ lexeme.Constant c
   pub operator : (op : BinaryOp) → symbol (operator_text op) ≡ Some (lexeme.Operator op)
+
+-- A program has no more functions than its text has bytes.
+abbrev pub SizeLaw : Type 0
+SizeLaw = (bytes : List ℕ) (tokens : List Token) (program : List FunctionTree)
+    → AreTokens bytes tokens → IsTreeOf bytes tokens program → length program ≤ length bytes

@@ -14,6 +14,8 @@ pub enum Stop {
     Syntax(usize),
     /// The function breaks the rule.
     Rule(u32, u32),
+    /// No test has so many.
+    TooManyFunctions,
     NoMemory,
 }
 
@@ -29,6 +31,9 @@ pub fn stop_of(alloc: Global, text: &[u8]) -> Option<Stop> {
         Err(ParseStop::Fault(fault)) => return Some(Stop::Syntax(fault.place)),
         Err(ParseStop::NoMemory) => return Some(Stop::NoMemory),
     };
+    if program.functions.len() > 1000 {
+        return Some(Stop::TooManyFunctions);
+    }
     match check(alloc, program) {
         Ok(_checked) => None,
         Err(CheckStop::Fault(fault)) => Some(Stop::Rule(fault.rule, fault.function)),

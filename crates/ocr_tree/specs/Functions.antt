@@ -14,9 +14,13 @@ abbrev pub number_named : List ℕ → List FunctionTree → ℕ
 number_named name [] = 1
 number_named name (f ∷ rest) = if bytes_eq f.name name then 1 else number_named name rest + 1
 
--- the number of the function that the first EDT runs
+-- the name of the function that the first EDT runs
+abbrev pub main_name : List ℕ
+main_name = codes "mainEdt"
+
+-- its number
 abbrev pub number_of_main : List FunctionTree → ℕ
-number_of_main program = number_named (codes "mainEdt") program
+number_of_main program = number_named main_name program
 
 -- the numbers of a program's functions by their names
 abbrev pub numbers_in : List FunctionTree → List ℕ → ℕ

@@ -1,11 +1,12 @@
 use Rattle.std.proofs.Common.{◌≡◌, ◌≤◌, ◌∙◌, ℕ, List, length, take, true, false, refl, sym, ap, subst, arith}
-use Rattle.std.proofs.lemmas.List.{take_all}
+use Rattle.std.proofs.lemmas.List.{take_all, length-map}
 use Rattle.std.proofs.lemmas.Result.{err_from_is_err_and}
-use Rattle.ocr_check.specs.Check.{BreaksSome, FailsNowhere, is_among, main_name, names_of, no_main}
+use Rattle.ocr_check.specs.Check.{BreaksSome, FailsNowhere, is_among, names_of, no_main}
+use Rattle.ocr_tree.specs.Functions.{main_name}
 use Rattle.ocr_check.specs.Scope.{knows}
 use Rattle.ocr_tree.specs.View.{function_of, functions_of}
 use Rattle.ocr_tree.specs.declared.tree.Function.{Function}
-use Rattle.ocr_check.proofs.Built.{keeps_built, keeps_named, keeps_short}
+use Rattle.ocr_check.proofs.Built.{keeps_built, keeps_named, keeps_short, named_within}
 use Rattle.ocr_check.proofs.First.{FailsNowhere-nil}
 use Rattle.ocr_check.proofs.Programs.{none_more, function_sound, walk_stops}
 use Rattle.ocr_check.proofs.rules.judge.Goals as goal
@@ -33,27 +34,18 @@ loop-i-preserved c =
     none_more (BreaksSome (names_of (functions_of c.args.functions.now))) c.args.functions.now c.loop-i.i c.index-functions-i.result c.loop-i-test.true c.index-functions-i.is c.loop-i.invariant
     (λ b. function_sound (λ x. knows c.in_ok-names.names x) (names_of (functions_of c.args.functions.now)) c.in_ok-names.ensures.names (functions_of (take c.loop-i.i c.args.functions.now)) (function_of c.index-functions-i.result) c.in_ok-walk_function.ensures.ok b)
 
-pub returns-clause-built : goal.returns-clause-built
-returns-clause-built c =
+pub returns-clause-runnable : goal.returns-clause-runnable
+returns-clause-runnable c =
     let fs : List Function = c.args.functions.now in
     let outside : length fs ≤ c.loop-i.i = omega (arith, c.loop-i-test.false) in
-    keeps_built (names_of (functions_of fs)) (functions_of fs)
-    (subst (λ (gs : List Function). FailsNowhere (BreaksSome (names_of (functions_of fs))) (functions_of gs)) (take_all c.loop-i.i fs outside) c.loop-i.invariant)
-
-pub returns-clause-main : goal.returns-clause-main
-returns-clause-main c =
-    sym (c.in_ok-names.ensures.names main_name) ∙ ap (λ (x : List ℕ). knows c.in_ok-names.names x) (sym c.as_slice.ensures) ∙ sym c.contains.ensures ∙ c.if-not-contains.false
-
-pub returns-clause-named : goal.returns-clause-named
-returns-clause-named c =
-    let fs : List Function = c.args.functions.now in
-    let outside : length fs ≤ c.loop-i.i = omega (arith, c.loop-i-test.false) in
-    keeps_named (functions_of fs)
-    (subst (λ (gs : List Function). FailsNowhere (BreaksSome (names_of (functions_of fs))) (functions_of gs)) (take_all c.loop-i.i fs outside) c.loop-i.invariant)
-
-pub returns-clause-short : goal.returns-clause-short
-returns-clause-short c =
-    let fs : List Function = c.args.functions.now in
-    let outside : length fs ≤ c.loop-i.i = omega (arith, c.loop-i-test.false) in
-    keeps_short (names_of (functions_of fs)) (functions_of fs)
-    (subst (λ (gs : List Function). FailsNowhere (BreaksSome (names_of (functions_of fs))) (functions_of gs)) (take_all c.loop-i.i fs outside) c.loop-i.invariant)
+    let sound : FailsNowhere (BreaksSome (names_of (functions_of fs))) (functions_of fs) =
+    subst (λ (gs : List Function). FailsNowhere (BreaksSome (names_of (functions_of fs))) (functions_of gs)) (take_all c.loop-i.i fs outside) c.loop-i.invariant in
+    let main : is_among main_name (names_of (functions_of fs)) ≡ true =
+    sym (c.in_ok-names.ensures.names main_name) ∙ ap (λ (x : List ℕ). knows c.in_ok-names.names x) (sym c.as_slice.ensures) ∙ sym c.contains.ensures ∙ c.if-not-contains.false in
+    record {
+      built = keeps_built (names_of (functions_of fs)) (functions_of fs) sound;
+      named = keeps_named (functions_of fs) sound;
+      short = keeps_short (names_of (functions_of fs)) (functions_of fs) sound;
+      has_main = named_within main_name (functions_of fs) main;
+      few = omega (arith, c.requires, length-map fs function_of);
+    }

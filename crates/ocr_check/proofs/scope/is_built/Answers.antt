@@ -1,4 +1,4 @@
-use Rattle.std.proofs.Common.{◌≡◌, ◌∙◌, ◌&&◌, sym, ap, List, Bool}
+use Rattle.std.proofs.Common.{◌∙◌, ◌&&◌, sym, ap, List}
 use Rattle.ocr_tree.specs.Built.{is_none}
 use Rattle.ocr_tree.specs.View.{members_of, output_of}
 use Rattle.ocr_tree.specs.declared.tree.Expr.{Expr}
