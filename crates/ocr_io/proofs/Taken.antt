@@ -1,7 +1,7 @@
 -- What two takings from a source come to.
 use Rattle.std.proofs.Common.{◌≡◌, ◌+◌, ℕ, List, ◌++◌, length, Option, refl, ◌∙◌, arith, length-append}
 use Rattle.std.specs.Io.KnownBytes.{Consumes}
-use Rattle.ocr_io.specs.Counts.{RoseBy}
+use Rattle.ocr_base.specs.Count.{RoseBy}
 use Rattle.ocr_io.specs.Source.{Took}
 use Rattle.ocr_io.proofs.KnownBytes.{consumes_more}
 

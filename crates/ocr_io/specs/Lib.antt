@@ -1,4 +1,3 @@
-pub mod Counts
 pub mod Source
 pub mod MemorySource
 pub mod MemorySink

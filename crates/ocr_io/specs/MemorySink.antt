@@ -1,7 +1,7 @@
 -- A sink in memory.
 use Rattle.std.specs.Prelude.{ℕ, ◌-◌, ◌==◌, ◌||◌, Bool, List, ◌++◌, take, Result, Ok, Err}
 use Rattle.ocr_io.specs.MemorySource.{is_listed}
-use Rattle.ocr_io.specs.Counts.{count_on}
+use Rattle.ocr_base.specs.Count.{count_on}
 use Rattle.ocr_io.specs.declared.Failed.{Failed}
 
 -- the bytes that it took, how many more it has room for, the most that a call takes, the calls that fail, and how many calls and faults there were

@@ -1,7 +1,7 @@
 -- A source in memory.
 use Rattle.std.specs.Prelude.{ℕ, ◌==◌, ◌+◌, Bool, List, drop, Result, Ok, Err}
 use Rattle.std.specs.List.{list_any}
-use Rattle.ocr_io.specs.Counts.{count_on}
+use Rattle.ocr_base.specs.Count.{count_on}
 use Rattle.ocr_io.specs.declared.Failed.{Failed}
 
 -- the bytes that it has left, the most that a call gives, the calls that fail, and how many calls, bytes given and faults there were

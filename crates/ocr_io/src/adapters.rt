@@ -4,6 +4,7 @@ ghost use Rattle.std.specs.Io.{ReadsAtMost};
 ghost use Rattle.std.specs.Io.KnownBytes.{ReadConsumes, WriteAppends};
 
 use crate::{Failed, Sink, Source};
+use ocr_base::Count;
 use std::io;
 use std::io::{ErrorKind, Read, Write};
 
@@ -11,8 +12,8 @@ use std::io::{ErrorKind, Read, Write};
 #[derive(Drop)]
 pub struct StdinSource<R: Read> {
     reader: R,
-    given: u64,
-    faults: u64,
+    given: Count,
+    faults: Count,
 }
 
 impl<R: Read> StdinSource<R> {
@@ -24,8 +25,8 @@ impl<R: Read> StdinSource<R> {
     {
         StdinSource {
             reader,
-            given: 0,
-            faults: 0,
+            given: Count::new(),
+            faults: Count::new(),
         }
     }
 }
@@ -40,18 +41,18 @@ impl<R: Read> Source for StdinSource<R> {
     fn read(&mut self, buf: &mut [u8]) -> Result<usize, Failed> {
         match read_retrying(&mut self.reader, buf) {
             Ok(count) => {
-                self.given = self.given.saturating_add(count as u64);
+                self.given.raise_by(count as u64);
                 Ok(count)
             }
             Err(_) => {
-                self.faults = self.faults.saturating_add(1);
+                self.faults.raise();
                 Err(Failed)
             }
         }
     }
 
     fn faults(&self) -> u64 {
-        self.faults
+        self.faults.number()
     }
 }
 
@@ -59,7 +60,7 @@ impl<R: Read> Source for StdinSource<R> {
 #[derive(Drop)]
 pub struct StdoutSink<W: Write> {
     writer: W,
-    faults: u64,
+    faults: Count,
 }
 
 impl<W: Write> StdoutSink<W> {
@@ -68,7 +69,10 @@ impl<W: Write> StdoutSink<W> {
         ensures taken { ⟦<StdoutSink<W> as Sink>⟧.taken result ≡ W.contents writer }
         ensures failures { ⟦<StdoutSink<W> as Sink>⟧.failures result ≡ 0 }
     {
-        StdoutSink { writer, faults: 0 }
+        StdoutSink {
+            writer,
+            faults: Count::new(),
+        }
     }
 }
 
@@ -81,23 +85,20 @@ impl<W: Write> Sink for StdoutSink<W> {
         match write_retrying(&mut self.writer, piece) {
             Ok(count) if 0 < count => Ok(count),
             _ => {
-                self.faults = self.faults.saturating_add(1);
+                self.faults.raise();
                 Err(Failed)
             }
         }
     }
 
     fn faults(&self) -> u64 {
-        self.faults
+        self.faults.number()
     }
 }
 
 /// The standard error as a sink, over a writer that keeps nothing back.
 #[derive(Drop)]
-pub struct StderrSink<W: Write> {
-    writer: W,
-    faults: u64,
-}
+pub struct StderrSink<W: Write>(StdoutSink<W>);
 
 impl<W: Write> StderrSink<W> {
     /// A sink over a writer, with its count at 0.
@@ -105,27 +106,21 @@ impl<W: Write> StderrSink<W> {
         ensures taken { ⟦<StderrSink<W> as Sink>⟧.taken result ≡ W.contents writer }
         ensures failures { ⟦<StderrSink<W> as Sink>⟧.failures result ≡ 0 }
     {
-        StderrSink { writer, faults: 0 }
+        StderrSink(StdoutSink::new(writer))
     }
 }
 
 impl<W: Write> Sink for StderrSink<W> {
-    ghost taken = { λ s. W.contents s.writer };
+    ghost taken = { λ s. W.contents s.0.writer };
 
-    ghost failures = { λ s. s.faults };
+    ghost failures = { λ s. s.0.faults };
 
     fn write(&mut self, piece: &[u8]) -> Result<usize, Failed> {
-        match write_retrying(&mut self.writer, piece) {
-            Ok(count) if 0 < count => Ok(count),
-            _ => {
-                self.faults = self.faults.saturating_add(1);
-                Err(Failed)
-            }
-        }
+        self.0.write(piece)
     }
 
     fn faults(&self) -> u64 {
-        self.faults
+        self.0.faults()
     }
 }
 

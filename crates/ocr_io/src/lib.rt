@@ -12,10 +12,20 @@ pub use memory_sink::MemorySink;
 pub use memory_source::MemorySource;
 pub use sink::{Sink, WriteStop, write_all};
 pub use source::{ReadStop, Source, read_all};
+use std::error::Error;
+use std::fmt;
 
 /// A read or a write failed.
 #[derive(Clone, Copy, PartialEq, Eq, Debug)]
 pub struct Failed;
+
+impl fmt::Display for Failed {
+    fn fmt<W: fmt::Write>(&self, f: &mut fmt::Formatter<W>) -> fmt::Result {
+        f.write_str("a read or a write failed")
+    }
+}
+
+impl Error for Failed {}
 
 #[cfg(test)]
 mod tests;

@@ -1,8 +1,9 @@
 // A sink in memory, which fails where it is told to.
-ghost use Rattle.std.specs.Prelude.{◌≡◌, ◌≤◌, ◌<◌, ◌⊎◌, ◌-◌, ◌↔◌, ◌^◌, IsTrue, IsErr, IfOk, OnErr, Some, [], length, min, vec_len, vec_capacity};
+ghost use Rattle.std.specs.Prelude.{◌≡◌, ◌≤◌, ◌<◌, ◌⊎◌, ◌-◌, ◌↔◌, ◌^◌, IsTrue, IsErr, IfOk, OnOk, OnErr, Some, [], length, min, vec_len, vec_capacity};
 ghost use Rattle.std.specs.Io.KnownBytes.{WriteAppends};
 
 use crate::{Failed, Sink};
+use ocr_base::Count;
 use std::marker::Model;
 
 /// A sink that takes bytes into memory, some at each call, and fails at the calls that it is told.
@@ -13,8 +14,8 @@ pub struct MemorySink {
     free: usize,
     most: usize,
     fails: Vec<u64>,
-    calls: u64,
-    faults: u64,
+    calls: Count,
+    faults: Count,
 }
 
 impl Model for MemorySink {
@@ -55,8 +56,8 @@ impl MemorySink {
             room,
             most,
             fails,
-            calls: 0,
-            faults: 0,
+            calls: Count::new(),
+            faults: Count::new(),
         }
     }
 
@@ -70,7 +71,7 @@ impl MemorySink {
 
 impl Sink for MemorySink {
     ghost use Rattle.std.specs.Prelude.{Some};
-    ghost use Rattle.ocr_io.specs.Counts.{Rose};
+    ghost use Rattle.ocr_base.specs.Count.{Rose};
     ghost use Rattle.ocr_io.specs.MemorySink.{will_fail, after_write};
 
     ghost taken = { λ s. Some s.taken };
@@ -84,15 +85,16 @@ impl Sink for MemorySink {
         ensures bound { IfOk result (λ n. (0 < n) × (n ≤ length piece.now)) }
         ensures bytes { WriteAppends (Some self.old.taken) (Some self.new.taken) result piece.now }
         ensures failed { OnErr result (Rose self.old.faults self.new.faults) }
+        ensures calm { OnOk result (self.new.faults ≡ self.old.faults) }
         ensures later { self.old.faults ≤ self.new.faults }
         ensures fails { IsErr result ↔ IsTrue (will_fail self.old) }
         ensures count { IfOk result (λ n. n ≡ min (min self.old.free self.old.most) (length piece.now)) }
         ensures state { self.new ≡ after_write self.old piece.now result }
     {
-        let call = self.calls;
-        self.calls = call.saturating_add(1);
+        let call = self.calls.number();
+        self.calls.raise();
         if self.free == 0 || self.fails.as_slice().contains(&call) {
-            self.faults = self.faults.saturating_add(1);
+            self.faults.raise();
             return Err(Failed);
         }
         let count = self.free.min(self.most).min(piece.len());
@@ -107,6 +109,6 @@ impl Sink for MemorySink {
     }
 
     fn faults(&self) -> u64 {
-        self.faults
+        self.faults.number()
     }
 }

@@ -1,9 +1,10 @@
 // A source in memory, which fails where it is told to.
-ghost use Rattle.std.specs.Prelude.{◌≡◌, ◌≤◌, ◌<◌, ◌↔◌, ◌^◌, IsTrue, IsErr, IfOk, OnErr, Some, length, min};
+ghost use Rattle.std.specs.Prelude.{◌≡◌, ◌≤◌, ◌<◌, ◌↔◌, ◌^◌, IsTrue, IsErr, IfOk, OnOk, OnErr, Some, length, min};
 ghost use Rattle.std.specs.Io.{ReadsAtMost};
 ghost use Rattle.std.specs.Io.KnownBytes.{ReadConsumes};
 
 use crate::{Failed, Source};
+use ocr_base::Count;
 use std::marker::Model;
 
 /// A source that gives bytes of memory, some at each call, and fails at the calls that it is told.
@@ -13,8 +14,8 @@ pub struct MemorySource {
     at: usize,
     most: usize,
     fails: Vec<u64>,
-    calls: u64,
-    faults: u64,
+    calls: Count,
+    faults: Count,
 }
 
 impl Model for MemorySource {
@@ -56,15 +57,15 @@ impl MemorySource {
             at: 0,
             most,
             fails,
-            calls: 0,
-            faults: 0,
+            calls: Count::new(),
+            faults: Count::new(),
         }
     }
 }
 
 impl Source for MemorySource {
     ghost use Rattle.std.specs.Prelude.{Some};
-    ghost use Rattle.ocr_io.specs.Counts.{Rose, RoseBy};
+    ghost use Rattle.ocr_base.specs.Count.{Rose, RoseBy};
     ghost use Rattle.ocr_io.specs.MemorySource.{is_listed, after_read};
 
     ghost left = { λ s. Some s.left };
@@ -80,15 +81,16 @@ impl Source for MemorySource {
         ensures bytes { ReadConsumes (Some self.old.left) (Some self.new.left) result buf.new }
         ensures given { IfOk result (λ n. RoseBy self.old.given self.new.given n) }
         ensures failed { OnErr result (Rose self.old.faults self.new.faults) }
+        ensures calm { OnOk result (self.new.faults ≡ self.old.faults) }
         ensures later { self.old.faults ≤ self.new.faults }
         ensures fails { IsErr result ↔ IsTrue (is_listed self.old.fails self.old.calls) }
         ensures count { IfOk result (λ n. n ≡ min (min (length self.old.left) self.old.most) (length buf.old)) }
         ensures state { self.new ≡ after_read self.old result }
     {
-        let call = self.calls;
-        self.calls = call.saturating_add(1);
+        let call = self.calls.number();
+        self.calls.raise();
         if self.fails.as_slice().contains(&call) {
-            self.faults = self.faults.saturating_add(1);
+            self.faults.raise();
             return Err(Failed);
         }
         let from = self.at;
@@ -99,6 +101,6 @@ impl Source for MemorySource {
     }
 
     fn faults(&self) -> u64 {
-        self.faults
+        self.faults.number()
     }
 }

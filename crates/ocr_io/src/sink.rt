@@ -1,9 +1,11 @@
 // Where bytes go.
 ghost use Rattle.std.specs.Prelude.{◌≡◌, ◌≤◌, ◌<◌, List, ℕ, Option, length, IfOk, IfErr, OnErr, OnOk, take};
 ghost use Rattle.std.specs.Io.KnownBytes.{Appends, WriteAppends};
-ghost use Rattle.ocr_io.specs.Counts.{Rose};
+ghost use Rattle.ocr_base.specs.Count.{Rose};
 
 use crate::Failed;
+use std::error::Error;
+use std::fmt;
 
 /// Where bytes go.
 pub trait Sink {
@@ -20,6 +22,7 @@ pub trait Sink {
         ensures bound { IfOk result (λ n. (0 < n) × (n ≤ length piece.now)) }
         ensures bytes { WriteAppends (taken self.old) (taken self.new) result piece.now }
         ensures failed { OnErr result (Rose (failures self.old) (failures self.new)) }
+        ensures calm { OnOk result (failures self.new ≡ failures self.old) }
         ensures later { failures self.old ≤ failures self.new };
 
     /// How often it failed.
@@ -33,6 +36,14 @@ pub struct WriteStop {
     pub sent: usize,
 }
 
+impl fmt::Display for WriteStop {
+    fn fmt<W: fmt::Write>(&self, f: &mut fmt::Formatter<W>) -> fmt::Result {
+        write!(f, "a write failed after {} bytes", self.sent)
+    }
+}
+
+impl Error for WriteStop {}
+
 /// Writes the whole piece.
 #[tactic(auto, using(crate::proofs::KnownBytes::appends_nothing, crate::proofs::KnownBytes::appends_more))]
 pub fn write_all<O: Sink>(sink: &mut O, piece: &[u8]) -> Result<(), WriteStop>
@@ -40,6 +51,7 @@ pub fn write_all<O: Sink>(sink: &mut O, piece: &[u8]) -> Result<(), WriteStop>
     ensures sent { IfErr result (λ stop. Appends (O.taken sink.old) (O.taken sink.new) (take stop.sent piece.now)) }
     ensures within { IfErr result (λ stop. stop.sent < length piece.now) }
     ensures failed { OnErr result (Rose (O.failures sink.old) (O.failures sink.new)) }
+    ensures calm { OnOk result (O.failures sink.new ≡ O.failures sink.old) }
     ensures later { O.failures sink.old ≤ O.failures sink.new }
 {
     let mut sent = 0;

@@ -2,11 +2,13 @@
 ghost use Rattle.std.specs.Prelude.{◌≡◌, ◌≤◌, ◌<◌, ◌+◌, ◌^◌, ◌↔◌, List, [], ℕ, Option, Some, length, IfOk, IfErr, OnErr, OnOk, IfSome, IsErrOf};
 ghost use Rattle.std.specs.Io.{ReadsAtMost};
 ghost use Rattle.std.specs.Io.KnownBytes.{ReadConsumes};
-ghost use Rattle.ocr_io.specs.Counts.{Rose, RoseBy};
+ghost use Rattle.ocr_base.specs.Count.{Rose, RoseBy};
 ghost use Rattle.ocr_io.specs.Source.{Took};
 
 use crate::Failed;
-use std::alloc::Global;
+use std::alloc::{AllocError, Global};
+use std::error::Error;
+use std::fmt;
 
 /// Where bytes come from.
 pub trait Source {
@@ -28,6 +30,7 @@ pub trait Source {
         ensures given { IfOk result (λ n. RoseBy (given self.old) (given self.new) n) }
         ensures kept { OnErr result (given self.new ≡ given self.old) }
         ensures failed { OnErr result (Rose (failures self.old) (failures self.new)) }
+        ensures calm { OnOk result (failures self.new ≡ failures self.old) }
         ensures later { failures self.old ≤ failures self.new };
 
     /// How often it failed.
@@ -46,6 +49,28 @@ pub enum ReadStop {
     NoMemory,
 }
 
+impl From<AllocError> for ReadStop {
+    ghost use Rattle.ocr_io.specs.declared.source.ReadStop.TheVariants.{NoMemory};
+
+    ghost from_gives = { λ _ stop. stop ≡ NoMemory };
+
+    fn from(_refused: AllocError) -> Self {
+        ReadStop::NoMemory
+    }
+}
+
+impl fmt::Display for ReadStop {
+    fn fmt<W: fmt::Write>(&self, f: &mut fmt::Formatter<W>) -> fmt::Result {
+        f.write_str(match self {
+            ReadStop::Failed => "a read failed",
+            ReadStop::TooBig => "there are too many bytes",
+            ReadStop::NoMemory => "no memory",
+        })
+    }
+}
+
+impl Error for ReadStop {}
+
 // How many bytes are asked for at once.
 const PIECE: usize = 4096;
 
@@ -63,6 +88,7 @@ pub fn read_all<S: Source>(alloc: Global, source: &mut S, most: usize) -> Result
     ensures exactly { S.given source.old + (most + 1) < 2 ^ 64
         → ((result ≡ Err ReadStop.TooBig) ↔ (S.given source.new ≡ S.given source.old + (most + 1))) }
     ensures failed { IsErrOf result ReadStop.Failed → Rose (S.failures source.old) (S.failures source.new) }
+    ensures calm { OnOk result (S.failures source.new ≡ S.failures source.old) }
     ensures later { S.failures source.old ≤ S.failures source.new }
 {
     let mut bytes = Vec::new(alloc);
@@ -74,11 +100,7 @@ pub fn read_all<S: Source>(alloc: Global, source: &mut S, most: usize) -> Result
             Err(Failed) => return Err(ReadStop::Failed),
             Ok(0) => return Ok(bytes),
             Ok(count) if room < count => return Err(ReadStop::TooBig),
-            Ok(count) => {
-                if bytes.extend_from_slice(&piece[..count]).is_err() {
-                    return Err(ReadStop::NoMemory);
-                }
-            }
+            Ok(count) => bytes.extend_from_slice(&piece[..count])?,
         }
     }
 }

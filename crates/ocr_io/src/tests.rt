@@ -112,5 +112,10 @@ fn adapts_readers_and_writers(rt: HostRuntime) -> Result<(), Fail> {
     let mut out = StdoutSink::new(full.as_mut_slice());
     assert_eq!(rt; write_all(&mut out, b"abc"), Err(WriteStop { sent: 2 }));
     assert_eq!(rt; out.faults(), 1);
+    let mut full = [0u8; 1];
+    let mut err = StderrSink::new(full.as_mut_slice());
+    assert_eq!(rt; (write_all(&mut err, b"a"), err.faults()), (Ok(()), 0));
+    assert_eq!(rt; write_all(&mut err, b"bc"), Err(WriteStop { sent: 0 }));
+    assert_eq!(rt; err.faults(), 1);
     Ok(())
 }

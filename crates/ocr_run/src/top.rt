@@ -1,7 +1,7 @@
 // The top call.
 ghost use Rattle.std.specs.Prelude.{◌≡◌, ◌≢◌, ◌⊎◌, ◌↔◌, ◌+◌, ◌<◌, ◌≤◌, ◌^◌, [], ◌∷◌, true, IfSome, IfNone, IsSome, IsNone, IfOk, OnErr, IsTrue, map, length, string_bytes, codes, List, ℕ, Option, Some};
 ghost use Rattle.std.specs.Io.KnownBytes.{Keeps};
-ghost use Rattle.ocr_io.specs.Counts.{Rose};
+ghost use Rattle.ocr_base.specs.Count.{Rose};
 ghost use Rattle.ocr_tree.specs.Tree.{FunctionTree};
 ghost use Rattle.ocr_machine.specs.History.{history_of};
 ghost use Rattle.ocr_machine.specs.Output.{ending_of};

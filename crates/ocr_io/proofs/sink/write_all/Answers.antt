@@ -9,5 +9,6 @@ loop-sent-preserved g c =
     record {
       within = search rules;
       appended = appends_more _ _ _ _ _ _ _ rest c.loop-sent.invariant.appended c.in-Ok.ensures.bytes;
+      calm = search rules;
       later = search rules;
     }

@@ -1,6 +1,6 @@
 use Rattle.std.proofs.Common.{◌≡◌, ◌≤◌, ◌-◌, length}
 use Rattle.std.specs.Io.KnownBytes.{Consumes}
-use Rattle.ocr_io.specs.Counts.{RoseBy}
+use Rattle.ocr_base.specs.Count.{RoseBy}
 use Rattle.ocr_io.proofs.source.read_all.Given as goal
 
 abbrev pub invariant-loop-bytes : goal.invariant-loop-bytes
@@ -9,6 +9,7 @@ invariant-loop-bytes g l = record {
   size : length l.bytes.items ≤ l.most;
   piece : length l.piece ≡ 4096;
   given : RoseBy (g.S.Source.given l.fn.source) (g.S.Source.given l.source) (length l.bytes.items);
+  calm : g.S.Source.failures l.source ≡ g.S.Source.failures l.fn.source;
   later : g.S.Source.failures l.fn.source ≤ g.S.Source.failures l.source;
 }
 
