@@ -1,0 +1,5 @@
+pub mod Form
+pub mod Numerals
+pub mod Wanted
+pub mod Given
+pub mod Reader

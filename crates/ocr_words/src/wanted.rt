@@ -1,0 +1,77 @@
+// What the words of a command line ask for.
+use ocr_base::Seq;
+use std::alloc::{AllocError, AllocFailed};
+
+/// Which reports are written after a run, in the order of these fields.
+#[derive(Clone, Copy, PartialEq, Eq, Debug)]
+pub struct Reports {
+    /// The number of entries of each kind.
+    pub summary: bool,
+    /// The EDTs that never started.
+    pub left: bool,
+    /// The uses of destroyed blocks.
+    pub stale: bool,
+    /// The calls and deliveries that were refused.
+    pub refused: bool,
+    /// The accesses of a word that no order separates.
+    pub races: bool,
+    /// The words of the blocks at the end.
+    pub blocks: bool,
+    /// All entries.
+    pub journal: bool,
+}
+
+/// How a run is to be made.
+#[derive(Clone, Copy, PartialEq, Eq, Debug)]
+pub struct Options {
+    /// The number of workers.
+    pub workers: u32,
+    /// How many objects may be made, from 2 to 65,536.
+    pub objects: u64,
+    /// The weight of the entries that each worker may make, from 1 to 16,000,000.
+    pub events: u64,
+    /// The reports after the run.
+    pub reports: Reports,
+}
+
+/// What the words ask for.
+#[derive(Drop)]
+pub enum Wanted {
+    /// A run of the program on the input, with these arguments, at most 32.
+    Run { options: Options, args: Seq<u64> },
+    /// The canonical text of the program on the input.
+    Check,
+    /// A run of the generated program of this size, from 1 to 500.
+    Load { number: u64, options: Options },
+}
+
+/// Why nothing is asked for.
+#[derive(Clone, Copy, PartialEq, Eq, Debug)]
+pub enum WordsStop {
+    /// The words are in none of the forms.
+    Refused,
+    /// Memory was refused.
+    NoMemory,
+}
+
+impl From<AllocError> for WordsStop {
+    ghost use Rattle.std.specs.Prelude.{◌≡◌};
+    ghost use Rattle.ocr_words.specs.declared.wanted.WordsStop.TheVariants.{NoMemory};
+
+    ghost from_gives = { λ _ stop. stop ≡ NoMemory };
+
+    fn from(_refused: AllocError) -> Self {
+        WordsStop::NoMemory
+    }
+}
+
+impl<T: Drop> From<AllocFailed<T>> for WordsStop {
+    ghost use Rattle.std.specs.Prelude.{◌≡◌};
+    ghost use Rattle.ocr_words.specs.declared.wanted.WordsStop.TheVariants.{NoMemory};
+
+    ghost from_gives = { λ _ stop. stop ≡ NoMemory };
+
+    fn from(_refused: AllocFailed<T>) -> Self {
+        WordsStop::NoMemory
+    }
+}
