@@ -1,4 +1,5 @@
 pub mod Sharing
+pub mod Writes
 pub mod Members
 pub mod Rising
 pub mod Ranks

@@ -1,2 +1,3 @@
 pub mod Mode
 pub mod Plan
+pub mod Writes

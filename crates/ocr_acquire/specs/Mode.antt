@@ -28,6 +28,11 @@ is_null mode.Const = false
 is_null mode.Rw = false
 is_null mode.Ew = false
 
+-- only who holds a block in EW has it alone, and may write into a loan of its words
+abbrev pub is_exclusive : Mode → Bool
+is_exclusive mode.Ew = true
+is_exclusive other = false
+
 -- These may hold a block together: RW with RW and RO; RO with RW, RO and CONST; CONST with RO and CONST; EW with nobody.
 abbrev pub together : Mode → Mode → Bool
 together mode.Rw mode.Rw = true

@@ -4,6 +4,7 @@
 ghost use Rattle.std.specs.Prelude.{◌≡◌, ◌≤◌, ◌↔◌, ◌∷◌, ◌++◌, IsTrue, IsSome, IfSome, IfOk};
 ghost use Rattle.std.specs.List.{All, filter};
 ghost use Rattle.ocr_acquire.specs.Plan.{plan_of, IsPlan, IsWellFormed, asks, last_of_each, PlanLaw, OnlyPlanLaw, GivenLaw, LengthLaw};
+ghost use Rattle.ocr_acquire.specs.Writes.{PutLaw, WrittenLaw};
 ghost use Rattle.ocr_acquire.specs.Mode.{rank_of, mode_of, together, fits_all, NumberLaw, OrderLaw, SharingLaw, AloneLaw};
 
 use ocr_base::NoMemory;
@@ -98,9 +99,7 @@ fn asked(alloc: Global, slots: &[(Guid, Mode)]) -> Result<SmallVec<(Guid, Mode),
         if *block == Guid::NULL || *mode == Mode::Null {
             continue;
         }
-        if entries.push((*block, *mode)).is_err() {
-            return Err(NoMemory);
-        }
+        entries.push((*block, *mode))?;
     }
     Ok(entries)
 }
@@ -118,9 +117,7 @@ fn strongest(alloc: Global, entries: &[(Guid, Mode)]) -> Result<SmallVec<(Guid, 
                 continue;
             }
         }
-        if plan.push(entry).is_err() {
-            return Err(NoMemory);
-        }
+        plan.push(entry)?;
     }
     Ok(plan)
 }
@@ -131,6 +128,12 @@ pub fn mode_laws()
     ensures order { OrderLaw }
     ensures sharing { SharingLaw }
     ensures alone { AloneLaw }
+{}
+
+/// What writes make of words, and how a further one is put among them.
+pub fn write_laws()
+    ensures put { PutLaw }
+    ensures written { WrittenLaw }
 {}
 
 /// Slots have one plan, which is a function of them.
@@ -145,6 +148,22 @@ pub fn plan_laws()
 mod tests {
     use super::*;
     use std::test::Fail;
+
+    #[test]
+    fn modes_have_the_numbers_from_0_to_4(rt: HostRuntime) {
+        assert_eq!(rt; Mode::of(0), Some(Mode::Null));
+        assert_eq!(rt; Mode::of(2), Some(Mode::Const));
+        assert_eq!(rt; Mode::of(4), Some(Mode::Ew));
+        assert_eq!(rt; Mode::of(5), None);
+    }
+
+    #[test]
+    fn a_mode_fits_beside_all_holders_or_not(rt: HostRuntime) {
+        let sharing = [(Guid(2), Mode::Ro), (Guid(3), Mode::Rw)];
+        assert!(rt; fits(Mode::Rw, &sharing) && fits(Mode::Ro, &sharing));
+        assert!(rt; !fits(Mode::Const, &sharing) && !fits(Mode::Ew, &sharing));
+        assert!(rt; fits(Mode::Ew, &[]));
+    }
 
     #[test]
     fn the_strongest_mode_of_each_block_is_planned(rt: HostRuntime) -> Result<(), Fail> {

@@ -4,10 +4,12 @@ use Rattle.std.proofs.lemmas.Bool.{and_parts}
 use Rattle.std.proofs.lemmas.List.{length-set, length-replicate}
 use Rattle.ocr_acquire.specs.declared.Mode.TheVariants as mode
 use Rattle.ocr_datablock.specs.Lent as loan
-use Rattle.ocr_datablock.specs.Lent.{Loan, LoanCall, Listing, loan_of, writes_of, last_stored, value_at, written, words_in, IsRising, is_exclusive, StoredLaw, ListingLaw, WritesLaw, WordLaw}
+use Rattle.ocr_datablock.specs.Lent.{Loan, LoanCall, Listing, loan_of, writes_of, last_stored, words_in, StoredLaw, ListingLaw, WritesLaw, WordLaw}
+use Rattle.ocr_acquire.specs.Writes.{value_at, written, IsRising}
+use Rattle.ocr_acquire.specs.Mode.{is_exclusive}
 use Rattle.ocr_datablock.specs.Block.{BlockCall, Ask, Release, Doom, Store, Lend, TakeBack, left_by, is_destroyed, contents, borrower_of, holders_of, queue_of, line_of, is_empty, gone, GoTogether, StandOnce, AskLaw, ReleaseLaw, DoomLaw, StoreLaw, LendLaw, TakeBackLaw, WordsLaw, HoldersLaw, OnceLaw, WaitingLaw, QueueLaw, GoneLaw, LoanLaw}
-use Rattle.ocr_datablock.proofs.Writes.{rises_put, value_put, length_written, word_written}
-use Rattle.ocr_datablock.proofs.Lines.{line_splits, together_joined, together_passed, together_left, IsStuck, stuck_at, stuck_joined, stuck_passed, gone_joined, gone_passed, gone_queue, once_joined, once_left, once_passed, writer_alone, alone_joined, alone_doomed, holds_alone}
+use Rattle.ocr_acquire.proofs.Writes.{rises_put, value_put, length_written, word_written}
+use Rattle.ocr_datablock.proofs.Lines.{line_splits, together_joined, together_passed, together_left, IsStuck, stuck_at, stuck_joined, stuck_passed, gone_joined, gone_passed, gone_queue, once_joined, once_left, once_passed, writer_alone, alone_joined, alone_doomed, holds_alone, other_borrower}
 
 -- LOANS.
 pub stored_law : StoredLaw
@@ -125,12 +127,6 @@ gone_law creator calls is = (gone_queue (is_destroyed calls) (holders_of creator
 
 none_is_some : (t : ℕ) (o : Option ℕ) → o ≡ None → o ≡ Some t → ⊥
 none_is_some t o none some = cc
-
-other_borrower : (t u : ℕ) (o : Option ℕ) → o ≡ Some t → o ≢ Some u → (t == u) ≡ false
-other_borrower t u o is apart = elim (t == u) as (λ b. (t == u) ≡ b → b ≡ false) [
-  | true ↦ λ same. absurd (apart (is ∙ ap (λ (x : ℕ). Some x) (search rules)))
-  | false ↦ λ _. refl
-] refl
 
 pub loan_law : LoanLaw
 loan_law n creator [] t allowed is = cc

@@ -1,5 +1,5 @@
 -- Who holds a block and who waits for it, from call to call.
-use Rattle.std.proofs.Common.{◌≡◌, ◌≢◌, ℕ, List, [], ◌∷◌, ◌++◌, Bool, true, false, ◌&&◌, not, ◌==◌, if◌then◌else◌, Some, None, is_some, arith, refl, rules, sym, ◌∙◌, ap, subst, append_assoc}
+use Rattle.std.proofs.Common.{◌≡◌, ◌≢◌, ℕ, List, [], ◌∷◌, ◌++◌, Bool, true, false, ◌&&◌, not, ◌==◌, if◌then◌else◌, Option, Some, None, is_some, arith, refl, rules, sym, ◌∙◌, ap, subst, append_assoc}
 use Rattle.std.proofs.lemmas.Grind.{common_steps}
 use Rattle.std.proofs.lemmas.Bool.{and_parts, and_from, cond_both}
 use Rattle.std.proofs.lemmas.Bool.Decides.{nat_tests}
@@ -7,7 +7,7 @@ use Rattle.std.proofs.lemmas.List.{append-nil}
 use Rattle.ocr_acquire.specs.declared.Mode.{Mode}
 use Rattle.ocr_acquire.specs.declared.Mode.TheVariants as mode
 use Rattle.ocr_acquire.specs.Mode.{together, fits_all}
-use Rattle.ocr_datablock.specs.Block.{Line, is_empty, names, mode_in, without, front_that_fits, rest_that_waits, gone, can_grant, joined, left_by, leavers, passed_on, GoTogether, StandOnce}
+use Rattle.ocr_datablock.specs.Block.{Line, is_empty, names, mode_in, without, front_that_fits, rest_that_waits, gone, can_grant, joined, left_by, leavers, passed_on, GoTogether, IsLentTo, StandOnce}
 
 -- THE ORDER OF THE QUEUE.
 pub queue_splits : (holders queue : List (ℕ × Mode)) → queue ≡ front_that_fits holders queue ++ rest_that_waits holders queue
@@ -275,3 +275,39 @@ pub holds_alone : (line : Line) (u t : ℕ) → line.holders ≡ (u, mode.Ew) �
 holds_alone line u t alone holds =
     let one : is_some (if u == t then Some mode.Ew else None) ≡ true = rw alone at holds in
     grind (arith, common_steps, nat_tests)
+
+pub other_borrower : (t u : ℕ) (o : Option ℕ) → o ≡ Some t → o ≢ Some u → (t == u) ≡ false
+other_borrower t u o is apart = elim (t == u) as (λ b. (t == u) ≡ b → b ≡ false) [
+  | true ↦ λ same. absurd (apart (is ∙ ap (λ (x : ℕ). Some x) (search rules)))
+  | false ↦ λ _. refl
+] refl
+
+-- WHO HAS THE WORDS ON LOAN.
+-- somebody is granted the block, and nobody who does not fit beside its borrower
+pub lent_granted : (borrower : Option ℕ) (destroyed : Bool) (line : Line) (t : ℕ) (m : Mode) → can_grant destroyed line m ≡ true
+    → GoTogether line.holders → IsLentTo borrower line.holders → GoTogether (line.holders ++ (t, m) ∷ []) × IsLentTo borrower (line.holders ++ (t, m) ∷ [])
+lent_granted None destroyed line t m can all lent = (together_push line.holders (t, m) all (and_parts _ _ (and_parts _ _ can).1).1, tt)
+lent_granted (Some u) destroyed line t m can all lent =
+    let fits : fits_all m line.holders ≡ true = (and_parts _ _ (and_parts _ _ can).1).1 in
+    let one : fits_all m ((u, mode.Ew) ∷ []) ≡ true = rw lent at fits in
+    let parts = and_parts (together m mode.Ew) true one in
+    let no : together m mode.Ew ≡ false = never_with_writer m in
+    cc
+
+front_beside_writer : (u : ℕ) (queue : List (ℕ × Mode)) → front_that_fits ((u, mode.Ew) ∷ []) queue ≡ []
+front_beside_writer u [] = refl
+front_beside_writer u (one ∷ rest) = rw (never_with_writer one.1) refl
+
+alone_passed : (destroyed : Bool) (line : Line) (u t : ℕ) → line.holders ≡ (u, mode.Ew) ∷ [] → (u == t) ≡ false → (passed_on destroyed (left_by t line)).holders ≡ (u, mode.Ew) ∷ []
+alone_passed true line u t alone apart = alone_doomed line u t alone apart
+alone_passed false line u t alone apart =
+    let kept : without t line.holders ≡ (u, mode.Ew) ∷ [] = rw (alone, apart) refl in
+    rw kept (rw (front_beside_writer u line.queue) refl)
+
+-- another than the borrower gives the block up
+pub lent_passed : (borrower : Option ℕ) (destroyed : Bool) (line : Line) (t : ℕ) → borrower ≢ Some t
+    → GoTogether line.holders → IsLentTo borrower line.holders
+    → GoTogether (passed_on destroyed (left_by t line)).holders × IsLentTo borrower (passed_on destroyed (left_by t line)).holders
+lent_passed None destroyed line t apart all lent = (together_passed destroyed (left_by t line) (together_left t line all), tt)
+lent_passed (Some u) destroyed line t apart all lent =
+    (together_passed destroyed (left_by t line) (together_left t line all), alone_passed destroyed line u t lent (other_borrower u t (Some u) refl apart))

@@ -2,10 +2,11 @@
 use Rattle.std.specs.Prelude.{◌≡◌, ◌≢◌, ◌<◌, ℕ, List, [], ◌∷◌, ◌++◌, Bool, true, false, ◌&&◌, not, ◌==◌, if◌then◌else◌, Option, Some, None, is_some, length, replicate, slice_set}
 use Rattle.ocr_acquire.specs.declared.Mode.{Mode}
 use Rattle.ocr_acquire.specs.declared.Mode.TheVariants as mode
-use Rattle.ocr_acquire.specs.Mode.{fits_all, is_null}
+use Rattle.ocr_acquire.specs.Mode.{fits_all, is_exclusive, is_null}
 use Rattle.ocr_datablock.specs.declared.datablock.Asked.{Asked}
 use Rattle.ocr_datablock.specs.declared.datablock.Asked.TheVariants as asked
-use Rattle.ocr_datablock.specs.Lent.{Loan, loan_of, words_in, written, is_exclusive}
+use Rattle.ocr_datablock.specs.Lent.{Loan, loan_of, words_in}
+use Rattle.ocr_acquire.specs.Writes.{written}
 
 -- THE CALLS that a block accepted. Lists of calls have the newest first.
 -- A loan in CONST is a copy and leaves no trace; so these are the loans in EW.
@@ -190,6 +191,16 @@ state_of n creator calls = record {
   destroyed = is_destroyed calls;
 }
 
+-- each holder's mode goes with those of all other holders
+abbrev pub GoTogether : List (ℕ × Mode) → Type 0
+GoTogether [] = Unit {0}
+GoTogether (one ∷ rest) = (fits_all one.1 rest ≡ true) × GoTogether rest
+
+-- who has the words on loan holds the block in EW, and nobody else holds it
+abbrev pub IsLentTo : Option ℕ → List (ℕ × Mode) → Type 0
+IsLentTo None holders = Unit {0}
+IsLentTo (Some t) holders = holders ≡ (t, mode.Ew) ∷ []
+
 abbrev pub line : State → Line
 line s = record { holders = s.holders; queue = s.queue }
 
@@ -290,10 +301,6 @@ WordsLaw = (n creator : ℕ) (calls : List BlockCall)
     × (length (contents n calls) ≡ n)
 
 -- Each holder's mode goes with those of all other holders.
-abbrev pub GoTogether : List (ℕ × Mode) → Type 0
-GoTogether [] = Unit {0}
-GoTogether (one ∷ rest) = (fits_all one.1 rest ≡ true) × GoTogether rest
-
 abbrev pub HoldersLaw : Type 0
 HoldersLaw = (creator : ℕ) (calls : List BlockCall) → GoTogether (holders_of creator calls)
 

@@ -1,8 +1,7 @@
 -- The loan of a block's words to one EDT: the calls on it, what is told of them, and the steps of its state.
-use Rattle.std.specs.Prelude.{◌≡◌, ◌<◌, ◌≤◌, ℕ, ◌+◌, List, [], ◌∷◌, Bool, true, false, ◌==◌, nat_lt, if◌then◌else◌, Option, Some, None, length, slice_index, slice_set, unwrap_or}
-use Rattle.std.specs.Map.{lookup}
+use Rattle.std.specs.Prelude.{◌≡◌, ◌<◌, ℕ, List, [], ◌∷◌, Bool, true, false, ◌==◌, if◌then◌else◌, Option, Some, None, length, slice_index, unwrap_or}
 use Rattle.ocr_acquire.specs.declared.Mode.{Mode}
-use Rattle.ocr_acquire.specs.declared.Mode.TheVariants as mode
+use Rattle.ocr_acquire.specs.Writes.{put, value_at, written, IsRising}
 
 -- THE CALLS on a loan. Lists of calls have the newest first.
 pub data LoanCall : Type 0 where
@@ -15,14 +14,6 @@ last_stored k [] = None
 last_stored k (Store word value ∷ past) = if word == k then Some value else last_stored k past
 last_stored k (Listing ∷ past) = last_stored k past
 
--- rising writes, with a value put in a word: it takes its word's place, or the place that is its own
-abbrev pub put : ℕ → ℕ → List (ℕ × ℕ) → List (ℕ × ℕ)
-put word value [] = (word, value) ∷ []
-put word value (write ∷ rest) =
-    if nat_lt word write.0 then (word, value) ∷ write ∷ rest
-    else if word == write.0 then (write.0, value) ∷ rest
-    else write ∷ put word value rest
-
 -- the distinct words that were stored, rising, each with its last value
 abbrev pub writes_of : List LoanCall → List (ℕ × ℕ)
 writes_of [] = []
@@ -34,31 +25,6 @@ abbrev pub are_listed : List LoanCall → Bool
 are_listed [] = true
 are_listed (Store word value ∷ past) = false
 are_listed (Listing ∷ past) = true
-
--- each word is above those before it, the first at least at `low`
-abbrev pub RisesFrom : ℕ → List (ℕ × ℕ) → Type 0
-RisesFrom low [] = Unit {0}
-RisesFrom low (write ∷ rest) = (low ≤ write.0) × RisesFrom (write.0 + 1) rest
-
-abbrev pub IsRising : List (ℕ × ℕ) → Type 0
-IsRising writes = RisesFrom 0 writes
-
--- the value that writes have for a word
-abbrev pub value_at : ℕ → List (ℕ × ℕ) → Option ℕ
-value_at k writes = lookup (λ word. word == k) writes
-
--- words, with writes made in them one after another
-abbrev pub written : List (ℕ × ℕ) → List ℕ → List ℕ
-written [] words = words
-written (write ∷ rest) words = written rest (slice_set words write.0 write.1)
-
--- only who holds the block in EW has it alone, and may write into the loan
-abbrev pub is_exclusive : Mode → Bool
-is_exclusive mode.Null = false
-is_exclusive mode.Ro = false
-is_exclusive mode.Const = false
-is_exclusive mode.Rw = false
-is_exclusive mode.Ew = true
 
 -- THE STATE of a loan: its mode, the words with which it began, its private writes, and whether these are listed.
 pub record Loan : Type 0 where

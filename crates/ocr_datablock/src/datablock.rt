@@ -1,10 +1,10 @@
 // A data block: its words, who holds it, and who waits for it.
-ghost use Rattle.std.specs.Prelude.{◌≡◌, ◌≢◌, ◌<◌, ◌≤◌, ◌↔◌, List, [], ◌∷◌, ◌++◌, length, take, drop, slice_index, Some, None, true, false, is_some, IfOk, OnErr};
+ghost use Rattle.std.specs.Prelude.{◌≡◌, ◌≢◌, ◌<◌, ◌≤◌, ◌↔◌, List, [], ◌∷◌, ◌++◌, length, take, drop, slice_index, Some, None, true, false, is_some, IfOk, IfSome, OnErr};
 ghost use Rattle.ocr_acquire.specs.declared.Mode.TheVariants.{Const, Ew};
-ghost use Rattle.ocr_acquire.specs.Mode.{is_null};
+ghost use Rattle.ocr_acquire.specs.Mode.{is_exclusive, is_null};
 ghost use Rattle.ocr_datablock.specs.declared.datablock.Asked.TheVariants as asked;
 ghost use Rattle.ocr_datablock.specs.Lent.{words_in};
-ghost use Rattle.ocr_datablock.specs.Block.{state_of, names, mode_in, without, front_that_fits, rest_that_waits, leavers, passed_on, left_by, line, is_gone, is_grantable, on_ask, on_release, on_doom, with_line, asked_by, released, doomed, stored, lent_out, loan_from, taken_back, AskLaw, ReleaseLaw, DoomLaw, StoreLaw, LendLaw, TakeBackLaw, WordsLaw, HoldersLaw, OnceLaw, WaitingLaw, QueueLaw, GoneLaw, LoanLaw};
+ghost use Rattle.ocr_datablock.specs.Block.{state_of, GoTogether, IsLentTo, names, mode_in, without, front_that_fits, rest_that_waits, leavers, passed_on, left_by, line, is_gone, is_grantable, on_ask, on_release, on_doom, with_line, asked_by, released, doomed, stored, lent_out, loan_from, taken_back, AskLaw, ReleaseLaw, DoomLaw, StoreLaw, LendLaw, TakeBackLaw, WordsLaw, HoldersLaw, OnceLaw, WaitingLaw, QueueLaw, GoneLaw, LoanLaw};
 
 use crate::loan::Lent;
 use ocr_acquire::{Mode, fits};
@@ -40,7 +40,7 @@ pub struct Block {
 
 impl Model for Block {
     ghost use Rattle.std.specs.Prelude.{◌≡◌, ◌≤◌, length, None};
-    ghost use Rattle.ocr_datablock.specs.Block.{State};
+    ghost use Rattle.ocr_datablock.specs.Block.{State, GoTogether, IsLentTo};
 
     ghost Value = { State };
 
@@ -53,7 +53,8 @@ impl Model for Block {
       destroyed = b.destroyed;
     } };
 
-    ghost invariant = { λ b. (b.size ≤ 65536) × (b.borrower ≡ None → length b.words.items ≡ b.size) };
+    ghost invariant = { λ b. (b.size ≤ 65536) × (b.borrower ≡ None → length b.words.items ≡ b.size)
+        × GoTogether b.holders.items × IsLentTo b.borrower b.holders.items };
 }
 
 impl Block {
@@ -63,12 +64,10 @@ impl Block {
         requires not_too_many { words ≤ 65536 }
         ensures { IfOk result (λ block. block ≡ state_of words creator []) }
     {
-        let Ok(zeros) = Vec::from_elem(alloc, 0, words as usize) else {
-            return Err(NoMemory);
-        };
+        let zeros = Vec::from_elem(alloc, 0, words as usize)?;
         let mut holders = Vec::new(alloc);
-        if creator != Guid::NULL && holders.push((creator, Mode::Rw)).is_err() {
-            return Err(NoMemory);
+        if creator != Guid::NULL {
+            holders.push((creator, Mode::Rw))?;
         }
         Ok(Block {
             size: words,
@@ -102,10 +101,27 @@ impl Block {
     }
 
     /// The mode in which the EDT holds the block; None where it does not hold it.
+    /// Where it is not `Ew`, the words are not on loan.
     pub fn mode_of(&self, edt: Guid) -> Option<Mode>
-        ensures { result ≡ mode_in edt self.now.holders }
+        ensures value { result ≡ mode_in edt self.now.holders }
+        ensures not_lent { IfSome result (λ mode. is_exclusive mode ≡ false → self.now.borrower ≡ None) }
     {
         find_mode(&self.holders, edt)
+    }
+
+    /// Whether the EDT waits in the block's queue.
+    pub fn waits(&self, edt: Guid) -> bool
+        ensures { result ≡ is_some (mode_in edt self.now.queue) }
+    {
+        find_mode(&self.queue, edt).is_some()
+    }
+
+    /// The EDT that has the words on loan, which holds the block in `Ew`, alone; None where nobody has them.
+    pub fn borrower(&self) -> Option<Guid>
+        ensures value { result ≡ self.now.borrower }
+        ensures alone { IsLentTo result self.now.holders }
+    {
+        self.borrower
     }
 
     /// Whether a newcomer would be granted the block in this mode now.
@@ -131,14 +147,10 @@ impl Block {
             return Ok(Asked::Gone);
         }
         if self.grantable(mode) {
-            if self.holders.push((edt, mode)).is_err() {
-                return Err(NoMemory);
-            }
+            self.holders.push((edt, mode))?;
             return Ok(Asked::Granted);
         }
-        if self.queue.push((edt, mode)).is_err() {
-            return Err(NoMemory);
-        }
+        self.queue.push((edt, mode))?;
         Ok(Asked::Queued)
     }
 
@@ -169,6 +181,7 @@ impl Block {
     }
 
     fn end_hold(&mut self, alloc: Global, edt: Guid, destroyed: bool) -> Result<Vec<Guid>, NoMemory>
+        requires { self.old.borrower ≢ Some edt }
         ensures answer { IfOk result
             (λ resumed. resumed.items ≡ names (leavers destroyed (left_by edt (line self.old)))) }
         ensures state { IfOk result
@@ -223,14 +236,12 @@ impl Block {
         ensures loan { IfOk result (λ loan. loan ≡ loan_from self.old Const) }
         ensures state { self.new ≡ self.old }
     {
-        let Ok(words) = Vec::from_slice(alloc, &self.words) else {
-            return Err(NoMemory);
-        };
+        let words = Vec::from_slice(alloc, &self.words)?;
         Ok(Lent::new(Mode::Const, words))
     }
 
     /// Takes a loan back. The words of the block are those of a loan in `Ew`; a loan in `Const` changes nothing.
-    #[tactic(auto, using(crate::proofs::Writes::length_written))]
+    #[tactic(auto, using(ocr_acquire::proofs::Writes::length_written))]
     pub fn take_back(&mut self, edt: Guid, lent: Lent)
         requires lent_to { lent.mode ≡ Ew → self.old.borrower ≡ Some edt }
         requires same_size { lent.mode ≡ Ew → length lent.began ≡ self.old.size }
@@ -238,7 +249,7 @@ impl Block {
         ensures words { lent.mode ≡ Ew → self.new.words ≡ words_in lent }
         ensures copy { lent.mode ≡ Const → self.new ≡ self.old }
     {
-        if lent.is_exclusive() {
+        if lent.mode() == Mode::Ew {
             self.words = lent.into_words();
             self.borrower = None;
         }
@@ -283,8 +294,8 @@ fn copy_without(
 {
     let mut rest = Vec::new(alloc);
     for (holder, mode) in holders {
-        if *holder != edt && rest.push((*holder, *mode)).is_err() {
-            return Err(NoMemory);
+        if *holder != edt {
+            rest.push((*holder, *mode))?;
         }
     }
     Ok(rest)
@@ -326,9 +337,7 @@ fn grant(holders: &mut Vec<(Guid, Mode)>, queue: &[(Guid, Mode)]) -> Result<usiz
         if !fits(queue[i].1, holders) {
             return Ok(i);
         }
-        if holders.push(queue[i]).is_err() {
-            return Err(NoMemory);
-        }
+        holders.push(queue[i])?;
     }
     Ok(queue.len())
 }
@@ -338,9 +347,7 @@ fn copy_names(alloc: Global, front: &[(Guid, Mode)]) -> Result<Vec<Guid>, NoMemo
 {
     let mut copied = Vec::new(alloc);
     for (edt, _) in front {
-        if copied.push(*edt).is_err() {
-            return Err(NoMemory);
-        }
+        copied.push(*edt)?;
     }
     Ok(copied)
 }

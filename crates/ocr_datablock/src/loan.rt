@@ -2,7 +2,8 @@
 ghost use Rattle.std.specs.Prelude.{◌≡◌, ◌<◌, ◌≤◌, [], length, slice_index, true, IfOk, OnErr};
 ghost use Rattle.std.specs.List.{All};
 ghost use Rattle.ocr_acquire.specs.declared.Mode.TheVariants.{Ew};
-ghost use Rattle.ocr_datablock.specs.Lent.{IsRising, StoredLaw, ListingLaw, WritesLaw, WordLaw, loan_of, put, written, words_in, stored, with_list, is_exclusive};
+ghost use Rattle.ocr_datablock.specs.Lent.{StoredLaw, ListingLaw, WritesLaw, WordLaw, loan_of, words_in, stored, with_list};
+ghost use Rattle.ocr_acquire.specs.Writes.{IsRising, put, written};
 
 use ocr_acquire::Mode;
 use ocr_base::NoMemory;
@@ -27,7 +28,8 @@ pub struct Lent {
 impl Model for Lent {
     ghost use Rattle.std.specs.Prelude.{◌≡◌, ◌<◌, ◌≤◌, length, true};
     ghost use Rattle.std.specs.List.{All};
-    ghost use Rattle.ocr_datablock.specs.Lent.{Loan, IsRising};
+    ghost use Rattle.ocr_acquire.specs.Writes.{IsRising};
+    ghost use Rattle.ocr_datablock.specs.Lent.{Loan};
 
     ghost Value = { Loan };
 
@@ -59,10 +61,11 @@ impl Lent {
         }
     }
 
-    pub(crate) fn is_exclusive(&self) -> bool
-        ensures { result ≡ is_exclusive self.now.mode }
+    /// The mode in which the EDT holds the block: `Ew` or `Const`.
+    pub fn mode(&self) -> Mode
+        ensures { result ≡ self.now.mode }
     {
-        matches!(self.mode, Mode::Ew)
+        self.mode
     }
 
     /// The block's length in words.
@@ -73,7 +76,7 @@ impl Lent {
     }
 
     /// The word as it is now.
-    #[tactic(auto, using(crate::proofs::Writes::word_found, crate::proofs::Writes::word_not_found))]
+    #[tactic(auto, using(ocr_acquire::proofs::Writes::word_found, ocr_acquire::proofs::Writes::word_not_found))]
     pub fn load(&self, word: u32) -> u64
         requires exists { word < length self.now.began }
         ensures value { result ≡ slice_index (words_in self.now) word }
@@ -142,7 +145,7 @@ pub fn loan_laws()
 {}
 
 /// Puts a value in the map, and makes room for it in the list.
-#[tactic(auto, using(crate::proofs::Writes::insert_is_put))]
+#[tactic(auto, using(ocr_acquire::proofs::Writes::insert_is_put))]
 fn put_value(
     values: &mut BTreeMap<u32, u64>,
     list: &mut Vec<(u32, u64)>,
@@ -157,13 +160,12 @@ fn put_value(
 {
     if values.contains_key(&word) {
         if values.insert(word, value).is_err() {
-            return Err(NoMemory);
+            // The word has its place in the map.
+            unreachable!();
         }
         return Ok(());
     }
-    if list.push((word, value)).is_err() {
-        return Err(NoMemory);
-    }
+    list.push((word, value))?;
     if values.insert(word, value).is_err() {
         let _ = list.pop();
         return Err(NoMemory);

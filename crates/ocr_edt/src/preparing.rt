@@ -1,5 +1,5 @@
 // The phases before an EDT starts.
-ghost use Rattle.std.specs.Prelude.{◌≡◌, ◌<◌, IsSome, None, length, true};
+ghost use Rattle.std.specs.Prelude.{◌≡◌, ◌<◌, IsSome, Some, None, length, true};
 ghost use Rattle.ocr_acquire.specs.Plan.{IsWellFormed};
 ghost use Rattle.ocr_edt.specs.Phases.{next_of, readied, advanced, started, marked_at};
 
@@ -179,6 +179,16 @@ impl Waiting {
         ensures { result ≡ self.now.identity }
     {
         self.acquiring.identity()
+    }
+
+    /// The block that it waits for, and the mode in which it wants it.
+    pub fn next(&self) -> (Guid, Mode)
+        ensures { Some result ≡ next_of self.now }
+    {
+        match self.acquiring.next() {
+            Some(awaited) => awaited,
+            None => unreachable!(),
+        }
     }
 
     /// The queue let the EDT go on: its next block is the one that it waited for.

@@ -1,6 +1,6 @@
 use Rattle.std.proofs.Common.{◌<◌, length, arith, rules}
 use Rattle.std.proofs.lemmas.Grind.{common_steps}
-use Rattle.ocr_datablock.proofs.Writes.{first_within, rest_within}
+use Rattle.ocr_acquire.proofs.Writes.{first_within, rest_within}
 use Rattle.ocr_datablock.proofs.loan.write_all.Goals as goal
 
 pub index_mut-requires : goal.index_mut-requires

@@ -1,6 +1,6 @@
 use Rattle.std.proofs.Common.{◌≡◌, ◌<◌, length}
 use Rattle.std.specs.List.{All}
-use Rattle.ocr_datablock.specs.Lent.{written}
+use Rattle.ocr_acquire.specs.Writes.{written}
 use Rattle.ocr_datablock.proofs.loan.write_all.Given as goal
 
 abbrev pub invariant-loop-word : goal.invariant-loop-word

@@ -1,5 +1,5 @@
 use Rattle.std.proofs.Common.{◌<◌, length, arith, rules}
-use Rattle.ocr_datablock.proofs.Writes.{rises_put, within_put}
+use Rattle.ocr_acquire.proofs.Writes.{rises_put, within_put}
 use Rattle.ocr_datablock.proofs.loan.Lent.store.Goals as goal
 
 pub invariant_of-self-2 : goal.invariant_of-self-2

@@ -9,7 +9,7 @@ use Rattle.std.specs.Map.{lookup}
 use Rattle.std.specs.BTreeMap.{insert_entry, is_at}
 use Rattle.std.specs.declared.cmp.Ordering.TheVariants.{Less, Equal, Greater}
 use Rattle.std.specs.Ordering.{match_ordering, nat_cmp, is_eq}
-use Rattle.ocr_datablock.specs.Lent.{put, value_at, written, RisesFrom, IsRising}
+use Rattle.ocr_acquire.specs.Writes.{put, value_at, written, RisesFrom, IsRising, PutLaw, WrittenLaw}
 
 match_is : {X : Type 0} (a b : Bool) (x y z : X) → match_ordering (cond a Less (cond b Equal Greater)) x y z ≡ cond a x (cond b y z)
 match_is true b x y z = refl
@@ -108,3 +108,9 @@ first_within n first rest all is within = All-head (λ write. write.0 < n) first
 
 pub rest_within : (n : ℕ) (first : ℕ × ℕ) (rest all : List (ℕ × ℕ)) → all ≡ first ∷ rest → All (λ write. write.0 < n) all → All (λ write. write.0 < n) rest
 rest_within n first rest all is within = All-rest (λ write. write.0 < n) first rest all is within
+
+pub put_law : PutLaw
+put_law word value writes = (λ rise. rises_put 0 word value writes (omega arith) rise, λ k. value_put k word value writes)
+
+pub written_law : WrittenLaw
+written_law writes words = (length_written writes words, λ k rise below. word_written 0 writes words k rise below)
