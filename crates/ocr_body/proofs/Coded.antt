@@ -1,28 +1,28 @@
 -- The numbers of a program that has code.
 use Rattle.std.proofs.Common.{◌≡◌, ℕ, List, [], ◌∷◌, true, map, length, refl, ap, sym, ◌∙◌}
-use Rattle.ocr_body.specs.Code.{is_placed, are_args_placed, is_step_placed, is_row_placed, are_placed, are_sound, given_to, arguments_at, expression_at, statement_at, row_at, statements_in, body_in, bodies_in}
+use Rattle.ocr_body.specs.Code.{is_placed, are_args_placed, is_step_placed, is_row_placed, are_placed, are_sound, all_arguments, arguments_at, expression_at, statement_at, row_at, statements_in, body_in, bodies_in}
 use Rattle.ocr_tree.specs.Tree.{Arguments, FunctionTree}
 use Rattle.ocr_body.specs.Words.{is_of_words, are_of_words, is_statement_of_words, are_statements_of_words, is_program_of_words}
-use Rattle.ocr_body.specs.declared.code.Args.{Args}
-use Rattle.ocr_body.specs.declared.code.Args.TheVariants as args
-use Rattle.ocr_body.specs.declared.code.Made.{Made}
-use Rattle.ocr_body.specs.declared.code.Made.TheVariants as made
-use Rattle.ocr_body.specs.declared.code.Node.{Node}
-use Rattle.ocr_body.specs.declared.code.Node.TheVariants as node
+use Rattle.ocr_body.specs.declared.code.ArgCode.{ArgCode}
+use Rattle.ocr_body.specs.declared.code.ArgCode.TheVariants as args
+use Rattle.ocr_body.specs.declared.code.Operation.{Operation}
+use Rattle.ocr_body.specs.declared.code.Operation.TheVariants as operation
+use Rattle.ocr_body.specs.declared.code.ExprCode.{ExprCode}
+use Rattle.ocr_body.specs.declared.code.ExprCode.TheVariants as node
 use Rattle.ocr_body.specs.declared.code.FunctionCode.{FunctionCode}
-use Rattle.ocr_body.specs.declared.code.Step.{Step, Row_of-Step, end_of-Step, more_of-Step}
-use Rattle.ocr_body.specs.declared.code.Step.TheVariants as step
+use Rattle.ocr_body.specs.declared.code.StmtCode.{StmtCode, Row_of-StmtCode, end_of-StmtCode, more_of-StmtCode}
+use Rattle.ocr_body.specs.declared.code.StmtCode.TheVariants as step
 use Rattle.ocr_body.proofs.Names.{both}
 use Rattle.ocr_body.proofs.Variables.{first_of, second_of}
 
-given_words : (m : Made) (xs : Arguments) → are_of_words xs ≡ true → are_of_words (given_to m xs) ≡ true
-given_words (made.TemplateCreate f n) xs is = is
-given_words made.EdtCreate xs is = is
-given_words made.Shutdown xs is = is
-given_words made.Abort xs is = is
+given_words : (m : Operation) (xs : Arguments) → are_of_words xs ≡ true → are_of_words (all_arguments m xs) ≡ true
+given_words (operation.TemplateCreate f n) xs is = is
+given_words operation.EdtCreate xs is = is
+given_words operation.Shutdown xs is = is
+given_words operation.Abort xs is = is
 
 mutual
-  node_words : (w : List ℕ → ℕ) (n : ℕ) (names : List (List ℕ)) (e : Node) → is_placed w n e ≡ true → is_of_words (expression_at names e) ≡ true
+  node_words : (w : List ℕ → ℕ) (n : ℕ) (names : List (List ℕ)) (e : ExprCode) → is_placed w n e ≡ true → is_of_words (expression_at names e) ≡ true
   node_words w n names (node.Number v) is = is
   node_words w n names (node.Constant c) is = refl
   node_words w n names (node.Variable i) is = refl
@@ -37,14 +37,14 @@ mutual
   node_words w n names (node.WithVariable op i j) is = refl
   node_words w n names (node.Invoke m xs) is = given_words m (arguments_at names xs) (args_words w n names xs (second_of _ _ is))
 
-  args_words : (w : List ℕ → ℕ) (n : ℕ) (names : List (List ℕ)) (xs : Args) → are_args_placed w n xs ≡ true → are_of_words (arguments_at names xs) ≡ true
+  args_words : (w : List ℕ → ℕ) (n : ℕ) (names : List (List ℕ)) (xs : ArgCode) → are_args_placed w n xs ≡ true → are_of_words (arguments_at names xs) ≡ true
   args_words w n names args.End is = refl
   args_words w n names (args.Output i) is = refl
   args_words w n names (args.Value' p e q rest) is = both _ _ (node_words w n names e (first_of _ _ is)) (args_words w n names rest (second_of _ _ is))
   args_words w n names (args.List' p es q rest) is = both _ _ (args_words w n names es (first_of _ _ is)) (args_words w n names rest (second_of _ _ is))
 
 mutual
-  step_words : (w : List ℕ → ℕ) (n : ℕ) (names : List (List ℕ)) (s : Step) → is_step_placed w n s ≡ true → is_statement_of_words (statement_at names s) ≡ true
+  step_words : (w : List ℕ → ℕ) (n : ℕ) (names : List (List ℕ)) (s : StmtCode) → is_step_placed w n s ≡ true → is_statement_of_words (statement_at names s) ≡ true
   step_words w n names (step.Let i e) is = node_words w n names e (second_of _ _ is)
   step_words w n names (step.Assign i e) is = node_words w n names e (second_of _ _ is)
   step_words w n names (step.If' e j first k second) is =
@@ -54,11 +54,11 @@ mutual
   step_words w n names (step.Return e) is = node_words w n names e is
   step_words w n names (step.Invoke m xs) is = given_words m (arguments_at names xs) (args_words w n names xs (second_of _ _ is))
 
-  row_words : {j : _} (w : List ℕ → ℕ) (n : ℕ) (names : List (List ℕ)) (row : Row_of-Step j) → is_row_placed w n row ≡ true → are_statements_of_words (row_at names row) ≡ true
-  row_words w n names end_of-Step is = refl
-  row_words w n names (more_of-Step s rest) is = both _ _ (step_words w n names s (first_of _ _ is)) (row_words w n names rest (second_of _ _ is))
+  row_words : {j : _} (w : List ℕ → ℕ) (n : ℕ) (names : List (List ℕ)) (row : Row_of-StmtCode j) → is_row_placed w n row ≡ true → are_statements_of_words (row_at names row) ≡ true
+  row_words w n names end_of-StmtCode is = refl
+  row_words w n names (more_of-StmtCode s rest) is = both _ _ (step_words w n names s (first_of _ _ is)) (row_words w n names rest (second_of _ _ is))
 
-steps_words : (w : List ℕ → ℕ) (n : ℕ) (names : List (List ℕ)) (ss : List Step) → are_placed w n ss ≡ true → are_statements_of_words (statements_in names ss) ≡ true
+steps_words : (w : List ℕ → ℕ) (n : ℕ) (names : List (List ℕ)) (ss : List StmtCode) → are_placed w n ss ≡ true → are_statements_of_words (statements_in names ss) ≡ true
 steps_words w n names [] is = refl
 steps_words w n names (s ∷ ss) is = both _ _ (step_words w n names s (first_of _ _ is)) (steps_words w n names ss (second_of _ _ is))
 

@@ -20,7 +20,11 @@ value_in (x ∷ names) [] y = 0
 value_in (x ∷ names) (v ∷ values) y = if bytes_eq x y then v else value_in names values y
 
 abbrev pub state_of : List (List ℕ) → Local → State
-state_of names local = record { fuel = local.fuel; code = local.code; variables = λ y. value_in names local.values.items y }
+state_of names local = record {
+  fuel = local.fuel;
+  code = local.code;
+  variables = λ y. value_in names local.values.items y;
+}
 
 -- the numbers of the functions of a frame's program
 abbrev pub numbers_of : walker.Frame → List ℕ → ℕ
@@ -39,7 +43,8 @@ output_at names None = []
 output_at names (Some i) = name_at names i ∷ []
 
 -- statements were done, or ended the body, which returned this
-abbrev pub Flows : Behaviour → ((State → Behaviour) → Behaviour) → Flow → ℕ → State → Behaviour → Type 0
+abbrev pub Flows : Behaviour → ((State → Behaviour) → Behaviour) → Flow → ℕ → State → Behaviour
+    → Type 0
 Flows before part Next g st now = IsDone before part st now
 Flows before part Returned g st now = now ≡ Ends g
 

@@ -9,53 +9,55 @@ use ocr_tree::{BinaryOp, Constant, Name, UnaryOp};
 /// An expression of the code.
 #[cycle(node)]
 #[derive(Drop)]
-pub enum Node {
+pub enum ExprCode {
     Number(u64),
     Constant(Constant),
     Variable(usize),
     Paramc,
     Depc,
     LastCode,
-    Paramv(Box<Node>),
-    Depv(Box<Node>),
-    Unary(UnaryOp, Box<Node>),
-    Binary(BinaryOp, Box<Node>, Box<Node>),
+    Paramv(Box<ExprCode>),
+    Depv(Box<ExprCode>),
+    Unary(UnaryOp, Box<ExprCode>),
+    Binary(BinaryOp, Box<ExprCode>, Box<ExprCode>),
     /// An operator between a variable and a number, which are nodes of their own in the tree.
     WithNumber(BinaryOp, usize, u64),
     /// An operator between two variables.
     WithVariable(BinaryOp, usize, usize),
-    Invoke(Made, Args),
+    Invoke(Operation, ArgCode),
 }
 
 /// The arguments of a call of the code, from the first on, but for the name of a function.
 #[cycle(node)]
 #[derive(Drop)]
-pub enum Args {
+pub enum ArgCode {
     End,
     /// The variable after `&`, which stands last.
     Output(usize),
-    Value(Box<Node>, Box<Args>),
-    List(Box<Args>, Box<Args>),
+    Value(Box<ExprCode>, Box<ArgCode>),
+    List(Box<ArgCode>, Box<ArgCode>),
 }
 
-impl Args {
+impl ArgCode {
     /// The place of the variable after `&`, where one stands.
     #[cycle(output)]
     pub fn output(&self) -> Option<usize>
-        ensures names { (names : List (List ℕ)) → names_in (arguments_at names self.now) ≡ output_at names result }
-        ensures placed { (numbers : List ℕ → ℕ) (n : ℕ) → are_args_placed numbers n self.now ≡ true → IfSome result (λ place. place < n) }
+        ensures names { (names : List (List ℕ))
+            → names_in (arguments_at names self.now) ≡ output_at names result }
+        ensures placed { (numbers : List ℕ → ℕ) (n : ℕ)
+            → are_args_placed numbers n self.now ≡ true → IfSome result (λ place. place < n) }
     {
         match self {
-            Args::End => None,
-            Args::Output(place) => Some(*place),
-            Args::Value(_, rest) | Args::List(_, rest) => rest.output(),
+            ArgCode::End => None,
+            ArgCode::Output(place) => Some(*place),
+            ArgCode::Value(_, rest) | ArgCode::List(_, rest) => rest.output(),
         }
     }
 }
 
 /// A call of the code, of those that are built.
 #[derive(Drop)]
-pub enum Made {
+pub enum Operation {
     /// The function's name, and its number from 1 in the order of the text.
     TemplateCreate(Name, u32),
     EdtCreate,
@@ -65,19 +67,19 @@ pub enum Made {
 
 /// A statement of the code.
 #[derive(Drop)]
-pub enum Step {
-    Let(usize, Node),
-    Assign(usize, Node),
-    If(Node, Vec<Step>, Vec<Step>),
-    While(Node, Vec<Step>),
-    Print(Node),
-    Return(Node),
-    Invoke(Made, Args),
+pub enum StmtCode {
+    Let(usize, ExprCode),
+    Assign(usize, ExprCode),
+    If(ExprCode, Vec<StmtCode>, Vec<StmtCode>),
+    While(ExprCode, Vec<StmtCode>),
+    Print(ExprCode),
+    Return(ExprCode),
+    Invoke(Operation, ArgCode),
 }
 
 /// The names of a function, all different, and its statements.
 #[derive(Drop)]
 pub struct FunctionCode {
     pub names: Vec<Name>,
-    pub body: Vec<Step>,
+    pub body: Vec<StmtCode>,
 }

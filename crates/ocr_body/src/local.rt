@@ -1,10 +1,11 @@
 // What the walker keeps of a body.
-ghost use Rattle.std.specs.Prelude.{◌≡◌, ◌<◌, ◌≤◌, List, ℕ, true, length, OnOk, OnErr, IfErr};
+ghost use Rattle.std.specs.Prelude.{◌≡◌, ◌<◌, ◌≤◌, List, ℕ, length, OnOk, OnErr, IfErr};
 ghost use Rattle.ocr_body.specs.Behaviour.{Behaviour};
-ghost use Rattle.ocr_body.specs.Code.{are_distinct, name_at};
-ghost use Rattle.ocr_body.specs.Meaning.{State};
+ghost use Rattle.ocr_body.specs.Code.{name_at};
+ghost use Rattle.ocr_body.specs.Meaning.{State, with_variable};
 ghost use Rattle.ocr_body.specs.Meaning as meaning;
 ghost use Rattle.ocr_body.specs.Local.{state_of};
+ghost use Rattle.ocr_body.specs.Walker.{Fits, state_in};
 
 use crate::call::BodyStop;
 use crate::checked::Checked;
@@ -12,8 +13,8 @@ use ocr_guid::Guid;
 use ocr_tree::Name;
 use std::alloc::Global;
 
-// What the walker keeps of a body: its fuel, the code of its last call, its variables by their places, and, once it
-// stopped or returned, why and what.
+// What the walker keeps of a body: its fuel, the code of its last call, its variables by their
+// places, and, once it stopped or returned, why and what.
 #[derive(Drop)]
 pub struct Local {
     pub fuel: u64,
@@ -91,9 +92,9 @@ pub fn pay(local: &mut Local) -> Result<(), Halt>
 // The value of a variable.
 pub fn read(frame: &Frame, place: usize, local: &Local) -> u64
     requires place { place < length frame.now.names.now }
-    requires room { length local.now.values.items ≡ length frame.now.names.now }
-    requires distinct { are_distinct frame.now.names.now ≡ true }
-    ensures { result ≡ (state_of frame.now.names.now local.now).variables (name_at frame.now.names.now place) }
+    requires fits { Fits frame.now local.now }
+    ensures { result
+        ≡ (state_in frame.now local.now).variables (name_at frame.now.names.now place) }
 {
     local.values[place]
 }
@@ -101,10 +102,9 @@ pub fn read(frame: &Frame, place: usize, local: &Local) -> u64
 // A variable gets a value.
 pub fn write(frame: &Frame, place: usize, value: u64, local: &mut Local)
     requires place { place < length frame.now.names.now }
-    requires room { length local.old.values.items ≡ length frame.now.names.now }
-    requires distinct { are_distinct frame.now.names.now ≡ true }
-    ensures state { state_of frame.now.names.now local.new
-        ≡ meaning.bound (name_at frame.now.names.now place) value (state_of frame.now.names.now local.old) }
+    requires fits { Fits frame.now local.old }
+    ensures state { state_in frame.now local.new
+        ≡ with_variable (name_at frame.now.names.now place) value (state_in frame.now local.old) }
     ensures room { length local.new.values.items ≡ length local.old.values.items }
 {
     local.values[place] = value;

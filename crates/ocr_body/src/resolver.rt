@@ -10,7 +10,7 @@ ghost use Rattle.ocr_tree.specs.Tree.{Arguments};
 ghost use Rattle.ocr_body.specs.Resolved.{Grew, IsPlace, IsExpression, IsArguments, IsCall, IsStatement, AreStatements};
 ghost use Rattle.ocr_tree.specs.View.{expression_of, name_of, arguments_of, members_of, output_of, statement_of, statements_of, functions_of, tree_of};
 
-use crate::code::{Args, FunctionCode, Made, Node, Step};
+use crate::code::{ArgCode, ExprCode, FunctionCode, Operation, StmtCode};
 use ocr_base::NoMemory;
 use ocr_tree::{Expr, Function, Invoke, Name, Program, Stmt, number_named};
 use std::alloc::Global;
@@ -62,7 +62,7 @@ fn copy(alloc: Global, name: &Name) -> Result<Name, NoMemory>
 }
 
 // A node with memory of its own.
-fn boxed(alloc: Global, node: Node) -> Result<Box<Node>, NoMemory>
+fn boxed(alloc: Global, node: ExprCode) -> Result<Box<ExprCode>, NoMemory>
     ensures { IfOk result (λ b. b.value ≡ node) }
 {
     match Box::new(alloc, node) {
@@ -72,17 +72,17 @@ fn boxed(alloc: Global, node: Node) -> Result<Box<Node>, NoMemory>
 }
 
 // The same code in fewer nodes, where an operator stands behind a variable and before a number or a variable.
-fn joined(node: Node) -> Node
+fn joined(node: ExprCode) -> ExprCode
     ensures placed { (numbers : List ℕ → ℕ) (n : ℕ) → is_placed numbers n node ≡ true → is_placed numbers n result ≡ true }
     ensures same { (names : List (List ℕ)) → expression_at names result ≡ expression_at names node }
 {
-    if let Node::Binary(op, left, right) = &node {
-        if let Node::Variable(place) = &**left {
-            if let Node::Number(n) = &**right {
-                return Node::WithNumber(*op, *place, *n);
+    if let ExprCode::Binary(op, left, right) = &node {
+        if let ExprCode::Variable(place) = &**left {
+            if let ExprCode::Number(n) = &**right {
+                return ExprCode::WithNumber(*op, *place, *n);
             }
-            if let Node::Variable(other) = &**right {
-                return Node::WithVariable(*op, *place, *other);
+            if let ExprCode::Variable(other) = &**right {
+                return ExprCode::WithVariable(*op, *place, *other);
             }
         }
     }
@@ -90,7 +90,7 @@ fn joined(node: Node) -> Node
 }
 
 // Arguments with memory of their own.
-fn boxed_args(alloc: Global, args: Args) -> Result<Box<Args>, NoMemory>
+fn boxed_args(alloc: Global, args: ArgCode) -> Result<Box<ArgCode>, NoMemory>
     ensures { IfOk result (λ b. b.value ≡ args) }
 {
     match Box::new(alloc, args) {
@@ -100,13 +100,13 @@ fn boxed_args(alloc: Global, args: Args) -> Result<Box<Args>, NoMemory>
 }
 
 // A list before other arguments.
-fn list(alloc: Global, list: Args, rest: Args) -> Result<Args, NoMemory>
+fn list(alloc: Global, list: ArgCode, rest: ArgCode) -> Result<ArgCode, NoMemory>
     ensures { IfOk result (λ args. (numbers : List ℕ → ℕ) (names : List (List ℕ)) (xs ys : Arguments) → IsArguments numbers names list xs
         → IsArguments numbers names rest ys → IsArguments numbers names args (tree.list xs ys)) }
 {
     let list = boxed_args(alloc, list)?;
     let rest = boxed_args(alloc, rest)?;
-    Ok(Args::List(list, rest))
+    Ok(ArgCode::List(list, rest))
 }
 
 // The end of a call's arguments, where a variable may stand behind `&`.
@@ -115,15 +115,15 @@ fn output_variable(
     alloc: Global,
     output: &Option<Name>,
     names: &mut Vec<Name>,
-) -> Result<Args, NoMemory>
+) -> Result<ArgCode, NoMemory>
     requires distinct { are_distinct names.old.items ≡ true }
     ensures distinct { OnOk result (are_distinct names.new.items ≡ true) }
     ensures grew { OnOk result (Grew names.old.items names.new.items) }
     ensures ok { IfOk result (λ args. (numbers : List ℕ → ℕ) → IsArguments numbers names.new.items args (output_of output.now)) }
 {
     match output {
-        None => Ok(Args::End),
-        Some(name) => Ok(Args::Output(place(alloc, name, names)?)),
+        None => Ok(ArgCode::End),
+        Some(name) => Ok(ArgCode::Output(place(alloc, name, names)?)),
     }
 }
 
@@ -135,7 +135,7 @@ fn expression(
     functions: &[Function],
     expr: &Expr,
     names: &mut Vec<Name>,
-) -> Result<Node, NoMemory>
+) -> Result<ExprCode, NoMemory>
     requires few { length functions.now + 1 < 2 ^ 32 }
     requires distinct { are_distinct names.old.items ≡ true }
     requires built { is_built (expression_of expr.now) ≡ true }
@@ -144,34 +144,34 @@ fn expression(
     ensures ok { IfOk result (λ node. IsExpression (numbers_in (functions_of functions.now)) names.new.items node (expression_of expr.now)) }
 {
     match expr {
-        Expr::Number(n) => Ok(Node::Number(*n)),
-        Expr::Constant(constant) => Ok(Node::Constant(*constant)),
-        Expr::Var(name) => Ok(Node::Variable(place(alloc, name, names)?)),
-        Expr::Paramc => Ok(Node::Paramc),
-        Expr::Depc => Ok(Node::Depc),
-        Expr::Code => Ok(Node::LastCode),
+        Expr::Number(n) => Ok(ExprCode::Number(*n)),
+        Expr::Constant(constant) => Ok(ExprCode::Constant(*constant)),
+        Expr::Var(name) => Ok(ExprCode::Variable(place(alloc, name, names)?)),
+        Expr::Paramc => Ok(ExprCode::Paramc),
+        Expr::Depc => Ok(ExprCode::Depc),
+        Expr::Code => Ok(ExprCode::LastCode),
         Expr::Paramv(index) => {
             let index = expression(alloc, functions, index, names)?;
-            Ok(Node::Paramv(boxed(alloc, index)?))
+            Ok(ExprCode::Paramv(boxed(alloc, index)?))
         }
         Expr::Depv(index) => {
             let index = expression(alloc, functions, index, names)?;
-            Ok(Node::Depv(boxed(alloc, index)?))
+            Ok(ExprCode::Depv(boxed(alloc, index)?))
         }
         Expr::Unary(op, operand) => {
             let operand = expression(alloc, functions, operand, names)?;
-            Ok(Node::Unary(*op, boxed(alloc, operand)?))
+            Ok(ExprCode::Unary(*op, boxed(alloc, operand)?))
         }
         Expr::Binary(op, left, right) => {
             let left = expression(alloc, functions, left, names)?;
             let left = boxed(alloc, left)?;
             let right = expression(alloc, functions, right, names)?;
             let right = boxed(alloc, right)?;
-            Ok(joined(Node::Binary(*op, left, right)))
+            Ok(joined(ExprCode::Binary(*op, left, right)))
         }
         Expr::Invoke(made) => {
             let (made, args) = invocation(alloc, functions, made, names)?;
-            Ok(Node::Invoke(made, args))
+            Ok(ExprCode::Invoke(made, args))
         }
     }
 }
@@ -184,7 +184,7 @@ fn invocation(
     functions: &[Function],
     made: &Invoke,
     names: &mut Vec<Name>,
-) -> Result<(Made, Args), NoMemory>
+) -> Result<(Operation, ArgCode), NoMemory>
     requires few { length functions.now + 1 < 2 ^ 32 }
     requires distinct { are_distinct names.old.items ≡ true }
     requires call { is_call_built (name_of made.now) (arguments_of made.now) ≡ true }
@@ -199,10 +199,13 @@ fn invocation(
             paramc,
             depc,
         } => {
-            let args = value(alloc, functions, depc, Args::End, names)?;
+            let args = value(alloc, functions, depc, ArgCode::End, names)?;
             let args = value(alloc, functions, paramc, args, names)?;
             let number = number_named(functions, function.as_bytes()) as u32;
-            Ok((Made::TemplateCreate(copy(alloc, function)?, number), args))
+            Ok((
+                Operation::TemplateCreate(copy(alloc, function)?, number),
+                args,
+            ))
         }
         Invoke::EdtCreate {
             template,
@@ -222,12 +225,12 @@ fn invocation(
             let args = list(alloc, params, args)?;
             let args = value(alloc, functions, paramc, args, names)?;
             let args = value(alloc, functions, template, args, names)?;
-            Ok((Made::EdtCreate, args))
+            Ok((Operation::EdtCreate, args))
         }
-        Invoke::Shutdown => Ok((Made::Shutdown, Args::End)),
+        Invoke::Shutdown => Ok((Operation::Shutdown, ArgCode::End)),
         Invoke::Abort { code } => {
-            let args = value(alloc, functions, code, Args::End, names)?;
-            Ok((Made::Abort, args))
+            let args = value(alloc, functions, code, ArgCode::End, names)?;
+            Ok((Operation::Abort, args))
         }
         _ => unreachable!(),
     }
@@ -240,9 +243,9 @@ fn value(
     alloc: Global,
     functions: &[Function],
     expr: &Expr,
-    rest: Args,
+    rest: ArgCode,
     names: &mut Vec<Name>,
-) -> Result<Args, NoMemory>
+) -> Result<ArgCode, NoMemory>
     requires few { length functions.now + 1 < 2 ^ 32 }
     requires distinct { are_distinct names.old.items ≡ true }
     requires built { is_built (expression_of expr.now) ≡ true }
@@ -254,7 +257,7 @@ fn value(
     let node = expression(alloc, functions, expr, names)?;
     let node = boxed(alloc, node)?;
     let rest = boxed_args(alloc, rest)?;
-    Ok(Args::Value(node, rest))
+    Ok(ArgCode::Value(node, rest))
 }
 
 // The members of a list, from the last on.
@@ -265,7 +268,7 @@ fn members(
     functions: &[Function],
     exprs: &[Expr],
     names: &mut Vec<Name>,
-) -> Result<Args, NoMemory>
+) -> Result<ArgCode, NoMemory>
     requires few { length functions.now + 1 < 2 ^ 32 }
     requires distinct { are_distinct names.old.items ≡ true }
     requires built { are_arguments_built (members_of exprs.now) ≡ true }
@@ -273,7 +276,7 @@ fn members(
     ensures grew { OnOk result (Grew names.old.items names.new.items) }
     ensures ok { IfOk result (λ args. IsArguments (numbers_in (functions_of functions.now)) names.new.items args (members_of exprs.now)) }
 {
-    let mut args = Args::End;
+    let mut args = ArgCode::End;
     for i in 0..exprs.len() {
         let expr = &exprs[exprs.len() - 1 - i];
         args = value(alloc, functions, expr, args, names)?;
@@ -289,7 +292,7 @@ fn statement(
     functions: &[Function],
     stmt: &Stmt,
     names: &mut Vec<Name>,
-) -> Result<Step, NoMemory>
+) -> Result<StmtCode, NoMemory>
     requires few { length functions.now + 1 < 2 ^ 32 }
     requires distinct { are_distinct names.old.items ≡ true }
     requires built { is_statement_built (statement_of stmt.now) ≡ true }
@@ -300,28 +303,28 @@ fn statement(
     match stmt {
         Stmt::Let { name, value } => {
             let place = place(alloc, name, names)?;
-            Ok(Step::Let(place, expression(alloc, functions, value, names)?))
+            Ok(StmtCode::Let(place, expression(alloc, functions, value, names)?))
         }
         Stmt::Assign { name, value } => {
             let place = place(alloc, name, names)?;
-            Ok(Step::Assign(place, expression(alloc, functions, value, names)?))
+            Ok(StmtCode::Assign(place, expression(alloc, functions, value, names)?))
         }
         Stmt::If { test, yes, no } => {
             let test = expression(alloc, functions, test, names)?;
             let yes = statements(alloc, functions, yes, names)?;
             let no = statements(alloc, functions, no, names)?;
-            Ok(Step::If(test, yes, no))
+            Ok(StmtCode::If(test, yes, no))
         }
         Stmt::While { test, body } => {
             let test = expression(alloc, functions, test, names)?;
             let body = statements(alloc, functions, body, names)?;
-            Ok(Step::While(test, body))
+            Ok(StmtCode::While(test, body))
         }
-        Stmt::Print { value } => Ok(Step::Print(expression(alloc, functions, value, names)?)),
-        Stmt::Return { value } => Ok(Step::Return(expression(alloc, functions, value, names)?)),
+        Stmt::Print { value } => Ok(StmtCode::Print(expression(alloc, functions, value, names)?)),
+        Stmt::Return { value } => Ok(StmtCode::Return(expression(alloc, functions, value, names)?)),
         Stmt::Invoke(made) => {
             let (made, args) = invocation(alloc, functions, made, names)?;
-            Ok(Step::Invoke(made, args))
+            Ok(StmtCode::Invoke(made, args))
         }
     }
 }
@@ -334,7 +337,7 @@ fn statements(
     functions: &[Function],
     stmts: &[Stmt],
     names: &mut Vec<Name>,
-) -> Result<Vec<Step>, NoMemory>
+) -> Result<Vec<StmtCode>, NoMemory>
     requires few { length functions.now + 1 < 2 ^ 32 }
     requires distinct { are_distinct names.old.items ≡ true }
     requires built { are_statements_built (statements_of stmts.now) ≡ true }

@@ -9,7 +9,8 @@ use Rattle.ocr_body.specs.declared.call.BodyStop.{BodyStop}
 use Rattle.ocr_machine.specs.declared.entry.Entry.TheVariants.{Call}
 use Rattle.ocr_replay.specs.declared.judging.Ending.{Ending}
 use Rattle.ocr_replay.specs.declared.telling.Next.TheVariants as next
-use Rattle.ocr_body.specs.Serving.{Body, says, StoppedBy, by_closing, by_memory, by_body}
+use Rattle.ocr_body.specs.Body.{Body, says}
+use Rattle.ocr_body.specs.Serving.{StoppedBy, by_closing, by_memory, by_body}
 use Rattle.ocr_body.specs.declared.call.BodyStop.TheVariants as stop
 use Rattle.ocr_body.specs.declared.call.Call as body
 use Rattle.ocr_body.specs.declared.call.Call.TheVariants as call

@@ -4,7 +4,7 @@ use Rattle.std.proofs.lemmas.Grind.{common_steps}
 use Rattle.std.proofs.lemmas.Bool.{eqb-true}
 use Rattle.std.specs.Prelude.{Option, Some, None, IfSome, IfNone}
 use Rattle.ocr_body.specs.Behaviour.{Behaviour, Asked}
-use Rattle.ocr_body.specs.Serving.{Body, says}
+use Rattle.ocr_body.specs.Body.{Body, says}
 use Rattle.ocr_machine.specs.declared.entry.Entry.{Entry}
 use Rattle.ocr_machine.specs.declared.entry.Entry.TheVariants.{Start}
 use Rattle.ocr_replay.specs.declared.judging.Ending.{Ending}

@@ -5,7 +5,7 @@ use Rattle.std.proofs.lemmas.Bool.{eqb-true}
 use Rattle.ocr_slots.specs.Slots as slot
 use Rattle.ocr_datablock.specs.Block as block
 use Rattle.ocr_edt.specs.Edt as edt
-use Rattle.ocr_body.specs.Serving.{Body}
+use Rattle.ocr_body.specs.Body.{Body}
 use Rattle.ocr_tree.specs.Tree.{FunctionTree}
 use Rattle.ocr_machine.specs.declared.entry.Entry.{Entry}
 use Rattle.ocr_machine.specs.declared.entry.Entry.TheVariants.{Call, Acquire, Start, Free, End, Stop}

@@ -8,7 +8,7 @@ use Rattle.ocr_machine.specs.Legal.{faulted}
 use Rattle.ocr_machine.specs.declared.entry.Fault.{Fault}
 use Rattle.ocr_machine.specs.declared.entry.Fault.TheVariants as fault
 use Rattle.ocr_tree.specs.Tree.{FunctionTree, nothing}
-use Rattle.ocr_body.specs.Serving.{Body, says}
+use Rattle.ocr_body.specs.Body.{Body, says}
 use Rattle.ocr_tree.specs.Functions.{statements_at}
 use Rattle.ocr_body.specs.declared.call.Call as body
 use Rattle.ocr_body.specs.declared.call.Answer.{Answer}

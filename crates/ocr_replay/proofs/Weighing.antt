@@ -8,7 +8,7 @@ use Rattle.ocr_edt.specs.declared.Edt.{Edt}
 use Rattle.ocr_edt.specs.declared.Edt.TheVariants as phase
 use Rattle.ocr_edt.specs.Phases.{Progress}
 use Rattle.ocr_body.specs.Behaviour.{Behaviour, Ends, IsNext}
-use Rattle.ocr_body.specs.Serving.{Body, says}
+use Rattle.ocr_body.specs.Body.{Body, says}
 use Rattle.ocr_body.specs.declared.call.Call as body
 use Rattle.ocr_body.specs.declared.call.Call.TheVariants as call
 use Rattle.ocr_body.specs.declared.call.Answer.{Answer}

@@ -1,7 +1,7 @@
 -- What the body of one EDT says of the entries that run it.
 use Rattle.std.specs.Prelude.{◌≡◌, ℕ, ◌≤◌, ◌<◌, List, length, take, slice_index_or, Bool, true, false, ◌==◌}
 use Rattle.ocr_body.specs.Behaviour.{Behaviour, Ends, Stops, IsNext}
-use Rattle.ocr_body.specs.Serving.{Body, says}
+use Rattle.ocr_body.specs.Body.{Body, says}
 use Rattle.ocr_tree.specs.Tree.{FunctionTree}
 use Rattle.ocr_body.specs.declared.call.BodyStop.TheVariants as stop
 use Rattle.ocr_replay.specs.declared.judging.Ending.{Ending}

@@ -10,7 +10,7 @@ use Rattle.ocr_machine.specs.Parts.{Parts, parts_of}
 use Rattle.ocr_machine.specs.Codes.{code_of}
 use Rattle.ocr_machine.specs.LegalOn.{IsAnswered, IsFresh}
 use Rattle.ocr_body.specs.Checked.{checked_tree}
-use Rattle.ocr_body.specs.Serving.{Body}
+use Rattle.ocr_body.specs.Body.{Body}
 use Rattle.ocr_machine.specs.Whole.{all_parts}
 use Rattle.ocr_machine.specs.declared.entry.Entry.{Entry}
 use Rattle.ocr_machine.specs.declared.entry.Entry.TheVariants.{Call, Acquire, Wait, StaleAcquire, Start, Free, End}

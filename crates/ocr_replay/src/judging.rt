@@ -1,7 +1,7 @@
 // Runs the body of one EDT against its entries in a journal.
 ghost use Rattle.std.specs.Prelude.{◌≡◌, ◌≤◌, ◌<◌, length, true, false, IfSome, IfNone, [], take, IfOk};
 ghost use Rattle.ocr_body.specs.Checked.{checked_tree};
-ghost use Rattle.ocr_body.specs.Serving.{Body};
+ghost use Rattle.ocr_body.specs.Body.{Body};
 ghost use Rattle.ocr_machine.specs.History.{own, history_of};
 ghost use Rattle.ocr_machine.specs.Legal.{faulted};
 ghost use Rattle.ocr_replay.specs.Linking.{IsFollowing};

@@ -11,7 +11,8 @@ use Rattle.ocr_edt.specs.Edt as edt
 use Rattle.ocr_tree.specs.Tree.{FunctionTree}
 use Rattle.ocr_body.specs.Behaviour.{Behaviour, Ends, Stops, Asks, NotBuilt, IsNext}
 use Rattle.ocr_body.specs.Laws.{IsSaid, IsServed, IsOfBuilt}
-use Rattle.ocr_body.specs.Serving.{StoppedBy, by_closing, by_memory, by_body, Rose}
+use Rattle.ocr_base.specs.Count.{Rose}
+use Rattle.ocr_body.specs.Serving.{StoppedBy, by_closing, by_memory, by_body}
 use Rattle.ocr_body.proofs.Laws.{built_law}
 use Rattle.ocr_body.specs.declared.call.Call as body
 use Rattle.ocr_body.specs.declared.call.Call.TheVariants as call

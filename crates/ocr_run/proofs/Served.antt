@@ -6,7 +6,9 @@ use Rattle.ocr_edt.specs.Edt as edt
 use Rattle.ocr_tree.specs.Tree.{FunctionTree}
 use Rattle.ocr_body.specs.Behaviour.{Behaviour, IsNext}
 use Rattle.ocr_body.specs.Laws.{IsSaid}
-use Rattle.ocr_body.specs.Serving.{Body, says, StoppedBy, Rose}
+use Rattle.ocr_body.specs.Body.{Body, says}
+use Rattle.ocr_base.specs.Count.{Rose}
+use Rattle.ocr_body.specs.Serving.{StoppedBy}
 use Rattle.ocr_body.specs.declared.call.Call as body
 use Rattle.ocr_body.specs.declared.call.Answer.{Answer}
 use Rattle.ocr_body.specs.declared.call.BodyStop.{BodyStop}

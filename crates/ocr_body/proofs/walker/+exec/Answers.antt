@@ -5,8 +5,10 @@ use Rattle.ocr_tree.specs.Tree as tree
 use Rattle.ocr_body.specs.Code.{statement_at, statements_in, expression_at, is_step_placed, is_placed, are_placed}
 use Rattle.ocr_body.specs.Meaning as meaning
 use Rattle.ocr_body.specs.Local.{state_of, frame_of, numbers_of}
-use Rattle.ocr_body.specs.Serving.{Body, says, behaviour, Begins, IsTrace, IsDone, StoppedBy, Rose}
-use Rattle.ocr_body.specs.declared.code.Step.{Step}
+use Rattle.ocr_body.specs.Body.{Body, says, behaviour}
+use Rattle.ocr_base.specs.Count.{Rose}
+use Rattle.ocr_body.specs.Serving.{Begins, IsTrace, IsDone, StoppedBy}
+use Rattle.ocr_body.specs.declared.code.StmtCode.{StmtCode}
 use Rattle.ocr_body.proofs.Weight.{weight, weights, weight_at}
 use Rattle.ocr_body.proofs.Rows.{if_view, while_view, if_placed, while_placed}
 use Rattle.ocr_body.proofs.Stopped.{stopped_by_body}
@@ -20,12 +22,12 @@ exec-repeat-requires g t c = λ κs l.
     let items : c.deref.result.now ≡ c.in-While.body.items = c.deref.ensures.value in
     let view : statement_at names c.args.step.now ≡ tree.While (expression_at names c.in-While.test) (statements_in names c.deref.result.now) =
     ap (statement_at names) c.in-While.is ∙ while_view names c.in-While.test c.in-While.body
-    ∙ ap (λ (ss : List Step). tree.While (expression_at names c.in-While.test) (statements_in names ss)) (sym items) in
+    ∙ ap (λ (ss : List StmtCode). tree.While (expression_at names c.in-While.test) (statements_in names ss)) (sym items) in
     let placed : (is_placed (numbers_of c.args.frame.now) (length names) c.in-While.test && are_placed (numbers_of c.args.frame.now) (length names) c.deref.result.now) ≡ true =
-    ap (λ (ss : List Step). is_placed (numbers_of c.args.frame.now) (length names) c.in-While.test && are_placed (numbers_of c.args.frame.now) (length names) ss) items
+    ap (λ (ss : List StmtCode). is_placed (numbers_of c.args.frame.now) (length names) c.in-While.test && are_placed (numbers_of c.args.frame.now) (length names) ss) items
     ∙ sym (ap (is_step_placed (numbers_of c.args.frame.now) (length names)) c.in-While.is ∙ while_placed (numbers_of c.args.frame.now) (length names) c.in-While.test c.in-While.body) ∙ c.requires.placed in
     let P : tree.Statement → Type 0 = λ s. Begins (says (g.A.Api.serves c.args.api.now) (g.A.Api.log c.args.api.now)) (meaning.exec (frame_of c.args.frame.now) s (state_of names c.args.local.now)) in
-    (omega (arith, ap weight view), (l.0, (l.1, (c.requires.ready, (c.requires.distinct, (c.requires.room, (placed, subst P view c.requires.begins)))))))
+    (omega (arith, ap weight view), (l.0, (l.1, (c.requires.ready, (c.requires.fits, (placed, subst P view c.requires.begins))))))
 
 pub exec-returns-in-While-clause-ok : goal.exec-returns-in-While-clause-ok
 exec-returns-in-While-clause-ok g t c =
@@ -33,7 +35,7 @@ exec-returns-in-While-clause-ok g t c =
     let items : c.deref.result.now ≡ c.in-While.body.items = c.deref.ensures.value in
     let view : statement_at names c.args.step.now ≡ tree.While (expression_at names c.in-While.test) (statements_in names c.deref.result.now) =
     ap (statement_at names) c.in-While.is ∙ while_view names c.in-While.test c.in-While.body
-    ∙ ap (λ (ss : List Step). tree.While (expression_at names c.in-While.test) (statements_in names ss)) (sym items) in
+    ∙ ap (λ (ss : List StmtCode). tree.While (expression_at names c.in-While.test) (statements_in names ss)) (sym items) in
     flows_along _ _ _ _ _ _ _ _ _ view c.repeat.ensures.ok
 
 pub repeat-returns-in_err-pay-clause-err : goal.repeat-returns-in_err-pay-clause-err
@@ -59,7 +61,7 @@ repeat-find-requires-clause-begins g t c =
     let before = state_of names c.loop-local.local in
     let spent = state_of names c.pay.new.local in (
       tested m test body c.requires.begins.0,
-      ap (λ (b : Body). says b (g.A.Api.log c.loop-local.api)) c.loop-local.invariant.serves
+      ap (λ (b : Body). says b (g.A.Api.log c.loop-local.api)) c.loop-local.invariant.goes_on.serves
           ∙ c.loop-local.invariant.left.1.1 c.requires.begins.0 c.requires.begins.1
           ∙ turn_begins m test body c.requires.begins.0 before spent (c.in_ok-pay.ensures.ok names),
     )
@@ -77,26 +79,23 @@ repeat-exec_all-requires g t c = λ κs l.
     let found : (k : meaning.State → Behaviour) → says (g.A.Api.serves c.args.api.now) (g.A.Api.log c.loop-local.api) ≡ meaning.turns (suc m) test body before k
     → says (g.A.Api.serves c.find.new.api) (g.A.Api.log c.find.new.api) ≡ tested m test body k v tried =
     λ k here.
-    ap (λ (b : Body). says b (g.A.Api.log c.find.new.api)) c.in_ok-value.ensures.serves
-    ∙ c.in_ok-value.ensures.ok (tested m test body k) (ap (λ (b : Body). says b (g.A.Api.log c.loop-local.api)) c.loop-local.invariant.serves ∙ here ∙ turn_begins m test body k before spent (c.in_ok-pay.ensures.ok names)) in
-    let served : g.A.Api.serves c.find.new.api ≡ g.A.Api.serves c.args.api.now = c.in_ok-value.ensures.serves ∙ c.loop-local.invariant.serves in (
+    ap (λ (b : Body). says b (g.A.Api.log c.find.new.api)) c.in_ok-value.ensures.goes_on.serves
+    ∙ c.in_ok-value.ensures.ok (tested m test body k) (ap (λ (b : Body). says b (g.A.Api.log c.loop-local.api)) c.loop-local.invariant.goes_on.serves ∙ here ∙ turn_begins m test body k before spent (c.in_ok-pay.ensures.ok names)) in
+    let served : g.A.Api.serves c.find.new.api ≡ g.A.Api.serves c.args.api.now = c.in_ok-value.ensures.goes_on.serves ∙ c.loop-local.invariant.goes_on.serves in (
       omega arith,
       (
         l.0,
         (
           l.1,
           (
-            c.in_ok-value.ensures.ready,
+            c.in_ok-value.ensures.goes_on.ready,
             (
-              c.requires.distinct,
+              record { distinct = c.requires.fits.distinct; room = c.in_ok-value.ensures.still_fits.room },
               (
-                c.in_ok-value.ensures.room,
+                second_of _ _ c.requires.placed,
                 (
-                  second_of _ _ c.requires.placed,
-                  (
-                    λ st. meaning.turns m test body st c.requires.begins.0,
-                    found c.requires.begins.0 (c.loop-local.invariant.left.1.1 c.requires.begins.0 c.requires.begins.1) ∙ turn_goes_on m test body c.requires.begins.0 v tried c.if-value-eq0.false,
-                  ),
+                  λ st. meaning.turns m test body st c.requires.begins.0,
+                  found c.requires.begins.0 (c.loop-local.invariant.left.1.1 c.requires.begins.0 c.requires.begins.1) ∙ turn_goes_on m test body c.requires.begins.0 v tried c.if-value-eq0.false,
                 ),
               ),
             ),
@@ -118,9 +117,9 @@ repeat-returns-then-value-eq0-clause-ok g t c =
     let found : (k : meaning.State → Behaviour) → says (g.A.Api.serves c.args.api.now) (g.A.Api.log c.loop-local.api) ≡ meaning.turns (suc m) test body before k
     → says (g.A.Api.serves c.find.new.api) (g.A.Api.log c.find.new.api) ≡ tested m test body k v tried =
     λ k here.
-    ap (λ (b : Body). says b (g.A.Api.log c.find.new.api)) c.in_ok-value.ensures.serves
-    ∙ c.in_ok-value.ensures.ok (tested m test body k) (ap (λ (b : Body). says b (g.A.Api.log c.loop-local.api)) c.loop-local.invariant.serves ∙ here ∙ turn_begins m test body k before spent (c.in_ok-pay.ensures.ok names)) in
-    let served : g.A.Api.serves c.find.new.api ≡ g.A.Api.serves c.args.api.now = c.in_ok-value.ensures.serves ∙ c.loop-local.invariant.serves in
+    ap (λ (b : Body). says b (g.A.Api.log c.find.new.api)) c.in_ok-value.ensures.goes_on.serves
+    ∙ c.in_ok-value.ensures.ok (tested m test body k) (ap (λ (b : Body). says b (g.A.Api.log c.loop-local.api)) c.loop-local.invariant.goes_on.serves ∙ here ∙ turn_begins m test body k before spent (c.in_ok-pay.ensures.ok names)) in
+    let served : g.A.Api.serves c.find.new.api ≡ g.A.Api.serves c.args.api.now = c.in_ok-value.ensures.goes_on.serves ∙ c.loop-local.invariant.goes_on.serves in
     λ k was.
     ap (λ (b : Body). says b (g.A.Api.log c.find.new.api)) (sym served)
     ∙ found k (c.loop-local.invariant.left.1.1 k was) ∙ turn_ends m test body k v tried c.if-value-eq0.true
@@ -138,24 +137,29 @@ repeat-loop-local-preserved g t c =
     let found : (k : meaning.State → Behaviour) → says (g.A.Api.serves c.args.api.now) (g.A.Api.log c.loop-local.api) ≡ meaning.turns (suc m) test body before k
     → says (g.A.Api.serves c.find.new.api) (g.A.Api.log c.find.new.api) ≡ tested m test body k v tried =
     λ k here.
-    ap (λ (b : Body). says b (g.A.Api.log c.find.new.api)) c.in_ok-value.ensures.serves
-    ∙ c.in_ok-value.ensures.ok (tested m test body k) (ap (λ (b : Body). says b (g.A.Api.log c.loop-local.api)) c.loop-local.invariant.serves ∙ here ∙ turn_begins m test body k before spent (c.in_ok-pay.ensures.ok names)) in
-    let served : g.A.Api.serves c.find.new.api ≡ g.A.Api.serves c.args.api.now = c.in_ok-value.ensures.serves ∙ c.loop-local.invariant.serves in
+    ap (λ (b : Body). says b (g.A.Api.log c.find.new.api)) c.in_ok-value.ensures.goes_on.serves
+    ∙ c.in_ok-value.ensures.ok (tested m test body k) (ap (λ (b : Body). says b (g.A.Api.log c.loop-local.api)) c.loop-local.invariant.goes_on.serves ∙ here ∙ turn_begins m test body k before spent (c.in_ok-pay.ensures.ok names)) in
+    let served : g.A.Api.serves c.find.new.api ≡ g.A.Api.serves c.args.api.now = c.in_ok-value.ensures.goes_on.serves ∙ c.loop-local.invariant.goes_on.serves in
     let second : IsTrace (behaviour (g.A.Api.serves c.args.api.now)) (g.A.Api.log c.loop-local.api) → IsTrace (behaviour (g.A.Api.serves c.args.api.now)) (g.A.Api.log c.find.new.api) =
-    subst (λ (b : Body). IsTrace (behaviour b) (g.A.Api.log c.loop-local.api) → IsTrace (behaviour b) (g.A.Api.log c.find.new.api)) c.loop-local.invariant.serves c.in_ok-value.ensures.trace in
+    subst (λ (b : Body). IsTrace (behaviour b) (g.A.Api.log c.loop-local.api) → IsTrace (behaviour b) (g.A.Api.log c.find.new.api)) c.loop-local.invariant.goes_on.serves c.in_ok-value.ensures.goes_on.trace in
     let third : IsTrace (behaviour (g.A.Api.serves c.args.api.now)) (g.A.Api.log c.find.new.api) → IsTrace (behaviour (g.A.Api.serves c.args.api.now)) (g.A.Api.log c.exec_all.new.api) =
-    subst (λ (b : Body). IsTrace (behaviour b) (g.A.Api.log c.find.new.api) → IsTrace (behaviour b) (g.A.Api.log c.exec_all.new.api)) served c.in_ok-exec_all.ensures.trace in
+    subst (λ (b : Body). IsTrace (behaviour b) (g.A.Api.log c.find.new.api) → IsTrace (behaviour b) (g.A.Api.log c.exec_all.new.api)) served c.in_ok-exec_all.ensures.goes_on.trace in
     let done : IsDone (says (g.A.Api.serves c.find.new.api) (g.A.Api.log c.find.new.api)) (body tried) (state_of names c.exec_all.new.local) (says (g.A.Api.serves c.find.new.api) (g.A.Api.log c.exec_all.new.api)) =
     flowed_on _ _ (body tried) _ c.in_ok-exec_all.field-0 _ c.in_default.is c.in_ok-exec_all.ensures.ok in
-    let less : c.exec_all.new.local.fuel < c.loop-local.local.fuel = omega (arith, c.in_ok-exec_all.ensures.fuel, c.in_ok-value.ensures.fuel, c.in_ok-pay.ensures.less) in
+    let less : c.exec_all.new.local.fuel < c.loop-local.local.fuel = omega (arith, c.in_ok-exec_all.ensures.still_fits.fuel, c.in_ok-value.ensures.still_fits.fuel, c.in_ok-pay.ensures.less) in
     let enough : c.loop-local.local.fuel ≤ m = c.loop-local.invariant.left.1.0 in
     record {
-      ready = c.in_ok-exec_all.ensures.ready;
-      serves = c.in_ok-exec_all.ensures.serves ∙ served;
-      kept = c.in_ok-exec_all.ensures.kept ∙ c.in_ok-value.ensures.kept ∙ c.loop-local.invariant.kept;
-      trace = λ was. third (second (c.loop-local.invariant.trace was));
-      room = c.in_ok-exec_all.ensures.room;
-      fuel = omega (arith, c.loop-local.invariant.fuel);
+      goes_on = record {
+        ready = c.in_ok-exec_all.ensures.goes_on.ready;
+        serves = c.in_ok-exec_all.ensures.goes_on.serves ∙ served;
+        kept = c.in_ok-exec_all.ensures.goes_on.kept ∙ c.in_ok-value.ensures.goes_on.kept ∙ c.loop-local.invariant.goes_on.kept;
+        trace = λ was. third (second (c.loop-local.invariant.goes_on.trace was));
+        later = omega (arith, c.loop-local.invariant.goes_on.later, c.in_ok-value.ensures.goes_on.later, c.in_ok-exec_all.ensures.goes_on.later);
+      };
+      still_fits = record {
+        room = c.in_ok-exec_all.ensures.still_fits.room;
+        fuel = omega (arith, c.loop-local.invariant.still_fits.fuel);
+      };
       left = (
         m - 1,
         (
@@ -166,7 +170,6 @@ repeat-loop-local-preserved g t c =
               ∙ turns_left m c.exec_all.new.local.fuel c.loop-local.local.fuel test body (state_of names c.exec_all.new.local) k less enough,
         ),
       );
-      later = omega (arith, c.loop-local.invariant.later, c.in_ok-value.ensures.later, c.in_ok-exec_all.ensures.later);
     }
 
 pub exec-exec_all-requires : goal.exec-exec_all-requires
@@ -180,7 +183,7 @@ exec-exec_all-requires g t c = λ κs l.
     let placed : are_placed (numbers_of c.args.frame.now) (length names) c.deref-then-value-eq0.result.now ≡ true = ap (are_placed (numbers_of c.args.frame.now) (length names)) items ∙ second_of _ _ (second_of _ _ parts) in
     let P : tree.Statement → Type 0 = λ s. Begins (says (g.A.Api.serves c.args.api.now) (g.A.Api.log c.args.api.now)) (meaning.exec (frame_of c.args.frame.now) s (state_of names c.args.local.now)) in
     let b = subst P view c.requires.begins in
-    (omega (arith, ap weight view, ap (λ (ss : List Step). weights (statements_in names ss)) items), (l.0, (l.1, (c.in_ok-value-in-If.ensures.ready, (c.requires.distinct, (c.in_ok-value-in-If.ensures.room, (placed, search (rules, b))))))))
+    (omega (arith, ap weight view, ap (λ (ss : List StmtCode). weights (statements_in names ss)) items), (l.0, (l.1, (c.in_ok-value-in-If.ensures.goes_on.ready, (record { distinct = c.requires.fits.distinct; room = c.in_ok-value-in-If.ensures.still_fits.room }, (placed, search (rules, b)))))))
 
 pub exec-exec_all-requires-else-value-eq0 : goal.exec-exec_all-requires-else-value-eq0
 exec-exec_all-requires-else-value-eq0 g t c = λ κs l.
@@ -193,7 +196,7 @@ exec-exec_all-requires-else-value-eq0 g t c = λ κs l.
     let placed : are_placed (numbers_of c.args.frame.now) (length names) c.deref-else-value-eq0.result.now ≡ true = ap (are_placed (numbers_of c.args.frame.now) (length names)) items ∙ first_of _ _ (second_of _ _ parts) in
     let P : tree.Statement → Type 0 = λ s. Begins (says (g.A.Api.serves c.args.api.now) (g.A.Api.log c.args.api.now)) (meaning.exec (frame_of c.args.frame.now) s (state_of names c.args.local.now)) in
     let b = subst P view c.requires.begins in
-    (omega (arith, ap weight view, ap (λ (ss : List Step). weights (statements_in names ss)) items), (l.0, (l.1, (c.in_ok-value-in-If.ensures.ready, (c.requires.distinct, (c.in_ok-value-in-If.ensures.room, (placed, search (rules, b))))))))
+    (omega (arith, ap weight view, ap (λ (ss : List StmtCode). weights (statements_in names ss)) items), (l.0, (l.1, (c.in_ok-value-in-If.ensures.goes_on.ready, (record { distinct = c.requires.fits.distinct; room = c.in_ok-value-in-If.ensures.still_fits.room }, (placed, search (rules, b)))))))
 
 pub exec-returns-then-value-eq0-clause-ok : goal.exec-returns-then-value-eq0-clause-ok
 exec-returns-then-value-eq0-clause-ok g t c = rw (c.in-If.is, if_view, ← c.deref-then-value-eq0.ensures.value) (search rules)
@@ -208,24 +211,21 @@ exec_all-exec-requires g t c = λ κs l.
     let placed : (is_step_placed (numbers_of c.args.frame.now) (length names) c.step-item.result && are_placed (numbers_of c.args.frame.now) (length names) (drop (c.loop-step.step-index + 1) c.args.steps.now)) ≡ true =
     sym (ap (are_placed (numbers_of c.args.frame.now) (length names)) rest) ∙ c.loop-step.invariant.placed in
     let here : says (g.A.Api.serves c.loop-step.api) (g.A.Api.log c.loop-step.api) ≡ meaning.exec_all (frame_of c.args.frame.now) (statements_in names (drop c.loop-step.step-index c.args.steps.now)) (state_of names c.loop-step.local) c.requires.begins.0 =
-    ap (λ (b : Body). says b (g.A.Api.log c.loop-step.api)) c.loop-step.invariant.serves ∙ c.loop-step.invariant.goes_on c.requires.begins.0 c.requires.begins.1 in (
-      omega (arith, weight_at names c.args.steps.now c.loop-step.step-index c.step-item.result c.loop-step-test.true, ap (λ (s : Step). weight (statement_at names s)) c.step-item.is),
+    ap (λ (b : Body). says b (g.A.Api.log c.loop-step.api)) c.loop-step.invariant.goes_on.serves ∙ c.loop-step.invariant.left c.requires.begins.0 c.requires.begins.1 in (
+      omega (arith, weight_at names c.args.steps.now c.loop-step.step-index c.step-item.result c.loop-step-test.true, ap (λ (s : StmtCode). weight (statement_at names s)) c.step-item.is),
       (
         l.0,
         (
           l.1,
           (
-            c.loop-step.invariant.ready,
+            c.loop-step.invariant.goes_on.ready,
             (
-              c.requires.distinct,
+              record { distinct = c.requires.fits.distinct; room = c.loop-step.invariant.still_fits.room },
               (
-                c.loop-step.invariant.room,
+                first_of _ _ placed,
                 (
-                  first_of _ _ placed,
-                  (
-                    λ st. meaning.exec_all (frame_of c.args.frame.now) (statements_in names (drop (c.loop-step.step-index + 1) c.args.steps.now)) st c.requires.begins.0,
-                    here ∙ ap (λ (xs : List Step). meaning.exec_all (frame_of c.args.frame.now) (statements_in names xs) (state_of names c.loop-step.local) c.requires.begins.0) rest,
-                  ),
+                  λ st. meaning.exec_all (frame_of c.args.frame.now) (statements_in names (drop (c.loop-step.step-index + 1) c.args.steps.now)) st c.requires.begins.0,
+                  here ∙ ap (λ (xs : List StmtCode). meaning.exec_all (frame_of c.args.frame.now) (statements_in names xs) (state_of names c.loop-step.local) c.requires.begins.0) rest,
                 ),
               ),
             ),

@@ -2,7 +2,6 @@ use Rattle.std.proofs.Common.{◌≡◌, ◌∙◌, refl}
 use Rattle.ocr_body.specs.Behaviour.{Ends}
 use Rattle.ocr_body.specs.Checked.{checked_tree}
 use Rattle.ocr_body.specs.Code.{statements_in}
-use Rattle.ocr_body.specs.Serving.{by_memory}
 use Rattle.ocr_tree.specs.Functions.{statements_at}
 use Rattle.ocr_body.specs.declared.call.BodyStop.TheVariants as stop
 use Rattle.ocr_body.proofs.Start.{starts, state_is_fresh}
@@ -15,16 +14,13 @@ exec_all-requires-clause-begins g c =
     (λ i. statements_in (c.deref.ensures.value i) (c.deref-2.ensures.value i)) ∙ c.function-code.ensures.body in (
       λ _. Ends 0,
       starts _ _ (checked_tree c.args.program.now) c.args.function c.args.params.now c.args.deps.now c.args.fuel _ _ c.requires.serves c.requires.fresh body
-          (state_is_fresh c.deref.result.now (record { fuel = c.args.fuel; code = 0; values = c.in-Ok.values; stop = stop.NoMemory; returned = 0 }) c.args.fuel _ refl refl c.in-Ok.ensures),
+          (state_is_fresh c.deref.result.now (record { fuel = c.args.fuel; code = 0; values = c.in_ok-values.values; stop = stop.NoMemory; returned = 0 }) c.args.fuel _ refl refl c.in_ok-values.ensures),
     )
 
 pub returns-in-Next-clause-ok : goal.returns-in-Next-clause-ok
 returns-in-Next-clause-ok g c =
     let body : statements_in c.deref.result.now c.deref-2.result.now ≡ statements_at (checked_tree c.args.program.now) c.args.function =
     (λ i. statements_in (c.deref.ensures.value i) (c.deref-2.ensures.value i)) ∙ c.function-code.ensures.body in
-    flowed_on _ _ _ _ _ _ c.in-Next.is c.in-Ok-exec_all.ensures.ok (λ _. Ends 0)
+    flowed_on _ _ _ _ _ _ c.in-Next.is c.in-Ok.ensures.ok (λ _. Ends 0)
     (starts _ _ (checked_tree c.args.program.now) c.args.function c.args.params.now c.args.deps.now c.args.fuel _ _ c.requires.serves c.requires.fresh body
-    (state_is_fresh c.deref.result.now (record { fuel = c.args.fuel; code = 0; values = c.in-Ok.values; stop = stop.NoMemory; returned = 0 }) c.args.fuel _ refl refl c.in-Ok.ensures))
-
-pub returns-in_default-clause-err : goal.returns-in_default-clause-err
-returns-in_default-clause-err g c = by_memory
+    (state_is_fresh c.deref.result.now (record { fuel = c.args.fuel; code = 0; values = c.in_ok-values.values; stop = stop.NoMemory; returned = 0 }) c.args.fuel _ refl refl c.in_ok-values.ensures))

@@ -1,7 +1,9 @@
 use Rattle.std.proofs.Common.{◌≡◌, ◌⊎◌, ◌<◌, inl, inr, refl, arith, List, ℕ, length}
 use Rattle.ocr_body.specs.Behaviour.{Ends, Stops}
 use Rattle.ocr_body.specs.Checked.{checked_tree}
-use Rattle.ocr_body.specs.Serving.{Body, StoppedBy, Rose}
+use Rattle.ocr_body.specs.Body.{Body}
+use Rattle.ocr_base.specs.Count.{Rose}
+use Rattle.ocr_body.specs.Serving.{StoppedBy}
 use Rattle.ocr_machine.specs.declared.entry.Entry.{Entry}
 use Rattle.ocr_body.specs.declared.call.BodyStop.TheVariants as stop
 use Rattle.ocr_replay.specs.declared.linking.Links.{Links}

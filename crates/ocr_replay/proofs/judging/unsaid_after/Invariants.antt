@@ -1,5 +1,5 @@
 use Rattle.std.proofs.Common.{◌≡◌, ◌≤◌, ◌-◌, length}
-use Rattle.ocr_body.specs.Serving.{Body}
+use Rattle.ocr_body.specs.Body.{Body}
 use Rattle.ocr_replay.specs.Judging.{IsSaidIn, at_place, ended_as}
 use Rattle.ocr_replay.specs.Linking.{IsFollowing}
 use Rattle.ocr_replay.proofs.judging.unsaid_after.Given as goal

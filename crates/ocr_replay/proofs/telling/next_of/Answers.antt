@@ -1,7 +1,9 @@
 use Rattle.std.proofs.Common.{◌≡◌, ◌⊎◌, ◌<◌, inl, inr, refl, sym, subst, arith, List, ℕ, length, Bool}
 use Rattle.ocr_body.specs.Behaviour.{Ends, Stops}
 use Rattle.ocr_body.specs.Checked.{checked_tree}
-use Rattle.ocr_body.specs.Serving.{Body, StoppedBy, Rose}
+use Rattle.ocr_body.specs.Body.{Body}
+use Rattle.ocr_base.specs.Count.{Rose}
+use Rattle.ocr_body.specs.Serving.{StoppedBy}
 use Rattle.ocr_machine.specs.declared.entry.Entry.{Entry}
 use Rattle.ocr_machine.specs.declared.whole.Table.{Table}
 use Rattle.ocr_machine.specs.Whole.{all_parts}
