@@ -4,15 +4,15 @@
 ghost use Rattle.std.specs.Prelude.{◌≡◌, ◌<◌, ◌≤◌, ◌+◌, ◌^◌, length, true, IfOk};
 ghost use Rattle.ocr_tree.specs.Built.{is_built, is_statement_built, are_built};
 ghost use Rattle.ocr_body.specs.Checked.{checked_tree};
-ghost use Rattle.ocr_tree.specs.Functions.{number_of_main};
+ghost use Rattle.ocr_tree.specs.Runnable.{IsRunnable};
 ghost use Rattle.ocr_tree.specs.View.{expression_of, statement_of, tree_of};
 
-use ocr_body::{Answer, Call, Checked};
-use ocr_tree::{Expr, Function, Invoke, Name, Program, Stmt};
-use ocr_guid::{Code, Guid};
 use ocr_base::{NoMemory, Seq};
+use ocr_body::{Answer, Call, Checked};
+use ocr_guid::{Code, Guid};
 use ocr_machine::{Entry, Writes};
 use ocr_replay::replay;
+use ocr_tree::{Expr, Function, Invoke, Name, Program, Stmt};
 use std::alloc::{AllocError, Global};
 use std::io::{Error, ErrorKind};
 use std::{env, io};
@@ -58,9 +58,7 @@ fn print() -> Stmt
 
 // mainEdt makes the first EDT, and each of these makes the next one and then prints.
 fn program(alloc: Global) -> Result<Program, AllocError>
-    ensures built { IfOk result (λ p. are_built (tree_of p) ≡ true) }
-    ensures few { IfOk result (λ p. length (tree_of p) + 1 < 2 ^ 32) }
-    ensures main { IfOk result (λ p. number_of_main (tree_of p) ≤ length (tree_of p)) }
+    ensures { IfOk result (λ p. IsRunnable (tree_of p)) }
 {
     let main = vec![in alloc; template(alloc)?, creation(alloc)?]?;
     let one = vec![in alloc;

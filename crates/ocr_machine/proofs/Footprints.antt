@@ -9,7 +9,7 @@ use Rattle.ocr_machine.specs.declared.entry.Entry.TheVariants.{Call}
 use Rattle.ocr_machine.specs.declared.part.Part.{Part}
 use Rattle.ocr_machine.specs.Made.{is_done}
 use Rattle.ocr_machine.specs.Parts.{Parts}
-use Rattle.ocr_machine.specs.Table.{keys, is_within}
+use Rattle.ocr_machine.specs.Taken.{keys, is_within}
 use Rattle.ocr_machine.specs.New.{HasNew}
 use Rattle.ocr_machine.specs.LegalOn.{IsAnswered, IsFresh}
 use Rattle.ocr_machine.specs.Footprint.{is_in, placed, and_face, and_core, footprint_of}

@@ -19,7 +19,8 @@ use Rattle.ocr_machine.specs.Edts.{is_started, is_ended, start_count}
 use Rattle.ocr_machine.specs.Calls.{slot_calls, block_calls, edt_calls}
 use Rattle.ocr_machine.specs.Parts.{Parts, parts_of}
 use Rattle.ocr_machine.specs.Codes.{creation_code}
-use Rattle.ocr_machine.specs.Effects.{with_edt, plan_in, made_ready, progress_in, core_progress, acquired_edt, started_edt, dropped_edt, ended_edt, new_core, called, changed}
+use Rattle.ocr_machine.specs.Effects.{with_edt, acquired_edt, started_edt, dropped_edt, ended_edt, new_core, called, changed}
+use Rattle.ocr_machine.specs.Progress.{plan_in, made_ready, progress_in, core_progress}
 use Rattle.ocr_machine.specs.New.{is_template}
 use Rattle.ocr_machine.specs.LegalOn.{is_running, is_running_edt, IsNamed, IsCallOn, IsLegalOn}
 use Rattle.ocr_machine.specs.Legal.{IsRun}

@@ -1,15 +1,13 @@
--- The parts that an entry names, and what it weighs.
-use Rattle.std.specs.Prelude.{◌≡◌, ℕ, ◌+◌, ◌/◌, List, [], ◌∷◌, length, Bool, true, false, ◌||◌, nat_lt, ◌==◌, if◌then◌else◌}
+-- The parts that an entry names.
+use Rattle.std.specs.Prelude.{◌≡◌, ℕ, ◌+◌, List, [], ◌∷◌, Bool, true, false, ◌||◌, nat_lt, ◌==◌, if◌then◌else◌}
 use Rattle.ocr_body.specs.declared.call.Call as body
 use Rattle.ocr_body.specs.declared.call.Call.TheVariants as call
 use Rattle.ocr_body.specs.declared.call.Answer.{Answer}
 use Rattle.ocr_machine.specs.declared.entry.Entry.{Entry}
-use Rattle.ocr_machine.specs.declared.entry.Entry.TheVariants.{Call, Acquire, Wait, StaleAcquire, Start, Free, End, Stop}
+use Rattle.ocr_machine.specs.declared.entry.Entry.TheVariants.{Call, Acquire, Wait, StaleAcquire, Start, Free, End}
 use Rattle.ocr_machine.specs.declared.part.Part.TheVariants as part
-use Rattle.ocr_machine.specs.Made.{is_done}
-use Rattle.ocr_machine.specs.History.{History}
 use Rattle.ocr_machine.specs.Parts.{Parts}
-use Rattle.ocr_machine.specs.Table.{is_within}
+use Rattle.ocr_machine.specs.Taken.{is_within}
 
 -- the entry names the face of this object
 abbrev pub names_face : body.Call → Answer → ℕ → Bool
@@ -50,7 +48,8 @@ is_in n (m ∷ rest) = (m == n) || is_in n rest
 -- a number at its place in a rising list, once
 abbrev pub placed : ℕ → List ℕ → List ℕ
 placed n [] = n ∷ []
-placed n (m ∷ rest) = if nat_lt n m then n ∷ m ∷ rest else if n == m then m ∷ rest else m ∷ placed n rest
+placed n (m ∷ rest) =
+    if nat_lt n m then n ∷ m ∷ rest else if n == m then m ∷ rest else m ∷ placed n rest
 
 abbrev pub and_face : ℕ → ℕ → List ℕ → List ℕ
 and_face limit g numbers = if is_within limit g then placed g numbers else numbers
@@ -85,19 +84,3 @@ pub record IsAlike (e : Entry) (f h : Parts) : Type 0 where
 pub record IsWithin (limit : ℕ) (f : Parts) : Type 0 where
   pub faces : (g : ℕ) → is_within limit g ≡ false → f.face g ≡ part.Vacant
   pub cores : (u : ℕ) → is_within limit u ≡ false → f.core u ≡ part.Vacant
-
--- THE WEIGHT of an entry: 1 and its writes; a block that is made has a sixteenth of its words besides; a Stop weighs nothing
-abbrev pub call_weight : body.Call → Answer → ℕ
-call_weight (call.DbCreate n flags) a = if is_done a.code then 1 + n / 8 / 16 else 1
-call_weight other a = 1
-
-abbrev pub weight_of : Entry → ℕ
-weight_of (Call t home c a w) = call_weight c a + length w
-weight_of (Free t d w) = 1 + length w
-weight_of (Stop why) = 0
-weight_of other = 1
-
--- of a history: the sum of its entries' weights
-abbrev pub weight : History → ℕ
-weight [] = 0
-weight (e ∷ past) = weight_of e + weight past

@@ -1,4 +1,5 @@
 pub mod Blocks
+pub mod Bodies
 pub mod Calls
 pub mod Codes
 pub mod Edts
@@ -13,5 +14,8 @@ pub mod Messages
 pub mod New
 pub mod Output
 pub mod Parts
+pub mod Progress
+pub mod Runs
 pub mod Table
-pub mod Whole
+pub mod Taken
+pub mod Weight

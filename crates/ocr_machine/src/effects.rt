@@ -7,8 +7,9 @@ ghost use Rattle.ocr_template.specs.Template.{meant};
 ghost use Rattle.ocr_machine.specs.Parts.{Parts, identity_of};
 ghost use Rattle.ocr_machine.specs.Calls.{asks_in};
 ghost use Rattle.ocr_machine.specs.Codes.{code_of};
-ghost use Rattle.ocr_machine.specs.Table.{look, has, keys, as_face, as_core, face_in, core_in, parts_in};
-ghost use Rattle.ocr_machine.specs.Effects.{with_face, with_core, with_block, with_edt, plan_in, new_face, new_core, made_ready, progress_in, progress_on, next_on, mode_next, acquired_edt, started_edt, dropped_edt, ended_edt, called, acquired, freed, changed};
+ghost use Rattle.ocr_machine.specs.Taken.{look, has, keys, as_face, as_core, face_in, core_in, parts_in};
+ghost use Rattle.ocr_machine.specs.Effects.{with_face, with_core, with_block, with_edt, new_face, new_core, acquired_edt, started_edt, dropped_edt, ended_edt, called, acquired, freed, changed};
+ghost use Rattle.ocr_machine.specs.Progress.{plan_in, made_ready, progress_in, progress_on, next_on, mode_next};
 ghost use Rattle.ocr_machine.specs.LegalOn.{IsLegalOn, IsAnswered, is_running, is_held_by, is_lent, grants, IsAcquireOn, IsStartOn, IsFreeOn, IsEndOn};
 ghost use Rattle.ocr_machine.specs.New.{HasNew, HasFace, HasCore, is_template, meant_slots};
 ghost use Rattle.ocr_guid.specs.declared.Code.TheVariants as code;
@@ -18,19 +19,19 @@ ghost use Rattle.ocr_machine.specs.Footprint.{footprint_of, is_in};
 use crate::entry::Entry;
 use crate::naming::number_of;
 use crate::part::{Core, Part, Stepped};
-use crate::table::{find, replace};
+use crate::taken::{find, replace};
 use ocr_acquire::{Mode, plan};
+use ocr_base::{NoMemory, Seq};
 use ocr_body::{Answer, Call};
 use ocr_edt::{Acquiring, Edt, Filling};
 use ocr_guid::{Code, Guid};
-use ocr_base::{NoMemory, Seq};
 use ocr_slots::Slots;
 use ocr_template::{EDT_PARAM_DEF, Template};
 use smallvec::SmallVec;
 use std::alloc::Global;
 
-/// What the entry does to the parts of its footprint. It takes them, and gives them back changed; for want of memory they
-/// are gone.
+/// What the entry does to the parts of its footprint. It takes them, and gives them back changed;
+/// for want of memory they are gone.
 pub fn step(
     alloc: Global,
     limit: u64,
@@ -40,10 +41,13 @@ pub fn step(
     requires legal { IsLegalOn limit (parts_in limit parts.items) entry.now }
     requires footprint { keys parts.items ≡ footprint_of limit entry.now }
     requires limit_fits { limit ≤ 65536 }
-    ensures parts { IfOk result (λ r. parts_in limit r.parts.items ≡ changed entry.now (parts_in limit parts.items)) }
+    ensures parts { IfOk result (λ r. parts_in limit r.parts.items
+        ≡ changed entry.now (parts_in limit parts.items)) }
     ensures keys { IfOk result (λ r. keys r.parts.items ≡ keys parts.items) }
-    ensures messages { IfOk result (λ r. r.messages.items ≡ sends entry.now (parts_in limit parts.items)) }
-    ensures resumed { IfOk result (λ r. r.resumed.items ≡ resumes entry.now (parts_in limit parts.items)) }
+    ensures messages { IfOk result (λ r. r.messages.items
+        ≡ sends entry.now (parts_in limit parts.items)) }
+    ensures resumed { IfOk result (λ r. r.resumed.items
+        ≡ resumes entry.now (parts_in limit parts.items)) }
 {
     let mut parts = parts;
     let mut resumed = Vec::new(alloc);
@@ -97,7 +101,8 @@ fn call_step(
     requires done { code_of (face_in limit parts.old.items) call.now ≡ code.Done }
     requires new_parts { HasNew limit call.now answer.now parts.old.items }
     requires limit_fits { limit ≤ 65536 }
-    ensures parts { IfOk result (λ _. parts_in limit parts.new.items ≡ called call.now answer.now (parts_in limit parts.old.items)) }
+    ensures parts { IfOk result (λ _. parts_in limit parts.new.items
+        ≡ called call.now answer.now (parts_in limit parts.old.items)) }
     ensures keys { IfOk result (λ _. keys parts.new.items ≡ keys parts.old.items) }
 {
     match call {
@@ -157,7 +162,8 @@ fn create_edt(
     requires core { HasCore limit parts.old.items edt }
     requires limit_fits { limit ≤ 65536 }
     ensures parts { IfOk result (λ _. parts_in limit parts.new.items
-        ≡ with_core (with_face (parts_in limit parts.old.items) edt (new_face (face_in limit parts.old.items template) depc))
+        ≡ with_core (with_face (parts_in limit parts.old.items) edt
+        (new_face (face_in limit parts.old.items template) depc))
         edt (new_core (face_in limit parts.old.items template) edt params.now)) }
     ensures keys { IfOk result (λ _. keys parts.new.items ≡ keys parts.old.items) }
 {
@@ -182,7 +188,11 @@ fn meant_count(own: u64, given: u64) -> u64
 /// The core of a new EDT.
 fn made_core(alloc: Global, function: u32, params: &Seq<u64>, edt: u64) -> Result<Core, NoMemory>
     ensures { IfOk result
-        (λ core. core ≡ record { function = function; params = params.now; edt = phase.Filling (identity_of edt) }) }
+        (λ core. core ≡ record {
+          function = function;
+          params = params.now;
+          edt = phase.Filling (identity_of edt);
+        }) }
 {
     let Ok(params) = Vec::from_slice(alloc, params.as_slice()) else {
         return Err(NoMemory);
@@ -273,7 +283,8 @@ fn acquire_step(
 ) -> Result<(), NoMemory>
     requires legal { IsAcquireOn (parts_in limit parts.old.items) edt block }
     requires limit_fits { limit ≤ 65536 }
-    ensures parts { IfOk result (λ _. parts_in limit parts.new.items ≡ acquired (parts_in limit parts.old.items) edt block) }
+    ensures parts { IfOk result (λ _. parts_in limit parts.new.items
+        ≡ acquired (parts_in limit parts.old.items) edt block) }
     ensures keys { IfOk result (λ _. keys parts.new.items ≡ keys parts.old.items) }
 {
     let mode = acquire_core(alloc, limit, edt, parts)?;
@@ -289,10 +300,12 @@ fn acquire_core(
 ) -> Result<Mode, NoMemory>
     requires next { is_some (next_on (parts_in limit parts.old.items) edt) ≡ true }
     requires limit_fits { limit ≤ 65536 }
-    ensures mode { IfOk result (λ mode. mode ≡ mode_next (next_on (parts_in limit parts.old.items) edt)) }
+    ensures mode { IfOk result (λ mode. mode
+        ≡ mode_next (next_on (parts_in limit parts.old.items) edt)) }
     ensures parts { IfOk result (λ _. parts_in limit parts.new.items
         ≡ with_core (parts_in limit parts.old.items) edt
-        (with_edt (core_in limit parts.old.items edt) (λ e. acquired_edt (made_ready (plan_in (face_in limit parts.old.items edt)) e)))) }
+        (with_edt (core_in limit parts.old.items edt)
+        (λ e. acquired_edt (made_ready (plan_in (face_in limit parts.old.items edt)) e)))) }
     ensures keys { IfOk result (λ _. keys parts.new.items ≡ keys parts.old.items) }
 {
     let members = plan_at(alloc, limit, edt, parts)?;
@@ -334,7 +347,8 @@ fn ask_at(
     requires no_holder { is_held_by (face_in limit parts.old.items block) edt ≡ false }
     requires granted { grants (face_in limit parts.old.items block) mode ≡ true }
     ensures parts { IfOk result (λ _. parts_in limit parts.new.items
-        ≡ with_face (parts_in limit parts.old.items) block (with_block (face_in limit parts.old.items block) (λ st. asked_by st edt mode))) }
+        ≡ with_face (parts_in limit parts.old.items) block
+        (with_block (face_in limit parts.old.items block) (λ st. asked_by st edt mode))) }
     ensures keys { IfOk result (λ _. keys parts.new.items ≡ keys parts.old.items) }
 {
     match replace(parts, block, Part::Vacant) {
@@ -361,7 +375,8 @@ fn start_core(
     requires limit_fits { limit ≤ 65536 }
     ensures parts { IfOk result (λ _. parts_in limit parts.new.items
         ≡ with_core (parts_in limit parts.old.items) edt
-        (with_edt (core_in limit parts.old.items edt) (λ e. started_edt (made_ready (plan_in (face_in limit parts.old.items edt)) e)))) }
+        (with_edt (core_in limit parts.old.items edt)
+        (λ e. started_edt (made_ready (plan_in (face_in limit parts.old.items edt)) e)))) }
     ensures keys { IfOk result (λ _. keys parts.new.items ≡ keys parts.old.items) }
 {
     let members = plan_at(alloc, limit, edt, parts)?;
@@ -399,9 +414,11 @@ fn free_step(
 ) -> Result<Vec<Guid>, NoMemory>
     requires legal { IsFreeOn (parts_in limit parts.old.items) edt block [] }
     requires limit_fits { limit ≤ 65536 }
-    ensures parts { IfOk result (λ _. parts_in limit parts.new.items ≡ freed (parts_in limit parts.old.items) edt block) }
+    ensures parts { IfOk result (λ _. parts_in limit parts.new.items
+        ≡ freed (parts_in limit parts.old.items) edt block) }
     ensures keys { IfOk result (λ _. keys parts.new.items ≡ keys parts.old.items) }
-    ensures resumed { IfOk result (λ r. r.items ≡ resumed_by (face_in limit parts.old.items block) edt) }
+    ensures resumed { IfOk result (λ r. r.items
+        ≡ resumed_by (face_in limit parts.old.items block) edt) }
 {
     let resumed = release_at(alloc, limit, edt, block, parts)?;
     drop_core(limit, edt, block, parts);
@@ -418,9 +435,11 @@ fn release_at(
     requires holder { is_held_by (face_in limit parts.old.items block) edt ≡ true }
     requires not_lent { is_lent (face_in limit parts.old.items block) ≡ false }
     ensures parts { IfOk result (λ _. parts_in limit parts.new.items
-        ≡ with_face (parts_in limit parts.old.items) block (with_block (face_in limit parts.old.items block) (λ st. released st edt))) }
+        ≡ with_face (parts_in limit parts.old.items) block
+        (with_block (face_in limit parts.old.items block) (λ st. released st edt))) }
     ensures keys { IfOk result (λ _. keys parts.new.items ≡ keys parts.old.items) }
-    ensures resumed { IfOk result (λ r. r.items ≡ resumed_by (face_in limit parts.old.items block) edt) }
+    ensures resumed { IfOk result (λ r. r.items
+        ≡ resumed_by (face_in limit parts.old.items block) edt) }
 {
     match replace(parts, block, Part::Vacant) {
         Part::Block(mut state) => {
@@ -439,7 +458,8 @@ fn drop_core(limit: u64, edt: u64, block: u64, parts: &mut Vec<(u64, Part)>)
     requires running { is_running (core_in limit parts.old.items edt) ≡ true }
     requires limit_fits { limit ≤ 65536 }
     ensures parts { parts_in limit parts.new.items
-        ≡ with_core (parts_in limit parts.old.items) edt (with_edt (core_in limit parts.old.items edt) (dropped_edt block)) }
+        ≡ with_core (parts_in limit parts.old.items) edt
+        (with_edt (core_in limit parts.old.items edt) (dropped_edt block)) }
     ensures keys { keys parts.new.items ≡ keys parts.old.items }
 {
     match replace(parts, limit + edt, Part::Vacant) {
@@ -483,7 +503,8 @@ fn end_core(limit: u64, edt: u64, parts: &mut Vec<(u64, Part)>)
     requires legal { IsEndOn (parts_in limit parts.old.items) edt }
     requires limit_fits { limit ≤ 65536 }
     ensures parts { parts_in limit parts.new.items
-        ≡ with_core (parts_in limit parts.old.items) edt (with_edt (core_in limit parts.old.items edt) ended_edt) }
+        ≡ with_core (parts_in limit parts.old.items) edt
+        (with_edt (core_in limit parts.old.items edt) ended_edt) }
     ensures keys { keys parts.new.items ≡ keys parts.old.items }
 {
     match replace(parts, limit + edt, Part::Vacant) {

@@ -21,7 +21,8 @@ use Rattle.ocr_machine.specs.Parts.{Parts}
 use Rattle.ocr_machine.specs.Codes.{code_of}
 use Rattle.ocr_machine.specs.LegalOn.{IsNamed, IsFresh, IsAnswered}
 use Rattle.ocr_machine.proofs.Told.{done_code}
-use Rattle.ocr_replay.specs.Judging.{Whether, ended_as, runs, IsIdle, IsSaidIn, IsSaidNow, at_place}
+use Rattle.ocr_replay.specs.Judging.{Whether, ended_as, runs, IsIdle, IsSaidIn, at_place}
+use Rattle.ocr_machine.specs.Legal.{IsSaidNow}
 use Rattle.ocr_replay.specs.Stopping.{CanEnter, HasRoom, IsCoreless, is_print, is_enterable, IsToldAs}
 use Rattle.ocr_replay.proofs.Steps.{both_true, not_true, only_call, own_at, item, item_is, ended_next, next_no_stop}
 

@@ -9,7 +9,8 @@ use Rattle.ocr_machine.specs.declared.entry.Entry.{Entry}
 use Rattle.ocr_machine.specs.declared.entry.Entry.TheVariants.{Start}
 use Rattle.ocr_replay.specs.declared.judging.Ending.{Ending}
 use Rattle.ocr_replay.specs.declared.linking.Links.{Links}
-use Rattle.ocr_replay.specs.Judging.{runs, IsIdle, IsSaidNow, IsSaidIn, IsUnsaid, IsWrong, IsStuck, at_place, ended_as}
+use Rattle.ocr_replay.specs.Judging.{runs, IsIdle, IsSaidIn, IsUnsaid, IsWrong, IsStuck, at_place, ended_as}
+use Rattle.ocr_machine.specs.Legal.{IsSaidNow}
 use Rattle.ocr_replay.specs.Linking.{starts, IsNextOwn, IsLinkedFrom, IsLinked, IsFollowing}
 use Rattle.ocr_replay.proofs.Steps.{same, same_item, item, item_is, below_or_equal, true_false, own_at, said_idle, ended_next, ended_verdict, stuck_verdict}
 

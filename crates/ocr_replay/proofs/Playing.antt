@@ -17,19 +17,23 @@ use Rattle.ocr_machine.specs.Made.{Made, MadeBlock, MadeTemplate, MadeEdt, made,
 use Rattle.ocr_machine.specs.Calls.{slot_calls, block_calls, edt_calls, payload_or_null}
 use Rattle.ocr_machine.specs.Edts.{is_started, IsRunning, body_of, says_next}
 use Rattle.ocr_machine.specs.Parts.{Parts, parts_of, face, core}
-use Rattle.ocr_machine.specs.Effects.{changed, plan_in, core_progress}
+use Rattle.ocr_machine.specs.Effects.{changed}
+use Rattle.ocr_machine.specs.Progress.{plan_in, core_progress}
 use Rattle.ocr_machine.specs.LegalOn.{is_running, is_lent, IsStartOn, IsLegalOn}
-use Rattle.ocr_machine.specs.Table.{keys, is_within, look, has, as_face, as_core, parts_in}
+use Rattle.ocr_machine.specs.Taken.{keys, is_within, look, has, as_face, as_core, parts_in}
 use Rattle.ocr_machine.specs.Legal.{IsRun, IsLegal, IsStop, is_stop}
 use Rattle.ocr_machine.specs.declared.entry.Stop as run
-use Rattle.ocr_machine.specs.Whole.{part_at, all_parts, face_at, core_at}
+use Rattle.ocr_machine.specs.Table.{part_at, all_parts, face_at, core_at}
 use Rattle.std.specs.List.{All}
 use Rattle.ocr_machine.proofs.Wholes.{all_keys}
 use Rattle.ocr_machine.proofs.After.{after}
 use Rattle.ocr_machine.proofs.Told.{known, told_law, body_law, fresh_law, begins}
 use Rattle.ocr_machine.proofs.Present.{IsPresent, IsBare, present}
-use Rattle.ocr_replay.specs.Judging.{runs, IsSaidNow, IsSaidIn, IsUnsaid, IsWrong, body_with}
-use Rattle.ocr_replay.specs.Replaying.{body_on, IsVerdict, verdict_at, agrees, IsReplaying, IsFirstIllegal}
+use Rattle.ocr_replay.specs.Judging.{runs, IsSaidIn, IsUnsaid, IsWrong}
+use Rattle.ocr_machine.specs.Edts.{body_with}
+use Rattle.ocr_machine.specs.Legal.{IsSaidNow}
+use Rattle.ocr_replay.specs.Replaying.{IsVerdict, verdict_at, agrees, IsReplaying, IsFirstIllegal}
+use Rattle.ocr_machine.specs.Bodies.{body_on}
 use Rattle.ocr_replay.proofs.Steps.{same, both_true, not_true, not_false, history_next, item, item_is}
 
 -- NO BLOCK is on loan

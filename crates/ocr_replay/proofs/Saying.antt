@@ -13,7 +13,8 @@ use Rattle.ocr_machine.specs.Parts.{parts_of}
 use Rattle.ocr_machine.specs.LegalOn.{is_running}
 use Rattle.ocr_machine.specs.Legal.{IsRun, IsLegal}
 use Rattle.ocr_machine.proofs.Told.{told_law, body_law}
-use Rattle.ocr_replay.specs.Judging.{runs, IsSaidNow, IsSaidIn}
+use Rattle.ocr_replay.specs.Judging.{runs, IsSaidIn}
+use Rattle.ocr_machine.specs.Legal.{IsSaidNow}
 use Rattle.ocr_replay.proofs.Steps.{history_next, item, item_is}
 use Rattle.ocr_replay.proofs.Playing.{legal_said, running_made}
 

@@ -21,7 +21,9 @@ use Rattle.ocr_body.specs.declared.call.BodyStop.{BodyStop}
 use Rattle.ocr_body.specs.declared.call.BodyStop.TheVariants as stop
 use Rattle.ocr_replay.specs.declared.judging.Ending.{Ending}
 use Rattle.ocr_replay.specs.declared.judging.Ending.TheVariants as ending
-use Rattle.ocr_replay.specs.Judging.{ended_as, runs, IsIdle, IsSaidIn, IsWrong, IsStuck, IsSaidNow, IsUnsaid, at_place, body_with, IsJudging}
+use Rattle.ocr_replay.specs.Judging.{ended_as, runs, IsIdle, IsSaidIn, IsWrong, IsStuck, IsUnsaid, at_place, IsJudging}
+use Rattle.ocr_machine.specs.Edts.{body_with}
+use Rattle.ocr_machine.specs.Legal.{IsSaidNow}
 
 -- what two tests tell
 pub same : (n : ℕ) → (n == n) ≡ true

@@ -10,8 +10,9 @@ use Rattle.ocr_machine.specs.History.{History, Setting, history_of}
 use Rattle.ocr_machine.specs.Edts.{IsRunning, says_next}
 use Rattle.ocr_machine.specs.LegalOn.{is_running}
 use Rattle.ocr_machine.specs.Legal.{IsRun, IsStop}
-use Rattle.ocr_machine.specs.Whole.{core_at}
-use Rattle.ocr_replay.specs.Judging.{Whether, runs, IsSaidNow}
+use Rattle.ocr_machine.specs.Table.{core_at}
+use Rattle.ocr_replay.specs.Judging.{Whether, runs}
+use Rattle.ocr_machine.specs.Legal.{IsSaidNow}
 use Rattle.ocr_replay.specs.Replaying.{verdict_at, IsReplaying, IsFirstIllegal}
 use Rattle.ocr_replay.specs.Stopping.{CanGoOn}
 use Rattle.ocr_replay.proofs.Steps.{same, history_next}

@@ -22,13 +22,14 @@ use Rattle.ocr_machine.specs.Calls.{slot_calls, block_calls, edt_calls}
 use Rattle.ocr_machine.specs.Edts.{is_started, IsRunning, body_of, says_next}
 use Rattle.ocr_machine.specs.Parts.{Parts, parts_of}
 use Rattle.ocr_machine.specs.Codes.{code_of}
-use Rattle.ocr_machine.specs.Effects.{plan_in, made_ready, progress_in, core_progress, progress_on, next_in, next_on}
+use Rattle.ocr_machine.specs.Progress.{plan_in, made_ready, progress_in, core_progress, progress_on, next_in, next_on}
 use Rattle.ocr_machine.specs.LegalOn.{is_set, is_running, is_running_edt, holds_in, IsAnswered, IsLegalOn}
-use Rattle.ocr_machine.specs.Legal.{is_creation, is_stop, IsRun, IsLegal, IsAtEnd, IsWeighed}
-use Rattle.ocr_machine.specs.Footprint.{call_weight, weight_of}
+use Rattle.ocr_machine.specs.Legal.{is_stop, IsRun, IsLegal, IsAtEnd, IsWeighed}
+use Rattle.ocr_body.specs.Call.{is_creation}
+use Rattle.ocr_machine.specs.Weight.{call_weight, weight_of}
 use Rattle.ocr_machine.specs.Laws.{is_core, CanWake}
-use Rattle.ocr_machine.specs.Table.{is_within}
-use Rattle.ocr_machine.specs.Whole.{all_parts, face_at, core_at}
+use Rattle.ocr_machine.specs.Taken.{is_within}
+use Rattle.ocr_machine.specs.Table.{all_parts, face_at, core_at}
 use Rattle.ocr_machine.proofs.After.{no_face_no_core}
 use Rattle.ocr_machine.proofs.Told.{known, told_law, begins, done_code}
 use Rattle.ocr_machine.proofs.Going.{wake_law, free_law, open_law}
@@ -36,7 +37,7 @@ use Rattle.ocr_replay.specs.declared.stopping.Front.{Front}
 use Rattle.ocr_replay.specs.declared.telling.Next.{Next}
 use Rattle.ocr_replay.specs.declared.telling.Next.TheVariants as next
 use Rattle.ocr_replay.specs.Judging.{Whether, IsSaidIn, at_place}
-use Rattle.ocr_replay.specs.Replaying.{body_on}
+use Rattle.ocr_machine.specs.Bodies.{body_on}
 use Rattle.ocr_replay.specs.Stopping.{creates, CanEnter, IsCoreless, IsToldAs, IsFront, setting_in, past_in, parts_in, Creates, creates_by, GoesOn, goes_by, edt_of}
 use Rattle.ocr_replay.proofs.Steps.{both_true, next_same, next_no_end}
 use Rattle.ocr_replay.proofs.Playing.{body_parts}

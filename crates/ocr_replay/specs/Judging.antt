@@ -1,16 +1,14 @@
 -- What the body of one EDT says of the entries that run it.
 use Rattle.std.specs.Prelude.{◌≡◌, ℕ, ◌≤◌, ◌<◌, List, length, take, slice_index_or, Bool, true, false, ◌==◌}
-use Rattle.ocr_body.specs.Behaviour.{Behaviour, Ends, Stops, IsNext}
+use Rattle.ocr_body.specs.Behaviour.{Behaviour, Ends, Stops}
 use Rattle.ocr_body.specs.Body.{Body, says}
-use Rattle.ocr_tree.specs.Tree.{FunctionTree}
-use Rattle.ocr_body.specs.declared.call.BodyStop.TheVariants as stop
 use Rattle.ocr_replay.specs.declared.judging.Ending.{Ending}
 use Rattle.ocr_replay.specs.declared.judging.Ending.TheVariants as ending
 use Rattle.ocr_machine.specs.declared.entry.Entry.{Entry}
 use Rattle.ocr_machine.specs.declared.entry.Entry.TheVariants.{Call, Free, End, Stop}
 use Rattle.ocr_machine.specs.declared.entry.Stop.TheVariants as by
 use Rattle.ocr_machine.specs.History.{history_of, own}
-use Rattle.ocr_machine.specs.Legal.{IsAtEnd, faulted}
+use Rattle.ocr_machine.specs.Legal.{IsSaidNow}
 
 -- a test that tells whether something holds
 pub record Whether (answer : Bool) (P : Type 0) : Type 0 where
@@ -27,31 +25,24 @@ runs t (Stop (by.Abort edt code)) = edt == t
 runs t (Stop (by.Fault edt why)) = edt == t
 runs t other = false
 
--- a body that goes on like this makes this entry
-abbrev pub IsSaidNow : Behaviour → Entry → Type 0
-IsSaidNow b (Call edt home c a w) = IsNext c b
-IsSaidNow b (Free edt d w) = IsAtEnd b
-IsSaidNow b (End edt g) = b ≡ Ends g
-IsSaidNow b (Stop (by.Shutdown edt)) = b ≡ Stops stop.Shutdown
-IsSaidNow b (Stop (by.Abort edt code)) = b ≡ Stops (stop.Abort code)
-IsSaidNow b (Stop (by.Fault edt why)) = b ≡ Stops (faulted why)
-IsSaidNow b other = Unit {0}
-
 -- what the body goes on with at this place
 abbrev pub at_place : Body → ℕ → List Entry → ℕ → Behaviour
 at_place b t entries n = says b (own (history_of (take n entries)) t)
 
 -- no entry of the EDT stands in these places
 abbrev pub IsIdle : ℕ → List Entry → ℕ → ℕ → Type 0
-IsIdle t entries from to = (m : ℕ) → from ≤ m → m < to → (e : Entry) → e ≡ slice_index_or entries m e → runs t e ≡ false
+IsIdle t entries from to =
+    (m : ℕ) → from ≤ m → m < to → (e : Entry) → e ≡ slice_index_or entries m e → runs t e ≡ false
 
 -- the body makes each of its entries in these places
 abbrev pub IsSaidIn : Body → ℕ → List Entry → ℕ → ℕ → Type 0
-IsSaidIn b t entries from to = (m : ℕ) → from ≤ m → m < to → (e : Entry) → e ≡ slice_index_or entries m e → runs t e ≡ true → IsSaidNow (at_place b t entries m) e
+IsSaidIn b t entries from to = (m : ℕ) → from ≤ m → m < to → (e : Entry)
+    → e ≡ slice_index_or entries m e → runs t e ≡ true → IsSaidNow (at_place b t entries m) e
 
 -- the entry of this place is one that the body does not make
 abbrev pub IsUnsaid : Body → ℕ → List Entry → ℕ → Type 0
-IsUnsaid b t entries m = (e : Entry) → e ≡ slice_index_or entries m e → (runs t e ≡ true) × (IsSaidNow (at_place b t entries m) e → ⊥)
+IsUnsaid b t entries m = (e : Entry) → e ≡ slice_index_or entries m e
+    → (runs t e ≡ true) × (IsSaidNow (at_place b t entries m) e → ⊥)
 
 -- the first place of an entry that the body does not make
 pub record IsWrong (b : Body) (t : ℕ) (entries : List Entry) (from at : ℕ) : Type 0 where
@@ -62,17 +53,16 @@ pub record IsWrong (b : Body) (t : ℕ) (entries : List Entry) (from at : ℕ) :
 
 -- the next entry of the EDT, which its body does not make, where there is one
 abbrev pub IsStuck : Body → ℕ → List Entry → ℕ → Type 0
-IsStuck b t entries from = (at : ℕ) → from ≤ at → at < length entries → IsIdle t entries from at → (e : Entry) → e ≡ slice_index_or entries at e → runs t e ≡ true → IsSaidNow (at_place b t entries from) e → ⊥
+IsStuck b t entries from = (at : ℕ) → from ≤ at → at < length entries → IsIdle t entries from at
+    → (e : Entry) → e ≡ slice_index_or entries at e → runs t e ≡ true
+    → IsSaidNow (at_place b t entries from) e → ⊥
 
-pub record IsJudging (b : Body) (t : ℕ) (entries : List Entry) (start place refusals : ℕ) : Type 0 where
+pub record IsJudging (b : Body) (t : ℕ) (entries : List Entry)
+    (start place refusals : ℕ) : Type 0 where
   pub after : start ≤ place
   pub within : place ≤ length entries
   pub said : IsSaidIn b t entries start place
   pub stuck : 0 < refusals → IsStuck b t entries place
-
--- a body with these parameters and payloads
-abbrev pub body_with : List FunctionTree → ℕ → List ℕ → List ℕ → Body
-body_with program function params depv = record { program = program; function = function; params = params; depv = depv; fuel = 1000000 }
 
 -- how a body ended
 abbrev pub ended_as : Ending → Behaviour

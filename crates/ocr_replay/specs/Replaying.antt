@@ -1,60 +1,30 @@
 -- How far a replay has come, and where it stops.
-use Rattle.std.specs.Prelude.{◌≡◌, ℕ, ◌+◌, ◌<◌, ◌≤◌, List, [], length, take, map, Bool, true, false, not, ◌==◌, slice_index_or}
+use Rattle.std.specs.Prelude.{◌≡◌, ℕ, ◌+◌, ◌<◌, ◌≤◌, List, [], length, take, Bool, true, false, not, ◌==◌, slice_index_or}
 use Rattle.ocr_body.specs.Body.{Body}
 use Rattle.ocr_tree.specs.Tree.{FunctionTree}
-use Rattle.ocr_slots.specs.declared.Slot.{Slot}
 use Rattle.ocr_machine.specs.declared.entry.Entry.{Entry}
 use Rattle.ocr_machine.specs.declared.entry.Entry.TheVariants.{Call, Free, End, Stop}
 use Rattle.ocr_machine.specs.declared.entry.Stop.TheVariants as by
 use Rattle.ocr_machine.specs.declared.part.Part.{Part}
-use Rattle.ocr_machine.specs.declared.part.Part.TheVariants as part
 use Rattle.ocr_machine.specs.History.{Setting, history_of, is_stopped}
-use Rattle.ocr_machine.specs.Calls.{payload_or_null}
 use Rattle.ocr_machine.specs.Edts.{IsRunning, body_of}
 use Rattle.ocr_machine.specs.Parts.{parts_of}
 use Rattle.ocr_machine.specs.Legal.{IsRun}
-use Rattle.ocr_machine.specs.Whole.{all_parts}
+use Rattle.ocr_machine.specs.Table.{all_parts}
 use Rattle.ocr_replay.specs.declared.replaying.ReplayStop.{ReplayStop}
 use Rattle.ocr_replay.specs.declared.replaying.ReplayStop.TheVariants as why
-use Rattle.ocr_replay.specs.Judging.{IsSaidIn, IsUnsaid, body_with}
+use Rattle.ocr_replay.specs.Judging.{IsSaidIn, IsUnsaid}
 
 -- what the run is of
 abbrev pub setting_of : List FunctionTree → List ℕ → ℕ → Setting
 setting_of program args limit = record { program = program; args = args; limit = limit }
 
--- the body of an EDT, told by its parts
-abbrev pub function_on : Part → ℕ
-function_on part.Vacant = 0
-function_on (part.Edt slots) = 0
-function_on (part.Block st) = 0
-function_on (part.Template t) = 0
-function_on (part.Core c) = c.function
-
-abbrev pub params_on : Part → List ℕ
-params_on part.Vacant = []
-params_on (part.Edt slots) = []
-params_on (part.Block st) = []
-params_on (part.Template t) = []
-params_on (part.Core c) = c.params
-
-abbrev pub payloads_in : List Slot → List ℕ
-payloads_in slots = map (λ (one : Slot). payload_or_null one.payload) slots
-
-abbrev pub payloads_on : Part → List ℕ
-payloads_on part.Vacant = []
-payloads_on (part.Edt slots) = payloads_in slots
-payloads_on (part.Block st) = []
-payloads_on (part.Template t) = []
-payloads_on (part.Core c) = []
-
-abbrev pub body_on : List FunctionTree → Part → Part → Body
-body_on program face core = body_with program (function_on core) (params_on core) (payloads_on face)
-
 -- the entry at a place
 abbrev pub entry_at : List Entry → ℕ → Entry
 entry_at entries n = slice_index_or entries n (Stop by.Memory)
 
--- the verdict on an EDT: the first place of an entry that its body does not make, or the length of the journal
+-- the verdict on an EDT: the first place of an entry that its body does not make, or the length of
+-- the journal
 pub record IsVerdict (b : Body) (t : ℕ) (entries : List Entry) (from at : ℕ) : Type 0 where
   pub after : from ≤ at
   pub within : at ≤ length entries
@@ -71,12 +41,15 @@ agrees verdicts (Free t d w) n = not (verdict_at verdicts t == n)
 agrees verdicts (End t g) n = not (verdict_at verdicts t == n)
 agrees verdicts other n = true
 
--- the first n entries are a run that was not stopped, with these parts, and with these verdicts on the EDTs that run
-pub record IsReplaying (s : Setting) (entries : List Entry) (n : ℕ) (parts : List Part) (verdicts : List ℕ) : Type 0 where
+-- the first n entries are a run that was not stopped, with these parts, and with these verdicts on
+-- the EDTs that run
+pub record IsReplaying (s : Setting) (entries : List Entry) (n : ℕ) (parts : List Part)
+    (verdicts : List ℕ) : Type 0 where
   pub run : IsRun s (history_of (take n entries))
   pub open_run : is_stopped (history_of (take n entries)) ≡ false
   pub parts_are : all_parts s.limit parts ≡ parts_of s (history_of (take n entries))
-  pub judged : (t : ℕ) → IsRunning (history_of (take n entries)) t → IsVerdict (body_of s (history_of (take n entries)) t) t entries n (verdict_at verdicts t)
+  pub judged : (t : ℕ) → IsRunning (history_of (take n entries)) t
+      → IsVerdict (body_of s (history_of (take n entries)) t) t entries n (verdict_at verdicts t)
 
 -- the first entry that is not legal stands at n
 pub record IsFirstIllegal (s : Setting) (entries : List Entry) (n : ℕ) : Type 0 where

@@ -11,11 +11,12 @@ use Rattle.ocr_machine.specs.Codes.{code_of}
 use Rattle.ocr_machine.specs.LegalOn.{IsAnswered, IsFresh}
 use Rattle.ocr_body.specs.Checked.{checked_tree}
 use Rattle.ocr_body.specs.Body.{Body}
-use Rattle.ocr_machine.specs.Whole.{all_parts}
+use Rattle.ocr_machine.specs.Table.{state_in}
 use Rattle.ocr_machine.specs.declared.entry.Entry.{Entry}
 use Rattle.ocr_machine.specs.declared.entry.Entry.TheVariants.{Call, Acquire, Wait, StaleAcquire, Start, Free, End}
 use Rattle.ocr_machine.specs.declared.part.Part.TheVariants as part
-use Rattle.ocr_machine.specs.Legal.{is_creation, IsRun, IsCreating, IsWeighed}
+use Rattle.ocr_machine.specs.Legal.{IsRun, IsCreating, IsWeighed}
+use Rattle.ocr_body.specs.Call.{is_creation}
 use Rattle.ocr_replay.specs.Judging.{Whether, IsSaidIn, at_place}
 use Rattle.ocr_replay.specs.Linking.{IsLinked}
 use Rattle.ocr_replay.specs.Replaying.{setting_of}
@@ -38,14 +39,16 @@ abbrev pub CanEnter : ℕ → Parts → body.Call → Type 0
 CanEnter limit f c = (a : Answer) × IsEnterable limit f c a
 
 -- what is told of the behaviour that is left
-pub record IsAsking (limit : ℕ) (f : Parts) (b : Behaviour) (is_creating enters : Bool) (c : body.Call) : Type 0 where
+pub record IsAsking (limit : ℕ) (f : Parts) (b : Behaviour) (is_creating enters : Bool)
+    (c : body.Call) : Type 0 where
   pub is_next : IsNext c b
   pub creating : is_creating ≡ creates f c
   pub entering : Whether enters (CanEnter limit f c)
 
 abbrev pub IsToldAs : ℕ → Parts → Behaviour → Next → Type 0
 IsToldAs limit f b next.Ended = (g : ℕ) × (b ≡ Ends g)
-IsToldAs limit f b (next.Asking is_creating enters) = (c : body.Call) × IsAsking limit f b is_creating enters c
+IsToldAs limit f b (next.Asking is_creating enters) =
+    (c : body.Call) × IsAsking limit f b is_creating enters c
 IsToldAs limit f b next.Stopped = ((g : ℕ) → b ≡ Ends g → ⊥) × ((c : body.Call) → IsNext c b → ⊥)
 
 -- the parts are those of a run: what has no face has no core
@@ -56,7 +59,8 @@ abbrev pub IsCoreless : Parts → Type 0
 IsCoreless f = (g : ℕ) → f.face g ≡ part.Vacant → f.core g ≡ part.Vacant
 
 -- the body goes by the entries before a place, which are a run, and has come to an earlier place
-pub record IsTelling (b : Body) (t : ℕ) (entries : List Entry) (end limit : ℕ) (f : Parts) (room : Bool) (place refusals : ℕ) (told : Next) : Type 0 where
+pub record IsTelling (b : Body) (t : ℕ) (entries : List Entry) (end limit : ℕ) (f : Parts)
+    (room : Bool) (place refusals : ℕ) (told : Next) : Type 0 where
   pub ends : end ≤ length entries
   pub within : place ≤ end
   pub said : IsSaidIn b t entries 0 end
@@ -83,7 +87,7 @@ abbrev pub past_in : Front → History
 past_in front = history_of (take front.place front.entries.now)
 
 abbrev pub parts_in : Front → Parts
-parts_in front = all_parts front.table.now.limit front.table.now.parts.items
+parts_in front = state_in front.table.now
 
 -- it was not stopped, and these are its parts
 pub record IsFront (front : Front) : Type 0 where

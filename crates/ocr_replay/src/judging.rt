@@ -5,170 +5,16 @@ ghost use Rattle.ocr_body.specs.Body.{Body};
 ghost use Rattle.ocr_machine.specs.History.{own, history_of};
 ghost use Rattle.ocr_machine.specs.Legal.{faulted};
 ghost use Rattle.ocr_replay.specs.Linking.{IsFollowing};
-ghost use Rattle.ocr_replay.specs.Judging.{Whether, runs, IsSaidIn, IsWrong, IsSaidNow, IsUnsaid, at_place, body_with, ended_as};
+ghost use Rattle.ocr_replay.specs.Judging.{Whether, runs, IsSaidIn, IsWrong, IsUnsaid, at_place, ended_as};
+ghost use Rattle.ocr_machine.specs.Edts.{body_with};
+ghost use Rattle.ocr_machine.specs.Legal.{IsSaidNow};
 
 use crate::linking::Links;
-use ocr_body::{Answer, Api, BodyStop, Call, Checked, walk};
 use ocr_base::NoMemory;
+use ocr_body::{Answer, Api, BodyStop, Call, Checked, FUEL, walk};
 use ocr_guid::Guid;
 use ocr_machine::{Entry, Fault, Journal, Stop};
 use std::alloc::Global;
-
-/// The fuel of a body.
-pub(crate) const FUEL: u64 = 1_000_000;
-
-pub(crate) fn same_call(left: &Call, right: &Call) -> bool
-    ensures { Whether result (left.now ≡ right.now) }
-{
-    match left {
-        Call::DbCreate { length, flags } => match right {
-            Call::DbCreate {
-                length: o_length,
-                flags: o_flags,
-            } => *length == *o_length && *flags == *o_flags,
-            _ => false,
-        },
-        Call::DbRelease { block } => match right {
-            Call::DbRelease { block: o_block } => *block == *o_block,
-            _ => false,
-        },
-        Call::DbDestroy { block } => match right {
-            Call::DbDestroy { block: o_block } => *block == *o_block,
-            _ => false,
-        },
-        Call::EventCreate { kind, flags } => match right {
-            Call::EventCreate {
-                kind: o_kind,
-                flags: o_flags,
-            } => *kind == *o_kind && *flags == *o_flags,
-            _ => false,
-        },
-        Call::EventCreateParams {
-            kind,
-            flags,
-            max_gen,
-            nb_sat,
-            nb_deps,
-        } => match right {
-            Call::EventCreateParams {
-                kind: o_kind,
-                flags: o_flags,
-                max_gen: o_max_gen,
-                nb_sat: o_nb_sat,
-                nb_deps: o_nb_deps,
-            } => *kind == *o_kind
-                && *flags == *o_flags
-                && *max_gen == *o_max_gen
-                && *nb_sat == *o_nb_sat
-                && *nb_deps == *o_nb_deps,
-            _ => false,
-        },
-        Call::EventDestroy { event } => match right {
-            Call::EventDestroy { event: o_event } => *event == *o_event,
-            _ => false,
-        },
-        Call::Satisfy {
-            event,
-            payload,
-            slot,
-        } => match right {
-            Call::Satisfy {
-                event: o_event,
-                payload: o_payload,
-                slot: o_slot,
-            } => *event == *o_event && *payload == *o_payload && *slot == *o_slot,
-            _ => false,
-        },
-        Call::AddDependence {
-            source,
-            target,
-            slot,
-            mode,
-        } => match right {
-            Call::AddDependence {
-                source: o_source,
-                target: o_target,
-                slot: o_slot,
-                mode: o_mode,
-            } => *source == *o_source
-                && *target == *o_target
-                && *slot == *o_slot
-                && *mode == *o_mode,
-            _ => false,
-        },
-        Call::TemplateCreate {
-            function,
-            paramc,
-            depc,
-        } => match right {
-            Call::TemplateCreate {
-                function: o_function,
-                paramc: o_paramc,
-                depc: o_depc,
-            } => *function == *o_function && *paramc == *o_paramc && *depc == *o_depc,
-            _ => false,
-        },
-        Call::TemplateDestroy { template } => match right {
-            Call::TemplateDestroy {
-                template: o_template,
-            } => *template == *o_template,
-            _ => false,
-        },
-        Call::EdtCreate {
-            template,
-            paramc,
-            params,
-            depc,
-            deps,
-            flags,
-            output,
-        } => match right {
-            Call::EdtCreate {
-                template: o_template,
-                paramc: o_paramc,
-                params: o_params,
-                depc: o_depc,
-                deps: o_deps,
-                flags: o_flags,
-                output: o_output,
-            } => *template == *o_template
-                && *paramc == *o_paramc
-                && same_numbers(params.as_slice(), o_params.as_slice())
-                && *depc == *o_depc
-                && same_numbers(deps.as_slice(), o_deps.as_slice())
-                && *flags == *o_flags
-                && *output == *o_output,
-            _ => false,
-        },
-        Call::Shutdown => match right {
-            Call::Shutdown => true,
-            _ => false,
-        },
-        Call::Abort { code } => match right {
-            Call::Abort { code: o_code } => *code == *o_code,
-            _ => false,
-        },
-        Call::Load { block, word } => match right {
-            Call::Load {
-                block: o_block,
-                word: o_word,
-            } => *block == *o_block && *word == *o_word,
-            _ => false,
-        },
-        Call::Store { block, word, value } => match right {
-            Call::Store {
-                block: o_block,
-                word: o_word,
-                value: o_value,
-            } => *block == *o_block && *word == *o_word && *value == *o_value,
-            _ => false,
-        },
-        Call::Print { value } => match right {
-            Call::Print { value: o_value } => *value == *o_value,
-            _ => false,
-        },
-    }
-}
 
 fn same_numbers(left: &[u64], right: &[u64]) -> bool
     ensures { Whether result (left.now ≡ right.now) }
@@ -238,18 +84,22 @@ impl<'a> Api for Judge<'a> {
     ghost use Rattle.std.specs.Prelude.{take};
     ghost use Rattle.ocr_body.specs.Checked.{checked_tree};
     ghost use Rattle.ocr_machine.specs.History.{own, history_of};
-    ghost use Rattle.ocr_replay.specs.Judging.{IsJudging, body_with};
+    ghost use Rattle.ocr_replay.specs.Judging.{IsJudging};
+    ghost use Rattle.ocr_machine.specs.Edts.{body_with};
     ghost use Rattle.ocr_replay.specs.Linking.{IsFollowing};
 
     type Kept = (Journal, Guid, usize, Links);
 
     ghost kept = { λ j. (j.entries.now, j.edt, j.start, j.links.now) };
 
-    ghost serves = { λ j. body_with (checked_tree j.program.now) j.function j.params.now j.deps.now };
+    ghost serves = { λ j.
+        body_with (checked_tree j.program.now) j.function j.params.now j.deps.now };
 
     ghost log = { λ j. own (history_of (take j.place j.entries.now)) j.edt };
 
-    ghost is_ready = { λ j. IsJudging (body_with (checked_tree j.program.now) j.function j.params.now j.deps.now) j.edt j.entries.now j.start j.place j.refusals
+    ghost is_ready = { λ j.
+        IsJudging (body_with (checked_tree j.program.now) j.function j.params.now j.deps.now)
+        j.edt j.entries.now j.start j.place j.refusals
         × IsFollowing j.edt j.entries.now j.links.now j.place j.next };
 
     ghost closed = { λ j. j.refusals };
@@ -265,7 +115,7 @@ impl<'a> Api for Judge<'a> {
                 writes: _,
             } = &self.entries[at]
             {
-                if same_call(made, call) {
+                if made.is_same(call) {
                     self.place = at + 1;
                     self.next = self.links.nexts[at];
                     return Ok(*answer);
@@ -379,8 +229,10 @@ fn unsaid_after(
 ) -> Option<usize>
     requires following { IsFollowing edt entries.now links.now next next }
     ensures some { (b : Body) → at_place b edt entries.now next ≡ ended_as ending.now
-        → IfSome result (λ at. (next ≤ at) × (at < length entries.now) × IsSaidIn b edt entries.now next at × IsUnsaid b edt entries.now at) }
-    ensures none { (b : Body) → at_place b edt entries.now next ≡ ended_as ending.now → IfNone result (IsSaidIn b edt entries.now next (length entries.now)) }
+        → IfSome result (λ at. (next ≤ at) × (at < length entries.now)
+        × IsSaidIn b edt entries.now next at × IsUnsaid b edt entries.now at) }
+    ensures none { (b : Body) → at_place b edt entries.now next ≡ ended_as ending.now
+        → IfNone result (IsSaidIn b edt entries.now next (length entries.now)) }
 {
     let mut at = next;
     while at < entries.len() {
@@ -392,8 +244,8 @@ fn unsaid_after(
     None
 }
 
-/// The first place from `start` on with an entry that the body of the EDT does not make. The next entry of the EDT from
-/// there on stands at `next`.
+/// The first place from `start` on with an entry that the body of the EDT does not make. The next
+/// entry of the EDT from there on stands at `next`.
 pub fn first_unsaid(
     alloc: Global,
     program: &Checked,
@@ -409,9 +261,11 @@ pub fn first_unsaid(
     requires following { IsFollowing edt entries.now links.now start next }
     requires fresh { own (history_of (take start entries.now)) edt ≡ [] }
     ensures some { IfOk result (λ r. IfSome r (λ at.
-        IsWrong (body_with (checked_tree program.now) function params.now deps.now) edt entries.now start at)) }
+        IsWrong (body_with (checked_tree program.now) function params.now deps.now)
+        edt entries.now start at)) }
     ensures none { IfOk result (λ r. IfNone r
-        (IsSaidIn (body_with (checked_tree program.now) function params.now deps.now) edt entries.now start (length entries.now))) }
+        (IsSaidIn (body_with (checked_tree program.now) function params.now deps.now)
+        edt entries.now start (length entries.now))) }
 {
     if function == 0 || function as usize > program.count() {
         return Ok(unsaid_after(entries, links, edt, next, &Ending::Ended(Guid::NULL)));

@@ -1,25 +1,25 @@
 // Whether an entry is legal on the parts.
 ghost use Rattle.std.specs.Prelude.{◌≡◌, ℕ, [], true, false, IfOk, is_some};
 ghost use Rattle.ocr_machine.specs.Made.{is_done};
-ghost use Rattle.ocr_machine.specs.Effects.{progress_on, next_on};
+ghost use Rattle.ocr_machine.specs.Progress.{progress_on, next_on};
 ghost use Rattle.ocr_machine.specs.LegalOn.{IsLegalOn, IsCallOn, IsAnswered, IsNamed, IsFresh, IsAcquireOn, IsStartOn, IsFreeOn, IsEndOn, is_set, is_running, is_held_by, is_lent, grants, holds_in};
-ghost use Rattle.ocr_machine.specs.Whole.{all_parts, face_at, core_at};
+ghost use Rattle.ocr_machine.specs.Table.{state_in, face_on, core_on};
 ghost use Rattle.ocr_machine.specs.declared.part.Part.TheVariants as part;
 ghost use Rattle.ocr_acquire.specs.Mode.{is_null};
 ghost use Rattle.ocr_edt.specs.Phases.{least_of};
 ghost use Rattle.ocr_replay.specs.Judging.{Whether};
 
 use ocr_acquire::Mode;
+use ocr_base::NoMemory;
 use ocr_body::{Answer, Call};
 use ocr_edt::Edt;
-use ocr_base::NoMemory;
 use ocr_guid::{Code, Guid};
 use ocr_machine::{Entry, Part, Table, Writes};
 use std::alloc::Global;
 
 /// Whether the EDT runs.
 pub fn is_running_at(table: &Table, edt: u64) -> bool
-    ensures { result ≡ is_running (core_at table.now.limit table.now.parts.items edt) }
+    ensures { result ≡ is_running (core_on table.now edt) }
 {
     match table.core(edt) {
         Some(Part::Core(core)) => match &core.edt {
@@ -39,7 +39,7 @@ pub fn is_running_at(table: &Table, edt: u64) -> bool
 
 /// Whether the EDT acquires, or can begin to.
 pub(crate) fn is_acquiring_at(table: &Table, edt: u64) -> bool
-    ensures { result ≡ is_some (progress_on (all_parts table.now.limit table.now.parts.items) edt) }
+    ensures { result ≡ is_some (progress_on (state_in table.now) edt) }
 {
     match table.core(edt) {
         Some(Part::Core(core)) => match &core.edt {
@@ -59,7 +59,7 @@ pub(crate) fn is_acquiring_at(table: &Table, edt: u64) -> bool
 
 /// Whether every slot of the EDT is set.
 pub(crate) fn is_set_at(table: &Table, edt: u64) -> bool
-    ensures { result ≡ is_set (face_at table.now.limit table.now.parts.items edt) }
+    ensures { result ≡ is_set (face_on table.now edt) }
 {
     match table.face(edt) {
         Some(Part::Edt(slots)) => slots.unset() == 0,
@@ -73,7 +73,7 @@ pub(crate) fn is_set_at(table: &Table, edt: u64) -> bool
 
 /// Whether the block can be granted in this mode.
 fn grants_at(table: &Table, block: u64, mode: Mode) -> bool
-    ensures { result ≡ grants (face_at table.now.limit table.now.parts.items block) mode }
+    ensures { result ≡ grants (face_on table.now block) mode }
 {
     if is_null_mode(mode) {
         return false;
@@ -102,7 +102,7 @@ fn is_null_mode(mode: Mode) -> bool
 
 /// Whether the EDT holds the block.
 fn is_held_at(table: &Table, block: u64, edt: Guid) -> bool
-    ensures { result ≡ is_held_by (face_at table.now.limit table.now.parts.items block) edt }
+    ensures { result ≡ is_held_by (face_on table.now block) edt }
 {
     match table.face(block) {
         Some(Part::Block(state)) => state.mode_of(edt).is_some(),
@@ -116,7 +116,7 @@ fn is_held_at(table: &Table, block: u64, edt: Guid) -> bool
 
 /// The least block that the EDT holds while it runs.
 fn least_at(table: &Table, edt: u64) -> Option<Guid>
-    ensures { result ≡ least_of (holds_in (core_at table.now.limit table.now.parts.items edt)) }
+    ensures { result ≡ least_of (holds_in (core_on table.now edt)) }
 {
     match table.core(edt) {
         Some(Part::Core(core)) => match &core.edt {
@@ -135,7 +135,7 @@ fn least_at(table: &Table, edt: u64) -> Option<Guid>
 }
 
 fn has_no_face(table: &Table, object: u64) -> bool
-    ensures { Whether result (face_at table.now.limit table.now.parts.items object ≡ part.Vacant) }
+    ensures { Whether result (face_on table.now object ≡ part.Vacant) }
 {
     match table.face(object) {
         Some(Part::Vacant) => true,
@@ -148,7 +148,7 @@ fn has_no_face(table: &Table, object: u64) -> bool
 }
 
 fn has_no_core(table: &Table, edt: u64) -> bool
-    ensures { Whether result (core_at table.now.limit table.now.parts.items edt ≡ part.Vacant) }
+    ensures { Whether result (core_on table.now edt ≡ part.Vacant) }
 {
     match table.core(edt) {
         Some(Part::Vacant) => true,
@@ -162,13 +162,13 @@ fn has_no_core(table: &Table, edt: u64) -> bool
 
 /// Whether the number is one that nothing has yet.
 pub fn is_fresh(table: &Table, number: u64) -> bool
-    ensures { Whether result (IsFresh table.now.limit (all_parts table.now.limit table.now.parts.items) number) }
+    ensures { Whether result (IsFresh table.now.limit (state_in table.now) number) }
 {
     1 <= number && number <= table.limit && has_no_face(table, number)
 }
 
 fn is_named(table: &Table, answer: &Answer) -> bool
-    ensures { Whether result (IsNamed table.now.limit (all_parts table.now.limit table.now.parts.items) answer.now) }
+    ensures { Whether result (IsNamed table.now.limit (state_in table.now) answer.now) }
 {
     if answer.code == Code::Done {
         is_fresh(table, answer.value)
@@ -178,13 +178,14 @@ fn is_named(table: &Table, answer: &Answer) -> bool
 }
 
 fn has_new_core(table: &Table, answer: &Answer) -> bool
-    ensures { Whether result (is_done answer.now.code ≡ true → core_at table.now.limit table.now.parts.items answer.now.value ≡ part.Vacant) }
+    ensures { Whether result (is_done answer.now.code ≡ true
+        → core_on table.now answer.now.value ≡ part.Vacant) }
 {
     answer.code != Code::Done || has_no_core(table, answer.value)
 }
 
 fn is_answered(table: &Table, call: &Call, answer: &Answer) -> bool
-    ensures { Whether result (IsAnswered table.now.limit (all_parts table.now.limit table.now.parts.items) call.now answer.now) }
+    ensures { Whether result (IsAnswered table.now.limit (state_in table.now) call.now answer.now) }
 {
     match call {
         Call::Print { value: _ } => answer.value == 0,
@@ -226,7 +227,8 @@ fn is_call_on(
     answer: &Answer,
     writes: &Writes,
 ) -> bool
-    ensures { Whether result (IsCallOn table.now.limit (all_parts table.now.limit table.now.parts.items) edt home call.now answer.now writes.now) }
+    ensures { Whether result (IsCallOn table.now.limit
+        (state_in table.now) edt home call.now answer.now writes.now) }
 {
     is_running_at(table, edt.0)
         && answer.code == table.decide(edt, call)
@@ -244,7 +246,7 @@ fn has_none(writes: &Writes) -> bool
 }
 
 fn is_acquire_on(alloc: Global, table: &Table, edt: Guid, block: Guid) -> Result<bool, NoMemory>
-    ensures { IfOk result (λ answer. Whether answer (IsAcquireOn (all_parts table.now.limit table.now.parts.items) edt block)) }
+    ensures { IfOk result (λ answer. Whether answer (IsAcquireOn (state_in table.now) edt block)) }
 {
     match table.next(alloc, edt.0)? {
         Some((next, mode)) => Ok(
@@ -258,15 +260,15 @@ fn is_acquire_on(alloc: Global, table: &Table, edt: Guid, block: Guid) -> Result
 }
 
 fn is_start_on(alloc: Global, table: &Table, edt: Guid) -> Result<bool, NoMemory>
-    ensures { IfOk result (λ answer. Whether answer (IsStartOn (all_parts table.now.limit table.now.parts.items) edt)) }
+    ensures { IfOk result (λ answer. Whether answer (IsStartOn (state_in table.now) edt)) }
 {
     let next = table.next(alloc, edt.0)?;
     Ok(is_set_at(table, edt.0) && is_acquiring_at(table, edt.0) && next.is_none())
 }
 
 fn is_free_on(table: &Table, edt: Guid, block: Guid, writes: &Writes) -> bool
-    requires { (g : ℕ) → is_lent (face_at table.now.limit table.now.parts.items g) ≡ false }
-    ensures { Whether result (IsFreeOn (all_parts table.now.limit table.now.parts.items) edt block writes.now) }
+    requires { (g : ℕ) → is_lent (face_on table.now g) ≡ false }
+    ensures { Whether result (IsFreeOn (state_in table.now) edt block writes.now) }
 {
     is_running_at(table, edt.0)
         && least_at(table, edt.0) == Some(block)
@@ -276,15 +278,16 @@ fn is_free_on(table: &Table, edt: Guid, block: Guid, writes: &Writes) -> bool
 
 #[tactic(auto, using(crate::proofs::Holding::nothing_least))]
 fn is_end_on(table: &Table, edt: Guid) -> bool
-    ensures { Whether result (IsEndOn (all_parts table.now.limit table.now.parts.items) edt) }
+    ensures { Whether result (IsEndOn (state_in table.now) edt) }
 {
     is_running_at(table, edt.0) && least_at(table, edt.0).is_none()
 }
 
 /// Whether an entry is legal on the parts. No block is on loan.
 pub fn is_legal_on(alloc: Global, table: &Table, entry: &Entry) -> Result<bool, NoMemory>
-    requires { (g : ℕ) → is_lent (face_at table.now.limit table.now.parts.items g) ≡ false }
-    ensures { IfOk result (λ answer. Whether answer (IsLegalOn table.now.limit (all_parts table.now.limit table.now.parts.items) entry.now)) }
+    requires { (g : ℕ) → is_lent (face_on table.now g) ≡ false }
+    ensures { IfOk result (λ answer. Whether answer
+        (IsLegalOn table.now.limit (state_in table.now) entry.now)) }
 {
     match entry {
         Entry::Call {

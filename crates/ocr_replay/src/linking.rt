@@ -20,7 +20,8 @@ pub struct Links {
 
 /// The EDT that the entry starts, or whose body it is an entry of.
 fn edt_of(entry: &Entry) -> Option<Guid>
-    ensures some { IfSome result (λ edt. (t : ℕ) → (runs t entry.now || starts t entry.now) ≡ (edt == t)) }
+    ensures some { IfSome result (λ edt. (t : ℕ)
+        → (runs t entry.now || starts t entry.now) ≡ (edt == t)) }
     ensures none { IfNone result ((t : ℕ) → (runs t entry.now || starts t entry.now) ≡ false) }
 {
     match entry {
@@ -51,8 +52,10 @@ fn edt_of(entry: &Entry) -> Option<Guid>
 
 /// The EDT whose body made the Stop.
 fn stopper_of(stop: &Stop) -> Option<Guid>
-    ensures some { IfSome result (λ edt. (t : ℕ) → (runs t (Entry.Stop stop.now) || starts t (Entry.Stop stop.now)) ≡ (edt == t)) }
-    ensures none { IfNone result ((t : ℕ) → (runs t (Entry.Stop stop.now) || starts t (Entry.Stop stop.now)) ≡ false) }
+    ensures some { IfSome result (λ edt. (t : ℕ)
+        → (runs t (Entry.Stop stop.now) || starts t (Entry.Stop stop.now)) ≡ (edt == t)) }
+    ensures none { IfNone result ((t : ℕ)
+        → (runs t (Entry.Stop stop.now) || starts t (Entry.Stop stop.now)) ≡ false) }
 {
     match stop {
         Stop::Shutdown { edt } => Some(*edt),
@@ -71,7 +74,8 @@ fn stopper_of(stop: &Stop) -> Option<Guid>
 fn note(links: &mut Links, entries: &[Entry], limit: u64, place: usize)
     requires within { place < length entries.now }
     requires limit_fits { limit ≤ 65536 }
-    requires linked { IsLinkedFrom limit entries.now (place + 1) links.old.nexts.items links.old.firsts.items }
+    requires linked { IsLinkedFrom limit entries.now
+        (place + 1) links.old.nexts.items links.old.firsts.items }
     ensures { IsLinkedFrom limit entries.now place links.new.nexts.items links.new.firsts.items }
 {
     let entry = &entries[place];
@@ -97,7 +101,8 @@ fn filled(alloc: Global, place: usize, count: usize) -> Result<Vec<usize>, NoMem
     }
 }
 
-/// Links the entries of a journal whose EDTs have numbers up to the limit. Entries of others have no next one.
+/// Links the entries of a journal whose EDTs have numbers up to the limit. Entries of others have
+/// no next one.
 pub fn link(alloc: Global, entries: &[Entry], limit: u64) -> Result<Links, NoMemory>
     requires limit_fits { limit ≤ 65536 }
     ensures { IfOk result (λ links. IsLinked limit entries.now links) }

@@ -5,18 +5,19 @@ ghost use Rattle.ocr_tree.specs.Functions.{number_of_main};
 ghost use Rattle.ocr_machine.specs.Parts.{parts_of};
 ghost use Rattle.ocr_machine.specs.History.{Setting, own, history_of};
 ghost use Rattle.ocr_machine.specs.Legal.{is_stop, IsRun};
-ghost use Rattle.ocr_machine.specs.Whole.{all_parts, face_at, core_at};
+ghost use Rattle.ocr_machine.specs.Table.{all_parts, face_on, core_on};
 ghost use Rattle.ocr_machine.specs.declared.part.Part.TheVariants as part;
 ghost use Rattle.ocr_replay.specs.Judging.{Whether};
 ghost use Rattle.ocr_replay.specs.Linking.{IsLinked, IsFollowing};
-ghost use Rattle.ocr_replay.specs.Replaying.{setting_of, function_on, params_on, payloads_in, payloads_on, body_on, entry_at, IsVerdict, verdict_at, agrees, IsReplaying, IsFirstIllegal, IsStoppedAt};
+ghost use Rattle.ocr_replay.specs.Replaying.{setting_of, entry_at, IsVerdict, verdict_at, agrees, IsReplaying, IsFirstIllegal, IsStoppedAt};
+ghost use Rattle.ocr_machine.specs.Bodies.{function_on, params_on, payloads_in, payloads_on, body_on};
 
 use crate::judging::first_unsaid;
 use crate::legality::is_legal_on;
 use crate::linking::{Links, link};
 use crate::stopping::{Front, has_room};
-use ocr_body::Checked;
 use ocr_base::NoMemory;
+use ocr_body::Checked;
 use ocr_guid::Guid;
 use ocr_machine::{Entry, Part, Stop, Table, number_of, opening};
 use ocr_slots::Slots;
@@ -41,7 +42,7 @@ fn payloads(alloc: Global, slots: &Slots) -> Result<Vec<Guid>, NoMemory>
 
 /// The payloads of an EDT.
 pub(crate) fn payloads_at(alloc: Global, table: &Table, edt: u64) -> Result<Vec<Guid>, NoMemory>
-    ensures { IfOk result (λ v. v.items ≡ payloads_on (face_at table.now.limit table.now.parts.items edt)) }
+    ensures { IfOk result (λ v. v.items ≡ payloads_on (face_on table.now edt)) }
 {
     match table.face(edt) {
         Some(Part::Edt(slots)) => payloads(alloc, slots),
@@ -55,7 +56,7 @@ pub(crate) fn payloads_at(alloc: Global, table: &Table, edt: u64) -> Result<Vec<
 
 /// The function of an EDT's body.
 pub(crate) fn function_at(table: &Table, edt: u64) -> u32
-    ensures { result ≡ function_on (core_at table.now.limit table.now.parts.items edt) }
+    ensures { result ≡ function_on (core_on table.now edt) }
 {
     match table.core(edt) {
         Some(Part::Core(core)) => core.function,
@@ -69,7 +70,7 @@ pub(crate) fn function_at(table: &Table, edt: u64) -> u32
 
 /// The parameters of an EDT's body.
 pub(crate) fn params_at<'a>(table: &'a Table, edt: u64) -> &'a [u64]
-    ensures { result.now ≡ params_on (core_at table.now.limit table.now.parts.items edt) }
+    ensures { result.now ≡ params_on (core_on table.now edt) }
 {
     match table.core(edt) {
         Some(Part::Core(core)) => core.params.as_slice(),
@@ -94,8 +95,9 @@ fn judge(
 ) -> Result<usize, NoMemory>
     requires following { IsFollowing edt entries.now links.now start next }
     requires fresh { own (history_of (take start entries.now)) edt ≡ [] }
-    ensures { IfOk result (λ at. IsVerdict (body_on (checked_tree program.now) (face_at table.now.limit table.now.parts.items edt)
-        (core_at table.now.limit table.now.parts.items edt)) edt entries.now start at) }
+    ensures { IfOk result (λ at. IsVerdict
+        (body_on (checked_tree program.now) (face_on table.now edt) (core_on table.now edt))
+        edt entries.now start at) }
 {
     let number = number_of(edt);
     let deps = payloads_at(alloc, table, number)?;
@@ -152,7 +154,8 @@ fn agrees_at(verdicts: &[usize], entry: &Entry, place: usize) -> bool
     }
 }
 
-/// Whether the entry at this place, which is no Stop, is legal after those before it. Where it is, it is entered.
+/// Whether the entry at this place, which is no Stop, is legal after those before it. Where it is,
+/// it is entered.
 fn go_on(
     alloc: Global,
     program: &Checked,
@@ -167,13 +170,16 @@ fn go_on(
     requires within { place < length entries.now }
     requires no_stop { is_stop (entry_at entries.now place) ≡ false }
     requires room { length verdicts.old.items ≡ table.old.limit + 1 }
-    requires replaying { IsReplaying (setting_of (checked_tree program.now) args.now table.old.limit) entries.now place table.old.parts.items verdicts.old.items }
+    requires replaying { IsReplaying (setting_of (checked_tree program.now) args.now table.old.limit)
+        entries.now place table.old.parts.items verdicts.old.items }
     ensures limit { table.new.limit ≡ table.old.limit }
     ensures room { length verdicts.new.items ≡ length verdicts.old.items }
     ensures legal { IfOk result (λ answer. answer ≡ true
-        → IsReplaying (setting_of (checked_tree program.now) args.now table.old.limit) entries.now (place + 1) table.new.parts.items verdicts.new.items) }
+        → IsReplaying (setting_of (checked_tree program.now) args.now table.old.limit)
+        entries.now (place + 1) table.new.parts.items verdicts.new.items) }
     ensures illegal { IfOk result (λ answer. answer ≡ false
-        → IsFirstIllegal (setting_of (checked_tree program.now) args.now table.old.limit) entries.now place) }
+        → IsFirstIllegal (setting_of (checked_tree program.now) args.now table.old.limit)
+        entries.now place) }
 {
     let entry = &entries[place];
     if !is_legal_on(alloc, table, entry)? {
@@ -215,9 +221,12 @@ fn ended_by(
     requires linked { IsLinked table.now.limit entries.now links.now }
     requires within { place < length entries.now }
     requires is { entry_at entries.now place ≡ Entry.Stop stop.now }
-    requires replaying { IsReplaying (setting_of (checked_tree program.now) args.now table.now.limit) entries.now place table.now.parts.items verdicts.now }
-    ensures ok { IfOk result (λ _. IsRun (setting_of (checked_tree program.now) args.now table.now.limit) (history_of entries.now)) }
-    ensures stop { IfErr result (λ stop. IsStoppedAt (setting_of (checked_tree program.now) args.now table.now.limit) entries.now stop) }
+    requires replaying { IsReplaying (setting_of (checked_tree program.now) args.now table.now.limit)
+        entries.now place table.now.parts.items verdicts.now }
+    ensures ok { IfOk result (λ _. IsRun
+        (setting_of (checked_tree program.now) args.now table.now.limit) (history_of entries.now)) }
+    ensures stop { IfErr result (λ stop. IsStoppedAt
+        (setting_of (checked_tree program.now) args.now table.now.limit) entries.now stop) }
 {
     let front = Front {
         program,
@@ -245,7 +254,8 @@ fn opened_table(alloc: Global, main: u32, args: &[u64], limit: u64) -> Result<Ta
     requires some { 2 ≤ limit }
     requires limit_fits { limit ≤ 65536 }
     ensures limit { IfOk result (λ table. table.limit ≡ limit) }
-    ensures parts { IfOk result (λ table. (s : Setting) → number_of_main s.program ≡ main → s.args ≡ args.now → s.limit ≡ limit
+    ensures parts { IfOk result (λ table. (s : Setting) → number_of_main s.program ≡ main
+        → s.args ≡ args.now → s.limit ≡ limit
         → all_parts limit table.parts.items ≡ parts_of s []) }
 {
     let mut table = Table::new(alloc, limit)?;
@@ -262,8 +272,8 @@ fn zeros(alloc: Global, count: usize) -> Result<Vec<usize>, NoMemory>
     }
 }
 
-/// Whether the list of entries is a run of the program on these arguments, with so many objects at most: Ok only where it
-/// is, `Illegal` only with the first place whose entry is not legal.
+/// Whether the list of entries is a run of the program on these arguments, with so many objects at
+/// most: Ok only where it is, `Illegal` only with the first place whose entry is not legal.
 pub fn replay(
     alloc: Global,
     program: &Checked,
@@ -271,12 +281,13 @@ pub fn replay(
     limit: u64,
     entries: &[Entry],
 ) -> Result<(), ReplayStop>
-    requires main { number_of_main (checked_tree program.now) ≤ length (checked_tree program.now) }
     requires args { length args.now ≤ 32 }
     requires some { 2 ≤ limit }
     requires limit_fits { limit ≤ 65536 }
-    ensures ok { IfOk result (λ _. IsRun (setting_of (checked_tree program.now) args.now limit) (history_of entries.now)) }
-    ensures stop { IfErr result (λ stop. IsStoppedAt (setting_of (checked_tree program.now) args.now limit) entries.now stop) }
+    ensures ok { IfOk result (λ _. IsRun (setting_of (checked_tree program.now) args.now limit)
+        (history_of entries.now)) }
+    ensures stop { IfErr result (λ stop. IsStoppedAt
+        (setting_of (checked_tree program.now) args.now limit) entries.now stop) }
 {
     let Ok(mut table) = opened_table(alloc, program.main_function(), args, limit) else {
         return Err(ReplayStop::NoMemory);

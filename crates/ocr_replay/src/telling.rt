@@ -5,17 +5,17 @@ ghost use Rattle.ocr_machine.specs.History.{own, history_of};
 ghost use Rattle.ocr_machine.specs.Made.{is_done};
 ghost use Rattle.ocr_machine.specs.Codes.{code_of};
 ghost use Rattle.ocr_machine.specs.LegalOn.{IsFresh};
-ghost use Rattle.ocr_machine.specs.Legal.{is_creation};
-ghost use Rattle.ocr_machine.specs.Whole.{all_parts, face_at};
-ghost use Rattle.ocr_replay.specs.Judging.{Whether, IsSaidIn, at_place, body_with};
+ghost use Rattle.ocr_body.specs.Call.{is_creation};
+ghost use Rattle.ocr_machine.specs.Table.{state_in, face_on};
+ghost use Rattle.ocr_replay.specs.Judging.{Whether, IsSaidIn, at_place};
+ghost use Rattle.ocr_machine.specs.Edts.{body_with};
 ghost use Rattle.ocr_replay.specs.Linking.{IsLinked};
 ghost use Rattle.ocr_replay.specs.Stopping.{creates, CanEnter, HasRoom, IsCoreless, is_print, is_enterable, IsToldAs};
 
-use crate::judging::{FUEL, same_call};
 use crate::legality::is_fresh;
 use crate::linking::Links;
-use ocr_body::{Answer, Api, BodyStop, Call, Checked, walk};
 use ocr_base::NoMemory;
+use ocr_body::{Answer, Api, BodyStop, Call, Checked, FUEL, walk};
 use ocr_guid::{Code, Guid};
 use ocr_machine::{Entry, Journal, Table};
 use std::alloc::Global;
@@ -25,39 +25,17 @@ use std::alloc::Global;
 pub enum Next {
     /// It has come to its end.
     Ended,
-    /// It makes a call: whether that is a creation which is not refused, and whether some answer lets it be entered.
+    /// It makes a call: whether that is a creation which is not refused, and whether some answer
+    /// lets it be entered.
     Asking(bool, bool),
     /// It stops, or goes on by a form that is not built.
     Stopped,
 }
 
-fn is_creation_call(call: &Call) -> bool
-    ensures { result ≡ is_creation call.now }
-{
-    match call {
-        Call::DbCreate { .. } => true,
-        Call::EventCreate { .. } => true,
-        Call::EventCreateParams { .. } => true,
-        Call::TemplateCreate { .. } => true,
-        Call::EdtCreate { .. } => true,
-        Call::DbRelease { .. } => false,
-        Call::DbDestroy { .. } => false,
-        Call::EventDestroy { .. } => false,
-        Call::Satisfy { .. } => false,
-        Call::AddDependence { .. } => false,
-        Call::TemplateDestroy { .. } => false,
-        Call::Shutdown => false,
-        Call::Abort { .. } => false,
-        Call::Load { .. } => false,
-        Call::Store { .. } => false,
-        Call::Print { .. } => false,
-    }
-}
-
 /// A number that nothing has yet; None where there is none.
 pub fn fresh_number(table: &Table) -> Option<u64>
-    ensures some { IfSome result (λ g. IsFresh table.now.limit (all_parts table.now.limit table.now.parts.items) g) }
-    ensures none { IfNone result ((g : ℕ) → IsFresh table.now.limit (all_parts table.now.limit table.now.parts.items) g → ⊥) }
+    ensures some { IfSome result (λ g. IsFresh table.now.limit (state_in table.now) g) }
+    ensures none { IfNone result ((g : ℕ) → IsFresh table.now.limit (state_in table.now) g → ⊥) }
 {
     for number in 0..table.limit + 1 {
         if is_fresh(table, number) {
@@ -69,9 +47,9 @@ pub fn fresh_number(table: &Table) -> Option<u64>
 
 /// Whether some answer lets the call be entered, by whether a number is left.
 fn can_enter(table: &Table, room: bool, call: &Call) -> bool
-    requires room { Whether room (HasRoom table.now.limit (all_parts table.now.limit table.now.parts.items)) }
-    requires coreless { IsCoreless (all_parts table.now.limit table.now.parts.items) }
-    ensures { Whether result (CanEnter table.now.limit (all_parts table.now.limit table.now.parts.items) call.now) }
+    requires room { Whether room (HasRoom table.now.limit (state_in table.now)) }
+    requires coreless { IsCoreless (state_in table.now) }
+    ensures { Whether result (CanEnter table.now.limit (state_in table.now) call.now) }
 {
     if !is_enterable(call) {
         return false;
@@ -83,7 +61,7 @@ fn can_enter(table: &Table, room: bool, call: &Call) -> bool
 }
 
 fn is_accepted(table: &Table, call: &Call) -> bool
-    ensures { result ≡ is_done (code_of (face_at table.now.limit table.now.parts.items) call.now) }
+    ensures { result ≡ is_done (code_of (face_on table.now) call.now) }
 {
     match table.decide(Guid::NULL, call) {
         Code::Done => true,
@@ -103,9 +81,9 @@ fn is_print(call: &Call) -> bool
 
 /// Whether the call is a creation that is not refused.
 fn is_creating(table: &Table, call: &Call) -> bool
-    ensures { result ≡ creates (all_parts table.now.limit table.now.parts.items) call.now }
+    ensures { result ≡ creates (state_in table.now) call.now }
 {
-    is_creation_call(call) && is_accepted(table, call)
+    call.is_creation() && is_accepted(table, call)
 }
 
 /// Whether the call is built.
@@ -162,8 +140,8 @@ impl<'a> Api for Teller<'a> {
     ghost use Rattle.std.specs.Prelude.{take};
     ghost use Rattle.ocr_body.specs.Checked.{checked_tree};
     ghost use Rattle.ocr_machine.specs.History.{own, history_of};
-    ghost use Rattle.ocr_machine.specs.Whole.{all_parts};
-    ghost use Rattle.ocr_replay.specs.Judging.{body_with};
+    ghost use Rattle.ocr_machine.specs.Table.{state_in};
+    ghost use Rattle.ocr_machine.specs.Edts.{body_with};
     ghost use Rattle.ocr_replay.specs.Linking.{IsFollowing};
     ghost use Rattle.ocr_replay.specs.Stopping.{IsTelling};
 
@@ -171,12 +149,15 @@ impl<'a> Api for Teller<'a> {
 
     ghost kept = { λ j. (j.entries.now, j.end, j.edt, j.table.now, j.links.now) };
 
-    ghost serves = { λ j. body_with (checked_tree j.program.now) j.function j.params.now j.deps.now };
+    ghost serves = { λ j.
+        body_with (checked_tree j.program.now) j.function j.params.now j.deps.now };
 
     ghost log = { λ j. own (history_of (take j.place j.entries.now)) j.edt };
 
-    ghost is_ready = { λ j. IsTelling (body_with (checked_tree j.program.now) j.function j.params.now j.deps.now) j.edt j.entries.now j.end j.table.now.limit
-        (all_parts j.table.now.limit j.table.now.parts.items) j.room j.place j.refusals j.told
+    ghost is_ready = { λ j.
+        IsTelling (body_with (checked_tree j.program.now) j.function j.params.now j.deps.now)
+        j.edt j.entries.now j.end j.table.now.limit
+        (state_in j.table.now) j.room j.place j.refusals j.told
         × IsFollowing j.edt j.entries.now j.links.now j.place j.next };
 
     ghost closed = { λ j. j.refusals };
@@ -194,7 +175,7 @@ impl<'a> Api for Teller<'a> {
             else {
                 unreachable!()
             };
-            if !same_call(made, call) {
+            if !made.is_same(call) {
                 unreachable!()
             }
             self.place = at + 1;
@@ -230,11 +211,13 @@ pub fn next_of(
     requires within { end ≤ length entries.now }
     requires numbered { edt ≤ table.now.limit }
     requires linked { IsLinked table.now.limit entries.now links.now }
-    requires room { Whether room (HasRoom table.now.limit (all_parts table.now.limit table.now.parts.items)) }
-    requires coreless { IsCoreless (all_parts table.now.limit table.now.parts.items) }
-    requires said { IsSaidIn (body_with (checked_tree program.now) function params.now deps.now) edt entries.now 0 end }
-    ensures { IfOk result (λ next. IsToldAs table.now.limit (all_parts table.now.limit table.now.parts.items)
-        (at_place (body_with (checked_tree program.now) function params.now deps.now) edt entries.now end) next) }
+    requires room { Whether room (HasRoom table.now.limit (state_in table.now)) }
+    requires coreless { IsCoreless (state_in table.now) }
+    requires said { IsSaidIn (body_with (checked_tree program.now) function params.now deps.now)
+        edt entries.now 0 end }
+    ensures { IfOk result (λ next. IsToldAs table.now.limit (state_in table.now)
+        (at_place (body_with (checked_tree program.now) function params.now deps.now)
+        edt entries.now end) next) }
 {
     if function == 0 || function as usize > program.count() {
         return Ok(Next::Ended);

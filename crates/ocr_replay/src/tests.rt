@@ -1,21 +1,19 @@
 // Journals of a small program.
 ghost use Rattle.std.specs.Prelude.{◌≡◌, ◌<◌, ◌+◌, ◌≤◌, ◌^◌, length, true, IfOk};
 ghost use Rattle.ocr_tree.specs.Built.{are_built};
-ghost use Rattle.ocr_tree.specs.Functions.{number_of_main};
+ghost use Rattle.ocr_tree.specs.Runnable.{IsRunnable};
 ghost use Rattle.ocr_tree.specs.View.{tree_of};
 
 use crate::{ReplayStop, replay};
 use ocr_body::{Answer, Call, Checked};
-use ocr_tree::{Expr, Function, Name, Program, Stmt};
 use ocr_guid::{Code, Guid};
 use ocr_machine::{Entry, Stop, Writes};
+use ocr_tree::{Expr, Function, Name, Program, Stmt};
 use std::alloc::Global;
 use std::test::Fail;
 
 fn program(alloc: Global) -> Result<Program, Fail>
-    ensures built { IfOk result (λ p. are_built (tree_of p) ≡ true) }
-    ensures few { IfOk result (λ p. length (tree_of p) + 1 < 2 ^ 32) }
-    ensures main { IfOk result (λ p. number_of_main (tree_of p) ≤ length (tree_of p)) }
+    ensures { IfOk result (λ p. IsRunnable (tree_of p)) }
 {
     let body = vec![in alloc;
         Stmt::Print {

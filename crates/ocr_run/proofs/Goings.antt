@@ -29,19 +29,22 @@ use Rattle.ocr_machine.specs.Made.{Made, MadeBlock, MadeTemplate, MadeEdt, made,
 use Rattle.ocr_machine.specs.Calls.{slot_calls, block_calls, edt_calls}
 use Rattle.ocr_machine.specs.Edts.{IsRunning, says_next, body_of}
 use Rattle.ocr_machine.specs.Parts.{parts_of, face, core}
-use Rattle.ocr_machine.specs.Table.{is_within}
-use Rattle.ocr_machine.specs.Whole.{all_parts}
+use Rattle.ocr_machine.specs.Taken.{is_within}
+use Rattle.ocr_machine.specs.Table.{all_parts}
 use Rattle.ocr_machine.specs.Codes.{code_of}
 use Rattle.ocr_machine.specs.Effects.{changed}
 use Rattle.ocr_machine.specs.LegalOn.{is_running, IsNamed, IsAnswered}
-use Rattle.ocr_machine.specs.Legal.{IsRun, IsLegal, IsCreating, is_stop, is_creation}
+use Rattle.ocr_machine.specs.Legal.{IsRun, IsLegal, IsCreating, is_stop}
+use Rattle.ocr_body.specs.Call.{is_creation}
 use Rattle.ocr_machine.specs.New.{is_template}
-use Rattle.ocr_machine.specs.Footprint.{weight, weight_of}
+use Rattle.ocr_machine.specs.Weight.{weight, weight_of}
 use Rattle.ocr_machine.proofs.After.{after}
 use Rattle.ocr_machine.proofs.Told.{told_law, template_named, done_code}
-use Rattle.ocr_run.specs.UnderWay.{setting_of, IsRunnable, shut_down, aborted, faulted, out_of_memory, limited}
-use Rattle.ocr_run.specs.Limits.{share, object_count, free_numbers}
+use Rattle.ocr_run.specs.UnderWay.{setting_of, shut_down, aborted, faulted, out_of_memory, limited}
+use Rattle.ocr_tree.specs.Runnable.{IsRunnable}
+use Rattle.ocr_run.specs.Limits.{object_count, free_numbers}
 use Rattle.ocr_run.specs.Going.{IsOfProgram, IsGoing, IsHeld, IsStoppable, IsServing, IsMove, stop_for}
+use Rattle.ocr_machine.specs.declared.limits.TheConstants.{MOST_OBJECTS, SHARE}
 
 -- an entry at the end of a journal is the newest of its history
 pub history_more : (journal : List Entry) (e : Entry) (later : List Entry) → later ≡ journal ++ e ∷ [] → history_of later ≡ e ∷ history_of journal
@@ -49,7 +52,7 @@ history_more journal e later is = ap history_of is ∙ reverse-append journal (e
 
 -- ENTRIES AND PARTS
 pub held_next : (program : List FunctionTree) (past : History) (e : Entry) (limit : ℕ) (parts later : List Part) (sum k : ℕ) → IsHeld program past limit parts sum
-    → IsLegal (setting_of program) past e → all_parts limit later ≡ changed e (all_parts limit parts) → k ≡ weight_of e → sum + k ≤ share
+    → IsLegal (setting_of program) past e → all_parts limit later ≡ changed e (all_parts limit parts) → k ≡ weight_of e → sum + k ≤ SHARE
     → IsHeld program (e ∷ past) limit later (sum + k)
 held_next program past e limit parts later sum k held legal done weighs within = record {
   same_limit = held.same_limit;
@@ -59,7 +62,7 @@ held_next program past e limit parts later sum k held legal done weighs within =
 }
 
 -- STOPS
-pub memory_stop : (s : Setting) (past : History) → IsRun s past → is_stopped past ≡ false → weight past ≤ share → IsStoppable s past by.Memory
+pub memory_stop : (s : Setting) (past : History) → IsRun s past → is_stopped past ≡ false → weight past ≤ SHARE → IsStoppable s past by.Memory
 memory_stop s past run goes_on within = record {
   run = run;
   legal = record { open_run = goes_on; on_parts = tt; said = tt; stopping = tt };
@@ -68,8 +71,8 @@ memory_stop s past run goes_on within = record {
   met = out_of_memory;
 }
 
-pub events_stop : (s : Setting) (past : History) (e : Entry) (k : ℕ) → IsRun s past → IsLegal s past e → is_stop e ≡ false → k ≡ weight_of e → weight past ≤ share
-    → share < weight past + k → IsStoppable s past (by.Events 1 k)
+pub events_stop : (s : Setting) (past : History) (e : Entry) (k : ℕ) → IsRun s past → IsLegal s past e → is_stop e ≡ false → k ≡ weight_of e → weight past ≤ SHARE
+    → SHARE < weight past + k → IsStoppable s past (by.Events 1 k)
 events_stop s past e k run legal no_stop weighs within beyond = record {
   run = run;
   legal = record { open_run = legal.open_run; on_parts = tt; said = tt; stopping = (e, record { weighs = sym weighs; no_stop = no_stop; on_parts = legal.on_parts; said = legal.said }) };
@@ -110,7 +113,7 @@ some_made (call.Store a b d) is = cc is
 some_made (call.Print a) is = cc is
 
 pub objects_stop : (s : Setting) (past : History) (count t : ℕ) (c : body.Call) → IsRun s past → is_stopped past ≡ false
-    → ((n : ℕ) → is_some (made s past n) ≡ is_within count n) → s.limit ≤ count → weight past ≤ share → IsRunning past t → IsNext c (says_next s past t) → is_creation c ≡ true
+    → ((n : ℕ) → is_some (made s past n) ≡ is_within count n) → s.limit ≤ count → weight past ≤ SHARE → IsRunning past t → IsNext c (says_next s past t) → is_creation c ≡ true
     → code_of (parts_of s past).face c ≡ code.Done → IsStoppable s past by.Objects
 objects_stop s past count t c run goes_on dense full within running next creation accepted =
     let creating : IsCreating s past t c = record { running = running; next = next; creation = creation; accepted = accepted } in
@@ -123,7 +126,7 @@ objects_stop s past count t c run goes_on dense full within running next creatio
     }
 
 -- a stop that the body says
-pub said_stop : (s : Setting) (past : History) (t : ℕ) (e : BodyStop) → IsSaid e → IsRun s past → is_stopped past ≡ false → weight past ≤ share → IsRunning past t
+pub said_stop : (s : Setting) (past : History) (t : ℕ) (e : BodyStop) → IsSaid e → IsRun s past → is_stopped past ≡ false → weight past ≤ SHARE → IsRunning past t
     → says_next s past t ≡ Stops e → IsStoppable s past (stop_for t e)
 said_stop s past t stop.Shutdown said run goes_on within running says = record { run = run; legal = record { open_run = goes_on; on_parts = tt; said = tt; stopping = (running, says) }; within = within; cause = tt; met = shut_down }
 said_stop s past t (stop.Abort c) said run goes_on within running says = record { run = run; legal = record { open_run = goes_on; on_parts = tt; said = tt; stopping = (running, says) }; within = within; cause = tt; met = aborted }
@@ -186,7 +189,7 @@ refused_makes a n off = rw off refl
 pub record IsAnswerOf (count : ℕ) (c : body.Call) (a : Answer) (one : Bool) : Type 0 where
   pub makes_one : one ≡ (is_creation c && is_done a.code)
   pub value : a.value ≡ (if one then count + 1 else 0)
-  pub room : one ≡ true → count < 4096
+  pub room : one ≡ true → count < MOST_OBJECTS
 
 value_done : (count : ℕ) (c : body.Call) (a : Answer) (one : Bool) → IsAnswerOf count c a one → is_creation c ≡ true → is_done a.code ≡ true → (one ≡ true) × (a.value ≡ count + 1)
 value_done count c a one of creation done =
@@ -202,7 +205,7 @@ going_template : (program : List FunctionTree) (past : History) (count t f pc dc
 going_template program past count t f pc dc a one served of g legal = elim (is_done a.code) as (λ b. is_done a.code ≡ b → IsGoing program (Call t 0 (call.TemplateCreate f pc dc) a [] ∷ past) (if one then count + 1 else count)) [
   | true ↦ λ done.
       let is = value_done count (call.TemplateCreate f pc dc) a one of refl done in
-      let room : count < 4096 = of.room is.0 in
+      let room : count < MOST_OBJECTS = of.room is.0 in
       rw is.0 (record {
         runnable = g.runnable;
         run = (g.run, legal);
@@ -233,7 +236,7 @@ going_edt program past count t from pc ps dc ds fl o a one of g legal =
     elim (is_done a.code) as (λ b. is_done a.code ≡ b → IsGoing program (Call t 0 (call.EdtCreate from pc ps dc ds fl o) a [] ∷ past) (if one then count + 1 else count)) [
       | true ↦ λ done.
           let is = value_done count (call.EdtCreate from pc ps dc ds fl o) a one of refl done in
-          let room : count < 4096 = of.room is.0 in
+          let room : count < MOST_OBJECTS = of.room is.0 in
           let new = edt_made (length program) (made s past from) (slot_calls past from) (block_calls s past from) ps dc
           (template_named ((parts_of s past).face from) pc ps dc ds fl (sym legal.on_parts.code ∙ done_code a.code done)) (g.functions from) in
           rw is.0 (record {
@@ -293,13 +296,13 @@ none_core None t calls is = refl
 none_core (Some x) t calls is = cc is
 
 named : (program : List FunctionTree) (past : History) (count : ℕ) (c : body.Call) (a : Answer) (one : Bool) → is_creation c ≡ true → IsAnswerOf count c a one → IsGoing program past count
-    → IsNamed 4096 (parts_of (setting_of program) past) a
+    → IsNamed MOST_OBJECTS (parts_of (setting_of program) past) a
 named program past count c a one creation of g =
     let s = setting_of program in
     record {
       fresh = λ done.
           let is = value_done count c a one of creation done in
-          let room : count < 4096 = of.room is.0 in
+          let room : count < MOST_OBJECTS = of.room is.0 in
           record {
             some = omega (arith, is.1);
             within = omega (arith, is.1, room);
@@ -309,7 +312,7 @@ named program past count c a one creation of g =
     }
 
 answered : (program : List FunctionTree) (past : History) (count : ℕ) (c : body.Call) (a : Answer) (one : Bool) → IsServed (length program) c → IsAnswerOf count c a one → IsGoing program past count
-    → IsAnswered 4096 (parts_of (setting_of program) past) c a
+    → IsAnswered MOST_OBJECTS (parts_of (setting_of program) past) c a
 answered program past count (call.Print v) a one served of g = of.value ∙ rw of.makes_one refl
 answered program past count (call.TemplateCreate f pc dc) a one served of g = named program past count (call.TemplateCreate f pc dc) a one refl of g
 answered program past count (call.EdtCreate from pc ps dc ds fl o) a one served of g =
@@ -420,7 +423,7 @@ more_entries P journal later same is = subst (λ (j : List Entry). P (history_of
 
 pub held_entered : (program : List FunctionTree) (journal kept now : List Entry) (e : Entry) (limit same : ℕ) (parts later : List Part) (sum k : ℕ) → kept ≡ journal → now ≡ kept ++ e ∷ []
     → same ≡ limit → IsHeld program (history_of journal) limit parts sum → IsLegal (setting_of program) (history_of journal) e
-    → all_parts limit later ≡ changed e (all_parts limit parts) → k ≡ weight_of e → sum + k ≤ share → IsHeld program (history_of now) same later (sum + k)
+    → all_parts limit later ≡ changed e (all_parts limit parts) → k ≡ weight_of e → sum + k ≤ SHARE → IsHeld program (history_of now) same later (sum + k)
 held_entered program journal kept now e limit same parts later sum k is more is_limit held legal done weighs within =
     let past : history_of now ≡ e ∷ history_of journal = history_more kept e now more ∙ ap (λ (j : List Entry). e ∷ history_of j) is in
     rw (past, is_limit) (held_next program (history_of journal) e limit parts later sum k held legal done weighs within)

@@ -15,13 +15,15 @@ use Rattle.ocr_machine.specs.History.{History, Setting}
 use Rattle.ocr_machine.specs.Made.{Made, MadeBlock, MadeTemplate, MadeEdt, made, opened, is_edt, function_in, params_in}
 use Rattle.ocr_machine.specs.Calls.{edt_calls}
 use Rattle.ocr_machine.specs.Parts.{Parts, parts_of, core, identity_of}
-use Rattle.ocr_machine.specs.Table.{look, has, keys, is_within, as_face, as_core, parts_in}
-use Rattle.ocr_machine.specs.Whole.{part_at, core_at, all_parts}
+use Rattle.ocr_machine.specs.Taken.{look, has, keys, is_within, as_face, as_core, parts_in}
+use Rattle.ocr_machine.specs.Table.{part_at, core_at, all_parts}
 use Rattle.ocr_machine.specs.Laws.{is_core}
 use Rattle.ocr_machine.proofs.Told.{known}
 use Rattle.ocr_machine.proofs.Wholes.{all_keys}
-use Rattle.ocr_run.specs.UnderWay.{setting_of, IsRunnable}
+use Rattle.ocr_run.specs.UnderWay.{setting_of}
+use Rattle.ocr_tree.specs.Runnable.{IsRunnable}
 use Rattle.ocr_run.specs.Going.{IsOfProgram, IsGoing, IsHeld, IsBefore}
+use Rattle.ocr_machine.specs.declared.limits.TheConstants.{MOST_OBJECTS}
 
 -- THE FIRST PARTS
 look_none : (ps : List (ℕ × Part)) (n : ℕ) → has ps n ≡ false → look ps n ≡ part.Vacant
@@ -90,7 +92,7 @@ first_going program past is runnable = subst (λ (h : History). IsGoing program 
   functions = opened_functions (setting_of program) (length program) runnable.has_main;
 })
 
-pub first_held : (program : List FunctionTree) (past : History) (limit : ℕ) (places : List Part) → past ≡ [] → limit ≡ 4096 → all_parts limit places ≡ parts_of (setting_of program) [] → IsHeld program past limit places 0
+pub first_held : (program : List FunctionTree) (past : History) (limit : ℕ) (places : List Part) → past ≡ [] → limit ≡ MOST_OBJECTS → all_parts limit places ≡ parts_of (setting_of program) [] → IsHeld program past limit places 0
 first_held program past limit places is is_limit parts = subst (λ (h : History). IsHeld program h limit places 0) (sym is) (record {
   same_limit = is_limit;
   parts = parts;

@@ -24,17 +24,19 @@ use Rattle.ocr_machine.specs.Edts.{IsRunning, says_next, body_of}
 use Rattle.ocr_machine.specs.Parts.{parts_of, core}
 use Rattle.ocr_machine.specs.Codes.{code_of}
 use Rattle.ocr_machine.specs.LegalOn.{is_running}
-use Rattle.ocr_machine.specs.Legal.{IsRun, IsLegal, is_creation}
+use Rattle.ocr_machine.specs.Legal.{IsRun, IsLegal}
+use Rattle.ocr_body.specs.Call.{is_creation}
 use Rattle.ocr_machine.specs.Laws.{is_core}
-use Rattle.ocr_machine.specs.Footprint.{weight}
+use Rattle.ocr_machine.specs.Weight.{weight}
 use Rattle.ocr_machine.proofs.Told.{known, told_law, body_law, done_code}
 use Rattle.ocr_run.specs.UnderWay.{setting_of}
-use Rattle.ocr_run.specs.Limits.{share}
 use Rattle.ocr_run.specs.Going.{IsOfProgram, IsGoing, IsHeld, IsServing, IsStoppable, stop_for}
 use Rattle.ocr_run.proofs.Goings.{IsAnswerOf, going_call, legal_call, serving_call, asks_served, objects_stop, memory_stop, said_stop, of_built, stop_cause, stop_next}
 use Rattle.ocr_run.proofs.Turns.{payloads_first, payloads_other}
+use Rattle.ocr_machine.specs.declared.limits.TheConstants.{MOST_OBJECTS, SHARE}
+use Rattle.ocr_body.specs.declared.fuel.TheConstants.{FUEL}
 
-pub within_of : (program : List FunctionTree) (past : History) (limit : ℕ) (parts : List Part) (sum : ℕ) → IsHeld program past limit parts sum → weight past ≤ share
+pub within_of : (program : List FunctionTree) (past : History) (limit : ℕ) (parts : List Part) (sum : ℕ) → IsHeld program past limit parts sum → weight past ≤ SHARE
 within_of program past limit parts sum held = let same = held.sum in let most = held.within in omega (arith, same, most)
 
 both_true : (a b : Bool) → (a && b) ≡ true → (a ≡ true) × (b ≡ true)
@@ -43,8 +45,8 @@ both_true true false is = cc is
 both_true false b is = cc is
 
 -- no number is left
-pub full_stop : (program : List FunctionTree) (past : History) (count t : ℕ) (c : body.Call) (d : Code) (one : Bool) → IsGoing program past count → weight past ≤ share
-    → IsServing (setting_of program) past t → IsNext c (says_next (setting_of program) past t) → one ≡ (is_creation c && is_done d) → one ≡ true → 4096 ≤ count
+pub full_stop : (program : List FunctionTree) (past : History) (count t : ℕ) (c : body.Call) (d : Code) (one : Bool) → IsGoing program past count → weight past ≤ SHARE
+    → IsServing (setting_of program) past t → IsNext c (says_next (setting_of program) past t) → one ≡ (is_creation c && is_done d) → one ≡ true → MOST_OBJECTS ≤ count
     → d ≡ code_of (parts_of (setting_of program) past).face c → IsStoppable (setting_of program) past by.Objects
 full_stop program past count t c d one g within serving next makes is full code_is =
     let two = both_true (is_creation c) (is_done d) (sym makes ∙ is) in
@@ -119,12 +121,12 @@ payloads_are s past t run there = elim (t == 2) as (λ b. (t == 2) ≡ b → pay
 
 pub body_is : (program : List FunctionTree) (past : History) (count t f : ℕ) (ps deps : List ℕ) → IsGoing program past count → is_edt past t ≡ true → f ≡ function_in (made (setting_of program) past t)
     → ps ≡ params_in (made (setting_of program) past t) → deps ≡ take (if t == 2 then 1 else 0) (1 ∷ [])
-    → body_of (setting_of program) past t ≡ record { program = program; function = f; params = ps; depv = deps; fuel = 1000000 }
+    → body_of (setting_of program) past t ≡ record { program = program; function = f; params = ps; depv = deps; fuel = FUEL }
 body_is program past count t f ps deps g there is_function are_params are_payloads =
     rw (is_function, are_params, are_payloads, payloads_are (setting_of program) past t g.run there) refl
 
 -- its stop
-pub body_stop : (program : List FunctionTree) (past : History) (count t : ℕ) (e : BodyStop) (b : Body) → IsGoing program past count → weight past ≤ share → IsServing (setting_of program) past t
+pub body_stop : (program : List FunctionTree) (past : History) (count t : ℕ) (e : BodyStop) (b : Body) → IsGoing program past count → weight past ≤ SHARE → IsServing (setting_of program) past t
     → b ≡ body_of (setting_of program) past t → StoppedBy (says b (own past t)) (Rose 0 0) e → IsStoppable (setting_of program) past (stop_for t e)
 body_stop program past count t e b g within serving is stopped =
     let s = setting_of program in

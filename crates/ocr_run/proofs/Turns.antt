@@ -23,7 +23,7 @@ use Rattle.ocr_machine.specs.Made.{Made, MadeBlock, MadeTemplate, MadeEdt, made,
 use Rattle.ocr_machine.specs.Calls.{slot_calls, block_calls, edt_calls, payloads_of, payload_or_null}
 use Rattle.ocr_machine.specs.Edts.{is_started, is_ended, says_next}
 use Rattle.ocr_machine.specs.Parts.{Parts, parts_of, face, core}
-use Rattle.ocr_machine.specs.Table.{is_within}
+use Rattle.ocr_machine.specs.Taken.{is_within}
 use Rattle.ocr_machine.specs.Effects.{changed, with_edt, dropped_edt}
 use Rattle.ocr_machine.specs.LegalOn.{is_running, is_running_edt, holds_in, edt_holds}
 use Rattle.ocr_machine.specs.Legal.{IsRun, IsLegal, IsQuiet}
@@ -37,6 +37,7 @@ use Rattle.ocr_run.specs.declared.ending.Ending.TheVariants as ending
 use Rattle.ocr_run.specs.Lines.{end_of}
 use Rattle.ocr_run.specs.UnderWay.{setting_of}
 use Rattle.ocr_run.specs.Going.{IsGoing, IsBefore, IsServing}
+use Rattle.ocr_machine.specs.declared.limits.TheConstants.{MOST_OBJECTS}
 
 -- WAKING. The first EDT acquires the argument block and starts
 pub first_acquire : (s : Setting) → IsLegal s [] (Acquire 2 1)
@@ -310,7 +311,7 @@ made_within : (m : Option Made) (t : ℕ) (calls : List edt.EdtCall) → is_core
 made_within None t calls is = cc is
 made_within (Some x) t calls is = refl
 
-all_ended : (program : List FunctionTree) (past : History) (count : ℕ) → IsGoing program past count → IsBefore past 4097 → (u : ℕ) → is_edt past u ≡ true → is_ended past u ≡ true
+all_ended : (program : List FunctionTree) (past : History) (count : ℕ) → IsGoing program past count → IsBefore past (MOST_OBJECTS + 1) → (u : ℕ) → is_edt past u ≡ true → is_ended past u ≡ true
 all_ended program past count g before u is =
     let s = setting_of program in
     let there : is_some (made s past u) ≡ true = made_within (made s past u) u (edt_calls s past u) ((known s past u g.run).made ∙ is) in
@@ -318,7 +319,7 @@ all_ended program past count g before u is =
     let most = g.limit in
     before.ended u (omega (arith, high, most)) is
 
-pub all_over : (program : List FunctionTree) (past : History) (count : ℕ) → IsGoing program past count → IsBefore past 4097 → IsQuiet (setting_of program) past × (end_of past ≡ ending.Quiet 0)
+pub all_over : (program : List FunctionTree) (past : History) (count : ℕ) → IsGoing program past count → IsBefore past (MOST_OBJECTS + 1) → IsQuiet (setting_of program) past × (end_of past ≡ ending.Quiet 0)
 all_over program past count g before =
     let s = setting_of program in
     let ended : (u : ℕ) → is_edt past u ≡ true → is_ended past u ≡ true = all_ended program past count g before in (

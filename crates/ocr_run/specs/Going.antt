@@ -1,4 +1,5 @@
--- A run by one worker that goes on: it runs each EDT to its end, in the order in which they were made.
+-- A run by one worker that goes on: it runs each EDT to its end, in the order in which they were
+-- made.
 use Rattle.std.specs.Prelude.{◌≡◌, ◌≤◌, ◌<◌, ℕ, List, [], ◌∷◌, length, true, false, Option, Some, None, is_some}
 use Rattle.ocr_acquire.specs.declared.Mode.TheVariants as mode
 use Rattle.ocr_tree.specs.Tree.{FunctionTree}
@@ -14,14 +15,16 @@ use Rattle.ocr_machine.specs.History.{History, Setting, is_stopped}
 use Rattle.ocr_machine.specs.Made.{Made, MadeBlock, MadeTemplate, MadeEdt, made, is_edt}
 use Rattle.ocr_machine.specs.Edts.{is_started, is_ended, IsRunning}
 use Rattle.ocr_machine.specs.Parts.{parts_of}
-use Rattle.ocr_machine.specs.Table.{is_within}
+use Rattle.ocr_machine.specs.Taken.{is_within}
 use Rattle.ocr_machine.specs.LegalOn.{holds_in}
 use Rattle.ocr_machine.specs.Legal.{IsRun, IsLegal}
 use Rattle.ocr_machine.specs.Output.{status_of}
-use Rattle.ocr_machine.specs.Footprint.{weight}
-use Rattle.ocr_run.specs.UnderWay.{setting_of, IsRunnable, IsMet}
-use Rattle.ocr_run.specs.Limits.{share, IsLimitCause}
-use Rattle.ocr_machine.specs.Whole.{all_parts}
+use Rattle.ocr_machine.specs.Weight.{weight}
+use Rattle.ocr_run.specs.UnderWay.{setting_of, IsMet}
+use Rattle.ocr_tree.specs.Runnable.{IsRunnable}
+use Rattle.ocr_run.specs.Limits.{IsLimitCause}
+use Rattle.ocr_machine.specs.Table.{all_parts}
+use Rattle.ocr_machine.specs.declared.limits.TheConstants.{MOST_OBJECTS, SHARE}
 
 -- what is made is of a function that the program has
 abbrev pub IsOfProgram : ℕ → Option Made → Type 0
@@ -37,15 +40,16 @@ pub record IsGoing (program : List FunctionTree) (past : History) (count : ℕ) 
   pub open_run : is_stopped past ≡ false
   pub dense : (n : ℕ) → is_some (made (setting_of program) past n) ≡ is_within count n
   pub some : 2 ≤ count
-  pub limit : count ≤ 4096
+  pub limit : count ≤ MOST_OBJECTS
   pub functions : (n : ℕ) → IsOfProgram (length program) (made (setting_of program) past n)
 
 -- what is known of its entries and parts
-pub record IsHeld (program : List FunctionTree) (past : History) (limit : ℕ) (places : List Part) (total : ℕ) : Type 0 where
-  pub same_limit : limit ≡ 4096
+pub record IsHeld (program : List FunctionTree) (past : History) (limit : ℕ) (places : List Part)
+    (total : ℕ) : Type 0 where
+  pub same_limit : limit ≡ MOST_OBJECTS
   pub parts : all_parts limit places ≡ parts_of (setting_of program) past
   pub sum : total ≡ weight past
-  pub within : total ≤ share
+  pub within : total ≤ SHARE
 
 -- an entry that makes nothing, of the one worker
 abbrev pub IsMove : Entry → Type 0
@@ -59,7 +63,7 @@ IsMove other = ⊥
 pub record IsStoppable (s : Setting) (past : History) (why : run.Stop) : Type 0 where
   pub run : IsRun s past
   pub legal : IsLegal s past (Stop why)
-  pub within : weight past ≤ share
+  pub within : weight past ≤ SHARE
   pub cause : IsLimitCause s past why
   pub met : IsMet (status_of why)
 

@@ -1,13 +1,13 @@
--- The headline: the bytes written are the output of the run's own journal, which is a run of the machine on the program
--- that the bytes read are.
-use Rattle.std.specs.Prelude.{◌≡◌, ◌≢◌, ◌⊎◌, ◌<◌, ◌+◌, ◌↔◌, ◌==◌, ◌||◌, ℕ, Bool, List, [], ◌∷◌, length, take, Option, Some, None, codes}
+-- The headline: the bytes written are the output of the run's own journal, which is a run of the
+-- machine on the program that the bytes read are.
+use Rattle.std.specs.Prelude.{◌≡◌, ◌≢◌, ◌⊎◌, ◌<◌, ◌≤◌, ◌+◌, ◌↔◌, ◌==◌, ◌||◌, ℕ, Bool, List, [], ◌∷◌, length, take, Option, Some, None, codes}
 use Rattle.std.specs.Io.KnownBytes.{Appends, Keeps}
 use Rattle.ocr_io.specs.Source.{Took}
 use Rattle.ocr_tree.specs.Tree.{FunctionTree}
 use Rattle.ocr_machine.specs.declared.entry.Entry.{Entry}
 use Rattle.ocr_machine.specs.History.{history_of}
 use Rattle.ocr_machine.specs.Legal.{IsRun, IsQuiet}
-use Rattle.ocr_machine.specs.Laws.{StartsOnce, LeavesOpen}
+use Rattle.ocr_machine.specs.Runs.{StartsOnce, StartsSet, LeavesOpen}
 use Rattle.ocr_machine.specs.Output.{printed, ending_of}
 use Rattle.ocr_run.specs.declared.text.TextFault.{TextFault}
 use Rattle.ocr_run.specs.Limits.{IsLimited}
@@ -15,23 +15,29 @@ use Rattle.ocr_run.specs.Lines.{ending_line, fault_line}
 use Rattle.ocr_run.specs.ProgramText.{IsProgramText, IsNoProgram, most_bytes}
 use Rattle.ocr_run.specs.UnderWay.{setting_of, IsFinished}
 
--- these bytes are a program, this is the journal of a run of it that came to its end and kept the limits, this text is the
--- run's output, and this is its status
-pub record IsExecuted (bytes : List ℕ) (journal : List Entry) (text : List ℕ) (status : ℕ) : Type 0 where
+-- these bytes are a program, this is the journal of a run of it that came to its end and kept the
+-- limits, this text is the run's output, and this is its status
+pub record IsExecuted (bytes : List ℕ) (journal : List Entry) (text : List ℕ)
+    (status : ℕ) : Type 0 where
   pub program : List FunctionTree
   pub is_program : IsProgramText bytes program
   pub run : IsRun (setting_of program) (history_of journal)
   pub finished : IsFinished (setting_of program) (history_of journal)
   pub once : StartsOnce (history_of journal)
-  pub left : IsQuiet (setting_of program) (history_of journal) → LeavesOpen (setting_of program) (history_of journal)
+  pub set : StartsSet (setting_of program) (history_of journal)
+  pub left : IsQuiet (setting_of program) (history_of journal)
+      → LeavesOpen (setting_of program) (history_of journal)
   pub limited : IsLimited (setting_of program) (history_of journal)
   pub output : text ≡ printed (history_of journal)
   pub ending : status ≡ ending_of (history_of journal)
 
--- the output of a run with this ending was written: whole, or a front of it where a write failed; nothing for want of memory
-pub data IsWritten (old new : Option (List ℕ)) (fault : Type 0) (text : List ℕ) (ending : ℕ) : ℕ → Type 0 where
+-- the output of a run with this ending was written: whole, or a front of it where a write failed;
+-- nothing for want of memory
+pub data IsWritten (old new : Option (List ℕ)) (fault : Type 0) (text : List ℕ)
+    (ending : ℕ) : ℕ → Type 0 where
   whole : ending ≢ 9 → Appends old new text → IsWritten old new fault text ending ending
-  front : ending ≢ 9 → fault → (n : ℕ) → n < length text → Appends old new (take n text) → IsWritten old new fault text ending 8
+  front : ending ≢ 9 → fault → (n : ℕ) → n < length text → Appends old new (take n text)
+      → IsWritten old new fault text ending 8
   nothing : ending ≡ 9 → Keeps old new → IsWritten old new fault text ending 9
 
 -- where the source tells its bytes, these are all of them, and none is left
@@ -40,14 +46,16 @@ IsAllOf None now bytes = Unit {0}
 IsAllOf (Some told) now bytes = (bytes ≡ told) × (now ≡ Some [])
 
 -- the run of a program was written
-pub record IsAnswered (bytes : List ℕ) (out_old out_new : Option (List ℕ)) (fault : Type 0) (status : ℕ) (journal : List Entry) : Type 0 where
+pub record IsAnswered (bytes : List ℕ) (out_old out_new : Option (List ℕ)) (fault : Type 0)
+    (status : ℕ) (journal : List Entry) : Type 0 where
   pub text : List ℕ
   pub ending : ℕ
   pub executed : IsExecuted bytes journal text ending
   pub written : IsWritten out_old out_new fault text ending status
 
 -- all bytes of the source were read, and the output of the journal that they give was written
-pub record IsHeadline (left_old left_new out_old out_new : Option (List ℕ)) (fault : Type 0) (status : ℕ) (journal : List Entry) : Type 0 where
+pub record IsHeadline (left_old left_new out_old out_new : Option (List ℕ)) (fault : Type 0)
+    (status : ℕ) (journal : List Entry) : Type 0 where
   pub bytes : List ℕ
   pub read : IsAllOf left_old left_new bytes
   pub answered : IsAnswered bytes out_old out_new fault status journal
@@ -61,7 +69,8 @@ CameTo (Some journal) n = ending_of (history_of journal) ≡ n
 abbrev pub IsStatusOf : Option (List Entry) → ℕ → ℕ → Type 0
 IsStatusOf journal status n = (status ≡ n) ↔ (CameTo journal n × (status ≢ 8))
 
--- the statuses of runs come exactly from their ends: quiet or a shutdown, an abort, a fault in a body, a limit
+-- the statuses of runs come exactly from their ends: quiet or a shutdown, an abort, a fault in a
+-- body, a limit
 pub record IsCaused (journal : Option (List Entry)) (status : ℕ) : Type 0 where
   pub ended : IsStatusOf journal status 0
   pub aborted : IsStatusOf journal status 5
@@ -74,12 +83,14 @@ AreRun words = words ≡ codes "run" ∷ []
 
 -- more bytes were read than a program has
 abbrev pub IsTooBig : Option (List ℕ) → Option (List ℕ) → ℕ → ℕ → Type 0
-IsTooBig left_old left_new given_old given_new = Took left_old left_new given_old given_new (most_bytes + 1)
+IsTooBig left_old left_new given_old given_new =
+    Took left_old left_new given_old given_new (most_bytes + 1)
 
--- all bytes were read, and this is the first thing that is wrong with them
+-- all bytes were read, they are not too many, and this is the first thing that is wrong with them
 pub record IsNotBuilt (left_old left_new : Option (List ℕ)) (found : TextFault) : Type 0 where
   pub bytes : List ℕ
   pub read : IsAllOf left_old left_new bytes
+  pub size : length bytes ≤ most_bytes
   pub no_program : IsNoProgram bytes found
 
 -- bytes are refused: they are too many, or no program
@@ -87,12 +98,15 @@ abbrev pub IsRefusedText : List ℕ → Type 0
 IsRefusedText bytes = (most_bytes < length bytes) ⊎ ((found : TextFault) × IsNoProgram bytes found)
 
 -- the line that goes with a status
-pub data IsLine (too_big : Type 0) (not_built : TextFault → Type 0) (journal : Option (List Entry)) : ℕ → List ℕ → Type 0 where
-  of_run : (entries : List Entry) (status : ℕ) → journal ≡ Some entries → ending_of (history_of entries) ≡ status
+pub data IsLine (too_big : Type 0) (not_built : TextFault → Type 0)
+    (journal : Option (List Entry)) : ℕ → List ℕ → Type 0 where
+  of_run : (entries : List Entry) (status : ℕ) → journal ≡ Some entries
+      → ending_of (history_of entries) ≡ status
       → IsLine too_big not_built journal status (ending_line (history_of entries))
   words_refused : IsLine too_big not_built journal 2 (codes "words refused\n")
   text_too_big : too_big → IsLine too_big not_built journal 3 (codes "text too big\n")
-  text_refused : (found : TextFault) → not_built found → IsLine too_big not_built journal 3 (fault_line found)
+  text_refused : (found : TextFault) → not_built found
+      → IsLine too_big not_built journal 3 (fault_line found)
   read_fault : IsLine too_big not_built journal 7 (codes "read fault\n")
   write_fault : IsLine too_big not_built journal 8 (codes "write fault\n")
   want_of_memory : IsLine too_big not_built journal 9 (codes "want of memory\n")

@@ -10,7 +10,8 @@ use Rattle.ocr_machine.specs.declared.entry.Stop.TheVariants as by
 use Rattle.ocr_machine.specs.History.{History, Setting}
 use Rattle.ocr_machine.specs.Made.{made}
 use Rattle.ocr_machine.specs.Legal.{IsCreating, IsWeighed}
-use Rattle.ocr_machine.specs.Footprint.{weight}
+use Rattle.ocr_machine.specs.Weight.{weight}
+use Rattle.ocr_machine.specs.declared.limits.TheConstants.{SHARE}
 
 -- how many objects a call makes where it is accepted
 abbrev pub object_count : body.Call → ℕ
@@ -33,15 +34,11 @@ pub record IsShort (s : Setting) (past : History) (t : ℕ) (c : body.Call) : Ty
 abbrev pub IsObjectsCause : Setting → History → Type 0
 IsObjectsCause s past = (t : ℕ) × (c : body.Call) × IsShort s past t c
 
--- the share of the one worker
-abbrev pub share : ℕ
-share = 200000
-
 -- an entry of this weight, which is no Stop, could come, and would pass the share of worker 1
 pub record IsPastShare (s : Setting) (past : History) (worker k : ℕ) (e : Entry) : Type 0 where
   pub one : worker ≡ 1
   pub weighed : IsWeighed s past e k
-  pub past_share : share < weight past + k
+  pub past_share : SHARE < weight past + k
 
 abbrev pub IsEventsCause : Setting → History → ℕ → ℕ → Type 0
 IsEventsCause s past worker k = (e : Entry) × IsPastShare s past worker k e
@@ -59,5 +56,5 @@ IsLimitedBy s (e ∷ past) = Unit {0}
 
 -- no run passes the share, and a limit stops it only where it would be passed
 pub record IsLimited (s : Setting) (past : History) : Type 0 where
-  pub within : weight past ≤ share
+  pub within : weight past ≤ SHARE
   pub cause : IsLimitedBy s past

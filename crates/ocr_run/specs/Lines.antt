@@ -38,7 +38,8 @@ fault_words kind.Fuel = codes "fuel"
 abbrev pub stop_line : run.Stop → List ℕ
 stop_line (by.Shutdown t) = []
 stop_line (by.Abort t code) = numbered (codes "aborted: ") code
-stop_line (by.Fault t why) = codes "fault in edt " ++ (decimal t ++ (codes ": " ++ (fault_words why ++ 10 ∷ [])))
+stop_line (by.Fault t why) =
+    codes "fault in edt " ++ (decimal t ++ (codes ": " ++ (fault_words why ++ 10 ∷ [])))
 stop_line by.Objects = codes "limit: objects\n"
 stop_line (by.Events worker weight) = numbered (codes "limit: events of worker ") worker
 stop_line by.Memory = codes "want of memory\n"
@@ -56,4 +57,5 @@ ending_line past = end_line (end_of past)
 abbrev pub fault_line : TextFault → List ℕ
 fault_line (fault.Lexical place) = numbered (codes "lex fault at ") place
 fault_line (fault.Syntax place) = numbered (codes "syntax fault at ") place
-fault_line (fault.Breach breach) = codes "check fault: rule " ++ (decimal breach.rule ++ numbered (codes " in function ") breach.function)
+fault_line (fault.Breach breach) = codes "check fault: rule "
+    ++ (decimal breach.rule ++ numbered (codes " in function ") breach.function)

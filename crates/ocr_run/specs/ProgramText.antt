@@ -15,7 +15,8 @@ use Rattle.ocr_run.specs.declared.text.TextStop.TheVariants as stop
 abbrev pub most_bytes : ℕ
 most_bytes = 1048576
 
--- these bytes are this program: they have tokens, the tokens have this tree, and the tree breaks no rule
+-- these bytes are this program: they have tokens, the tokens have this tree, and the tree breaks no
+-- rule
 pub record IsProgramText (bytes : List ℕ) (program : List FunctionTree) : Type 0 where
   pub size : length bytes ≤ most_bytes
   pub tokens : List Token
@@ -26,9 +27,11 @@ pub record IsProgramText (bytes : List ℕ) (program : List FunctionTree) : Type
 -- these bytes are no program, and this is the first thing that is wrong with them
 pub data IsNoProgram (bytes : List ℕ) : TextFault → Type 0 where
   no_tokens : (place : ℕ) → IsFault bytes place → IsNoProgram bytes (fault.Lexical place)
-  no_tree : (tokens : List Token) (place : ℕ) → AreTokens bytes tokens → IsSyntaxFault bytes tokens place → IsNoProgram bytes (fault.Syntax place)
+  no_tree : (tokens : List Token) (place : ℕ) → AreTokens bytes tokens
+      → IsSyntaxFault bytes tokens place → IsNoProgram bytes (fault.Syntax place)
   breaks_rule : (tokens : List Token) (program : List FunctionTree) (breach : CheckFault)
-      → AreTokens bytes tokens → IsTreeOf bytes tokens program → IsBreach program breach.rule breach.function
+      → AreTokens bytes tokens → IsTreeOf bytes tokens program
+      → IsBreach program breach.rule breach.function
       → IsNoProgram bytes (fault.Breach breach)
 
 -- why bytes gave no program: they are none, or memory was refused
@@ -38,6 +41,9 @@ IsTextStop bytes stop.NoMemory = Unit {0}
 
 -- bytes are at most one program, have at most one fault, and never both
 pub record TextLaw : Type 0 where
-  pub one_program : (bytes : List ℕ) (program other : List FunctionTree) → IsProgramText bytes program → IsProgramText bytes other → program ≡ other
-  pub one_fault : (bytes : List ℕ) (found other : TextFault) → IsNoProgram bytes found → IsNoProgram bytes other → found ≡ other
-  pub apart : (bytes : List ℕ) (program : List FunctionTree) (found : TextFault) → IsProgramText bytes program → IsNoProgram bytes found → ⊥
+  pub one_program : (bytes : List ℕ) (program other : List FunctionTree)
+      → IsProgramText bytes program → IsProgramText bytes other → program ≡ other
+  pub one_fault : (bytes : List ℕ) (found other : TextFault) → IsNoProgram bytes found
+      → IsNoProgram bytes other → found ≡ other
+  pub apart : (bytes : List ℕ) (program : List FunctionTree) (found : TextFault)
+      → IsProgramText bytes program → IsNoProgram bytes found → ⊥

@@ -7,7 +7,8 @@ use ocr_guid::Guid;
 use ocr_machine::Stop;
 use std::alloc::Global;
 
-/// The run, the EDT whose body runs, the stop of the run where a call stopped it, and how often it was found closed by it.
+/// The run, the EDT whose body runs, the stop of the run where a call stopped it, and how often it
+/// was found closed by it.
 #[derive(Drop)]
 pub struct Desk<'a> {
     pub alloc: Global,
@@ -18,17 +19,15 @@ pub struct Desk<'a> {
 }
 
 impl<'a> Api for Desk<'a> {
-    ghost use Rattle.ocr_machine.specs.History.{history_of, own};
+    ghost use Rattle.ocr_machine.specs.History.{own};
     ghost use Rattle.ocr_machine.specs.Edts.{body_of};
-    ghost use Rattle.ocr_run.specs.UnderWay.{setting_of};
-    ghost use Rattle.ocr_run.specs.Serving.{IsReady};
-    ghost use Rattle.ocr_body.specs.Checked.{checked_tree};
+    ghost use Rattle.ocr_run.specs.Serving.{IsReady, past, setting};
 
     type Kept = (Checked, Guid);
 
-    ghost serves = { λ d. body_of (setting_of (checked_tree d.going.program.now)) (history_of d.going.log.entries.items) d.edt };
+    ghost serves = { λ d. body_of (setting d.going) (past d.going) d.edt };
 
-    ghost log = { λ d. own (history_of d.going.log.entries.items) d.edt };
+    ghost log = { λ d. own (past d.going) d.edt };
 
     ghost is_ready = { λ d. IsReady d.stop d };
 

@@ -1,31 +1,26 @@
 // A run that goes on.
 ghost use Rattle.std.specs.Prelude.{◌≡◌, ◌≤◌, ◌<◌, ◌+◌, ◌∷◌, [], ℕ, ◌&&◌, if◌then◌else◌, false, true, IfOk, IfErr, OnOk, OnErr, IfSome, IfNone};
 ghost use Rattle.ocr_body.specs.Behaviour.{IsNext, Ends};
-ghost use Rattle.ocr_body.specs.Checked.{checked_tree};
-ghost use Rattle.ocr_body.specs.Laws.{IsServed};
 ghost use Rattle.ocr_machine.specs.declared.entry.Entry.TheVariants as an;
-ghost use Rattle.ocr_machine.specs.History.{history_of, own};
+ghost use Rattle.ocr_machine.specs.History.{own};
 ghost use Rattle.ocr_machine.specs.Made.{made, is_edt, is_done, function_in, params_in};
 ghost use Rattle.ocr_machine.specs.Edts.{says_next};
 ghost use Rattle.ocr_machine.specs.Laws.{is_core};
 ghost use Rattle.ocr_machine.specs.Parts.{parts_of};
-ghost use Rattle.ocr_machine.specs.Legal.{IsLegal, IsRun, is_stop, is_creation};
-ghost use Rattle.ocr_run.specs.UnderWay.{setting_of, IsRunnable};
-ghost use Rattle.ocr_run.specs.Going.{IsHeld, IsMove, IsBefore, IsServing};
-ghost use Rattle.ocr_run.specs.Serving.{GoesOn, MayStop};
+ghost use Rattle.ocr_machine.specs.Legal.{IsLegal, IsRun, is_stop};
+ghost use Rattle.ocr_body.specs.Call.{is_creation};
+ghost use Rattle.ocr_machine.specs.declared.limits.TheConstants.{MOST_OBJECTS};
+ghost use Rattle.ocr_run.specs.Going.{IsMove, IsBefore};
+ghost use Rattle.ocr_run.specs.Serving.{GoesOn, Holds, MayStop, Serves, past, setting};
 
 use crate::log::Log;
+use ocr_base::NoMemory;
 use ocr_body::{Answer, Call, Checked};
 use ocr_guid::{Code, Guid};
-use ocr_base::{NoMemory, Seq};
-use ocr_machine::{Core, Entry, Part, Stop, Table, Writes, number_of, opening, weight};
+use ocr_machine::{
+    Core, Entry, MOST_OBJECTS, Part, SHARE, Stop, Table, Writes, number_of, opening, weight,
+};
 use std::alloc::Global;
-
-/// How many objects a run may make.
-pub const LIMIT: u64 = 4096;
-
-/// How much the entries of the one worker may weigh.
-const SHARE: u64 = 200_000;
 
 /// The EDT of `mainEdt`.
 pub const MAIN_EDT: Guid = Guid(ocr_machine::MAIN_EDT);
@@ -33,8 +28,8 @@ pub const MAIN_EDT: Guid = Guid(ocr_machine::MAIN_EDT);
 /// The argument block.
 pub const ARGUMENTS: Guid = Guid(ocr_machine::ARGUMENTS);
 
-/// A run that goes on: its program, its entries and what they weigh, all its parts, and how many objects are made. The
-/// objects have the numbers from 1 on.
+/// A run that goes on: its program, its entries and what they weigh, all its parts, and how many
+/// objects are made. The objects have the numbers from 1 on.
 #[derive(Drop)]
 pub struct Going<'a> {
     pub program: &'a Checked,
@@ -47,14 +42,14 @@ pub struct Going<'a> {
 impl<'a> Going<'a> {
     /// The run before its first entry.
     pub fn opened(alloc: Global, program: &'a Checked) -> Result<Self, NoMemory>
-        requires { IsRunnable (checked_tree program.now) }
         ensures program { IfOk result (λ g. g.program.now ≡ program.now) }
         ensures going { IfOk result (λ g. GoesOn g) }
         ensures first { IfOk result (λ g. g.log.entries.items ≡ []) }
     {
+        program.runnable_law();
         let log = Log::new(alloc)?;
-        let mut table = Table::new(alloc, LIMIT)?;
-        table.give(opening(alloc, program.main_function(), &[], LIMIT)?);
+        let mut table = Table::new(alloc, MOST_OBJECTS)?;
+        table.give(opening(alloc, program.main_function(), &[], MOST_OBJECTS)?);
         Ok(Going {
             program,
             log,
@@ -67,7 +62,7 @@ impl<'a> Going<'a> {
     /// Whether the number names an EDT.
     pub fn is_edt(&self, edt: Guid) -> bool
         requires { GoesOn self.now }
-        ensures { result ≡ is_edt (history_of self.now.log.entries.items) edt }
+        ensures { result ≡ is_edt (past self.now) edt }
     {
         match self.core(edt) {
             Some(_) => true,
@@ -78,8 +73,9 @@ impl<'a> Going<'a> {
     // The core of an EDT, where the number names one.
     fn core(&self, edt: Guid) -> Option<&Core>
         requires { GoesOn self.now }
-        ensures some { IfSome result (λ core. (parts_of (setting_of (checked_tree self.now.program.now)) (history_of self.now.log.entries.items)).core edt ≡ Part.Core core.now) }
-        ensures none { IfNone result (is_edt (history_of self.now.log.entries.items) edt ≡ false) }
+        ensures some { IfSome result (λ core. (parts_of (setting self.now) (past self.now)).core edt
+            ≡ Part.Core core.now) }
+        ensures none { IfNone result (is_edt (past self.now) edt ≡ false) }
     {
         let Some(part) = self.table.core(number_of(edt)) else {
             return None
@@ -90,9 +86,11 @@ impl<'a> Going<'a> {
     /// The function of an EDT, and its parameters.
     pub fn body(&self, alloc: Global, edt: Guid) -> Result<(u32, Vec<u64>), NoMemory>
         requires going { GoesOn self.now }
-        requires made { is_edt (history_of self.now.log.entries.items) edt ≡ true }
-        ensures function { IfOk result (λ b. b.0 ≡ function_in (made (setting_of (checked_tree self.now.program.now)) (history_of self.now.log.entries.items) edt)) }
-        ensures params { IfOk result (λ b. b.1.items ≡ params_in (made (setting_of (checked_tree self.now.program.now)) (history_of self.now.log.entries.items) edt)) }
+        requires made { is_edt (past self.now) edt ≡ true }
+        ensures function { IfOk result (λ b. b.0
+            ≡ function_in (made (setting self.now) (past self.now) edt)) }
+        ensures params { IfOk result (λ b. b.1.items
+            ≡ params_in (made (setting self.now) (past self.now) edt)) }
     {
         let Some(core) = self.core(edt) else {
             unreachable!()
@@ -105,15 +103,15 @@ impl<'a> Going<'a> {
 
     // Enters an entry. Where the run is stopped in its place, the entries are as they were.
     fn enter(&mut self, alloc: Global, entry: Entry) -> Result<(), Stop>
-        requires run { IsRun (setting_of (checked_tree self.old.program.now)) (history_of self.old.log.entries.items) }
-        requires held { IsHeld (checked_tree self.old.program.now) (history_of self.old.log.entries.items) self.old.table.limit self.old.table.parts.items self.old.weight }
-        requires legal { IsLegal (setting_of (checked_tree self.old.program.now)) (history_of self.old.log.entries.items) entry }
+        requires run { IsRun (setting self.old) (past self.old) }
+        requires held { Holds self.old }
+        requires legal { IsLegal (setting self.old) (past self.old) entry }
         requires no_stop { is_stop entry ≡ false }
         ensures program { self.new.program.now ≡ self.old.program.now }
         ensures made { self.new.made ≡ self.old.made }
-        ensures entered { OnOk result (history_of self.new.log.entries.items ≡ entry ∷ history_of self.old.log.entries.items) }
-        ensures held { OnOk result (IsHeld (checked_tree self.new.program.now) (history_of self.new.log.entries.items) self.new.table.limit self.new.table.parts.items self.new.weight) }
-        ensures same { OnErr result (history_of self.new.log.entries.items ≡ history_of self.old.log.entries.items) }
+        ensures entered { OnOk result (past self.new ≡ entry ∷ past self.old) }
+        ensures held { OnOk result (Holds self.new) }
+        ensures same { OnErr result (past self.new ≡ past self.old) }
         ensures stop { IfErr result (MayStop self.new) }
     {
         let weight = weight(&entry);
@@ -134,11 +132,11 @@ impl<'a> Going<'a> {
     // Enters an entry that makes nothing.
     fn pass(&mut self, alloc: Global, entry: Entry) -> Result<(), Stop>
         requires going { GoesOn self.old }
-        requires legal { IsLegal (setting_of (checked_tree self.old.program.now)) (history_of self.old.log.entries.items) entry }
+        requires legal { IsLegal (setting self.old) (past self.old) entry }
         requires moves { IsMove entry }
         ensures program { self.new.program.now ≡ self.old.program.now }
         ensures going { OnOk result (GoesOn self.new) }
-        ensures entered { OnOk result (history_of self.new.log.entries.items ≡ entry ∷ history_of self.old.log.entries.items) }
+        ensures entered { OnOk result (past self.new ≡ entry ∷ past self.old) }
         ensures stop { IfErr result (MayStop self.new) }
     {
         self.enter(alloc, entry)?;
@@ -148,13 +146,14 @@ impl<'a> Going<'a> {
     /// Answers the call that the running EDT makes next.
     pub fn answer(&mut self, alloc: Global, edt: Guid, call: &Call) -> Result<Answer, Stop>
         requires going { GoesOn self.old }
-        requires serving { IsServing (setting_of (checked_tree self.old.program.now)) (history_of self.old.log.entries.items) edt }
-        requires next { IsNext call.now (says_next (setting_of (checked_tree self.old.program.now)) (history_of self.old.log.entries.items) edt) }
+        requires serving { Serves self.old edt }
+        requires next { IsNext call.now (says_next (setting self.old) (past self.old) edt) }
         ensures program { self.new.program.now ≡ self.old.program.now }
-        ensures entered { IfOk result (λ a. history_of self.new.log.entries.items ≡ an.Call edt 0 call.now a [] ∷ history_of self.old.log.entries.items) }
+        ensures entered { IfOk result (λ a. past self.new ≡ an.Call edt 0 call.now a []
+            ∷ past self.old) }
         ensures going { OnOk result (GoesOn self.new) }
-        ensures serving { OnOk result (IsServing (setting_of (checked_tree self.new.program.now)) (history_of self.new.log.entries.items) edt) }
-        ensures same { OnErr result (history_of self.new.log.entries.items ≡ history_of self.old.log.entries.items) }
+        ensures serving { OnOk result (Serves self.new edt) }
+        ensures same { OnErr result (past self.new ≡ past self.old) }
         ensures stop { IfErr result (MayStop self.new) }
     {
         let code = self.table.decide(edt, call);
@@ -162,7 +161,7 @@ impl<'a> Going<'a> {
         if is_full(makes, self.made) {
             return Err(Stop::Objects);
         }
-        let Ok(call) = copied(alloc, call) else {
+        let Ok(call) = copied(call) else {
             return Err(Stop::Memory)
         };
         let value = number_of_new(makes, self.made);
@@ -174,12 +173,12 @@ impl<'a> Going<'a> {
     /// An EDT acquires what it needs and starts. The first one needs the argument block.
     pub fn wake(&mut self, alloc: Global, edt: Guid) -> Result<(), Stop>
         requires going { GoesOn self.old }
-        requires made { is_edt (history_of self.old.log.entries.items) edt ≡ true }
-        requires before { IsBefore (history_of self.old.log.entries.items) edt }
+        requires made { is_edt (past self.old) edt ≡ true }
+        requires before { IsBefore (past self.old) edt }
         ensures program { self.new.program.now ≡ self.old.program.now }
         ensures going { OnOk result (GoesOn self.new) }
-        ensures serving { OnOk result (IsServing (setting_of (checked_tree self.new.program.now)) (history_of self.new.log.entries.items) edt) }
-        ensures fresh { OnOk result (own (history_of self.new.log.entries.items) edt ≡ []) }
+        ensures serving { OnOk result (Serves self.new edt) }
+        ensures fresh { OnOk result (own (past self.new) edt ≡ []) }
         ensures stop { IfErr result (MayStop self.new) }
     {
         if edt == MAIN_EDT {
@@ -200,11 +199,11 @@ impl<'a> Going<'a> {
     /// An EDT whose body has ended gives back what it holds, and ends.
     pub fn finish(&mut self, alloc: Global, edt: Guid, returned: Guid) -> Result<(), Stop>
         requires going { GoesOn self.old }
-        requires serving { IsServing (setting_of (checked_tree self.old.program.now)) (history_of self.old.log.entries.items) edt }
-        requires ended { says_next (setting_of (checked_tree self.old.program.now)) (history_of self.old.log.entries.items) edt ≡ Ends returned }
+        requires serving { Serves self.old edt }
+        requires ended { says_next (setting self.old) (past self.old) edt ≡ Ends returned }
         ensures program { self.new.program.now ≡ self.old.program.now }
         ensures going { OnOk result (GoesOn self.new) }
-        ensures before { OnOk result (IsBefore (history_of self.new.log.entries.items) (edt + 1)) }
+        ensures before { OnOk result (IsBefore (past self.new) (edt + 1)) }
         ensures stop { IfErr result (MayStop self.new) }
     {
         if edt == MAIN_EDT {
@@ -235,35 +234,11 @@ fn core_in(part: &Part) -> Option<&Core>
     }
 }
 
-// Whether a call makes an object.
-fn is_creation(call: &Call) -> bool
-    ensures { result ≡ is_creation call.now }
-{
-    match call {
-        Call::DbCreate { .. }
-        | Call::EventCreate { .. }
-        | Call::EventCreateParams { .. }
-        | Call::TemplateCreate { .. }
-        | Call::EdtCreate { .. } => true,
-        Call::DbRelease { .. }
-        | Call::DbDestroy { .. }
-        | Call::EventDestroy { .. }
-        | Call::Satisfy { .. }
-        | Call::AddDependence { .. }
-        | Call::TemplateDestroy { .. }
-        | Call::Shutdown
-        | Call::Abort { .. }
-        | Call::Load { .. }
-        | Call::Store { .. }
-        | Call::Print { .. } => false,
-    }
-}
-
 // Whether a call with this code makes an object.
 fn makes_object(call: &Call, code: Code) -> bool
     ensures { result ≡ (is_creation call.now && is_done code) }
 {
-    if !is_creation(call) {
+    if !call.is_creation() {
         return false;
     }
     match code {
@@ -274,15 +249,15 @@ fn makes_object(call: &Call, code: Code) -> bool
 
 // Whether no number is left for an object that is to be made.
 fn is_full(makes: bool, made: u64) -> bool
-    ensures full { result ≡ true → (makes ≡ true) × (4096 ≤ made) }
-    ensures room { result ≡ false → makes ≡ true → made < 4096 }
+    ensures full { result ≡ true → (makes ≡ true) × (MOST_OBJECTS ≤ made) }
+    ensures room { result ≡ false → makes ≡ true → made < MOST_OBJECTS }
 {
-    makes && made >= LIMIT
+    makes && made >= MOST_OBJECTS
 }
 
 // The number of what is made, and 0 where nothing is.
 fn number_of_new(makes: bool, made: u64) -> u64
-    requires { makes ≡ true → made < 4096 }
+    requires { makes ≡ true → made < MOST_OBJECTS }
     ensures { result ≡ (if makes then made + 1 else 0) }
 {
     if makes { made + 1 } else { 0 }
@@ -290,7 +265,7 @@ fn number_of_new(makes: bool, made: u64) -> u64
 
 // How many objects are made then.
 fn count_after(makes: bool, made: u64) -> u64
-    requires { makes ≡ true → made < 4096 }
+    requires { makes ≡ true → made < MOST_OBJECTS }
     ensures { result ≡ (if makes then made + 1 else made) }
 {
     if makes { made + 1 } else { made }
@@ -321,56 +296,9 @@ fn call_entry(alloc: Global, edt: Guid, call: Call, answer: Answer) -> Entry
     }
 }
 
-// A copy of a call that is built.
-fn copied(alloc: Global, call: &Call) -> Result<Call, NoMemory>
-    requires { (functions : ℕ) × IsServed functions call.now }
+// A copy of a call.
+fn copied(call: &Call) -> Result<Call, NoMemory>
     ensures { IfOk result (λ copy. copy ≡ call.now) }
 {
-    match call {
-        Call::Print { value } => Ok(Call::Print { value: *value }),
-        Call::TemplateCreate {
-            function,
-            paramc,
-            depc,
-        } => Ok(Call::TemplateCreate {
-            function: *function,
-            paramc: *paramc,
-            depc: *depc,
-        }),
-        Call::EdtCreate {
-            template,
-            paramc,
-            params,
-            depc,
-            deps: _,
-            flags,
-            output,
-        } => {
-            let Ok(params) = Vec::from_slice(alloc, params.as_slice()) else {
-                return Err(NoMemory)
-            };
-            Ok(Call::EdtCreate {
-                template: *template,
-                paramc: *paramc,
-                params: Seq::from_vec(params),
-                depc: *depc,
-                deps: Seq::new(alloc),
-                flags: *flags,
-                output: *output,
-            })
-        }
-        Call::DbCreate { .. }
-        | Call::DbRelease { .. }
-        | Call::DbDestroy { .. }
-        | Call::EventCreate { .. }
-        | Call::EventCreateParams { .. }
-        | Call::EventDestroy { .. }
-        | Call::Satisfy { .. }
-        | Call::AddDependence { .. }
-        | Call::TemplateDestroy { .. }
-        | Call::Shutdown
-        | Call::Abort { .. }
-        | Call::Load { .. }
-        | Call::Store { .. } => unreachable!(),
-    }
+    Ok(call.clone()?)
 }

@@ -4,17 +4,17 @@ ghost use Rattle.ocr_text.specs.Tokens.{AreTokens};
 ghost use Rattle.ocr_tree.specs.View.{tree_of};
 ghost use Rattle.ocr_body.specs.Checked.{checked_tree};
 ghost use Rattle.ocr_grammar.specs.Lexing.{IsTreeOf};
-ghost use Rattle.ocr_run.specs.UnderWay.{IsRunnable};
 ghost use Rattle.ocr_run.specs.ProgramText.{IsProgramText, IsTextStop, TextLaw, most_bytes};
 
 use ocr_body::Checked;
-use ocr_tree::Program;
 use ocr_check::{CheckFault, CheckStop, check};
 use ocr_program::{ParseStop, SyntaxFault, parse};
 use ocr_text::{LexFault, Token, TokensStop, tokens};
+use ocr_tree::Program;
 use std::alloc::Global;
 
-/// The first thing that is wrong with a text that is no program (docs/SPECIFICATION.md, "The program").
+/// The first thing that is wrong with a text that is no program (docs/SPECIFICATION.md, "The
+/// program").
 #[derive(Clone, Copy, PartialEq, Eq, Debug)]
 pub enum TextFault {
     /// No token begins at this place, or a number that is no `u64`.
@@ -62,10 +62,8 @@ fn read(alloc: Global, bytes: &[u8], tokens: &[Token]) -> Result<Program, TextSt
 }
 
 /// The program that these bytes are, ready to be run; or the first thing that is wrong with them.
-#[tactic(auto, using(crate::proofs::Mains::main_within))]
 pub fn program_of(alloc: Global, bytes: &[u8]) -> Result<Checked, TextStop>
     requires { length bytes.now ≤ most_bytes }
-    ensures runnable { IfOk result (λ checked. IsRunnable (checked_tree checked)) }
     ensures program { IfOk result (λ checked. IsProgramText bytes.now (checked_tree checked)) }
     ensures stop { IfErr result (IsTextStop bytes.now) }
 {

@@ -20,7 +20,8 @@ use std::alloc::Global;
 /// The most bytes that a program has.
 const MOST_BYTES: usize = 1_048_576;
 
-/// How a call of the program came out: its exit status, and the journal of the run where one was made.
+/// How a call of the program came out: its exit status, and the journal of the run where one was
+/// made.
 #[derive(Drop)]
 pub struct Ended {
     pub status: u8,
@@ -39,7 +40,8 @@ fn are_run(words: &[String]) -> bool
 // Writes a line to `err`. A write that fails there changes nothing else.
 #[tactic(auto, using(crate::proofs::Told::told_whole, crate::proofs::Told::told_front))]
 fn tell<E: Sink>(err: &mut E, line: &[u8])
-    ensures { IsTold (E.taken err.old) (E.taken err.new) (Rose (E.failures err.old) (E.failures err.new)) line.now }
+    ensures { IsTold (E.taken err.old) (E.taken err.new)
+        (Rose (E.failures err.old) (E.failures err.new)) line.now }
 {
     let _ = write_all(err, line);
 }
@@ -52,7 +54,8 @@ fn refuse<E: Sink>(err: &mut E, status: u8, line: &[u8]) -> Ended
     ensures known { IsStatus result.status }
     ensures caused { IsCaused result.journal result.status }
     ensures journal { IsNone result.journal }
-    ensures told { IsTold (E.taken err.old) (E.taken err.new) (Rose (E.failures err.old) (E.failures err.new)) line.now }
+    ensures told { IsTold (E.taken err.old) (E.taken err.new)
+        (Rose (E.failures err.old) (E.failures err.new)) line.now }
 {
     tell(err, line);
     Ended {
@@ -67,7 +70,8 @@ fn refuse_text<E: Sink>(alloc: Global, err: &mut E, found: TextFault) -> Ended
     ensures known { IsStatus result.status }
     ensures caused { IsCaused result.journal result.status }
     ensures journal { IsNone result.journal }
-    ensures told { (line : List ℕ) × (IsTold (E.taken err.old) (E.taken err.new) (Rose (E.failures err.old) (E.failures err.new)) line
+    ensures told { (line : List ℕ) × (IsTold (E.taken err.old) (E.taken err.new)
+        (Rose (E.failures err.old) (E.failures err.new)) line
         × IsLine ⊥ (λ other. other ≡ found) result.journal result.status line) }
 {
     match line_of_fault(alloc, found) {
@@ -82,9 +86,11 @@ fn finish<O: Sink, E: Sink>(executed: Executed, out: &mut O, err: &mut E) -> End
     requires ending { ending_of (history_of executed.journal) ≡ executed.status }
     requires line { executed.line.items ≡ ending_line (history_of executed.journal) }
     ensures journal { result.journal ≡ Some executed.journal }
-    ensures written { IsWritten (O.taken out.old) (O.taken out.new) (Rose (O.failures out.old) (O.failures out.new))
+    ensures written { IsWritten (O.taken out.old) (O.taken out.new)
+        (Rose (O.failures out.old) (O.failures out.new))
         executed.text.items executed.status result.status }
-    ensures told { (line : List ℕ) × (IsTold (E.taken err.old) (E.taken err.new) (Rose (E.failures err.old) (E.failures err.new)) line
+    ensures told { (line : List ℕ) × (IsTold (E.taken err.old) (E.taken err.new)
+        (Rose (E.failures err.old) (E.failures err.new)) line
         × IsLine ⊥ (λ found. ⊥) result.journal result.status line) }
     ensures status { IsStatus result.status }
 {
@@ -120,13 +126,18 @@ fn answer<O: Sink, E: Sink>(alloc: Global, bytes: &[u8], out: &mut O, err: &mut 
     ensures accepted { (result.status ≢ 2) × (result.status ≢ 7) }
     ensures ran { IfSome result.journal (IsAnswered bytes.now (O.taken out.old) (O.taken out.new)
         (Rose (O.failures out.old) (O.failures out.new)) result.status) }
-    ensures unrun { IfNone result.journal (((result.status ≡ 3) ⊎ (result.status ≡ 9)) × Keeps (O.taken out.old) (O.taken out.new)) }
+    ensures unrun { IfNone result.journal
+        (((result.status ≡ 3) ⊎ (result.status ≡ 9)) × Keeps (O.taken out.old) (O.taken out.new)) }
     ensures caused { IsCaused result.journal result.status }
-    ensures no_program { result.status ≡ 3 → IsNone result.journal × ((found : TextFault) × IsNoProgram bytes.now found) }
+    ensures no_program { result.status ≡ 3
+        → IsNone result.journal × ((found : TextFault) × IsNoProgram bytes.now found) }
     ensures complete { (program : List FunctionTree) → IsProgramText bytes.now program
-        → (Rose (O.failures out.old) (O.failures out.new) → ⊥) → (result.status ≡ 9) ⊎ CameTo result.journal result.status }
-    ensures refused { (found : TextFault) → IsNoProgram bytes.now found → (result.status ≡ 3) ⊎ (result.status ≡ 9) }
-    ensures told { (line : List ℕ) × (IsTold (E.taken err.old) (E.taken err.new) (Rose (E.failures err.old) (E.failures err.new)) line
+        → (Rose (O.failures out.old) (O.failures out.new) → ⊥)
+        → (result.status ≡ 9) ⊎ CameTo result.journal result.status }
+    ensures refused { (found : TextFault) → IsNoProgram bytes.now found
+        → (result.status ≡ 3) ⊎ (result.status ≡ 9) }
+    ensures told { (line : List ℕ) × (IsTold (E.taken err.old) (E.taken err.new)
+        (Rose (E.failures err.old) (E.failures err.new)) line
         × IsLine ⊥ (IsNoProgram bytes.now) result.journal result.status line) }
     ensures write_fault { result.status ≡ 8 → Rose (O.failures out.old) (O.failures out.new) }
     ensures memory { result.status ≡ 9 → Keeps (O.taken out.old) (O.taken out.new) }
@@ -138,11 +149,12 @@ fn answer<O: Sink, E: Sink>(alloc: Global, bytes: &[u8], out: &mut O, err: &mut 
     }
 }
 
-/// The program: looks at the words, reads the input, runs the task program that it is, and writes what it prints.
+/// The program: looks at the words, reads the input, runs the task program that it is, and writes
+/// what it prints.
 ///
-/// The one word that is taken is `run`. The status is that of docs/SPECIFICATION.md, "The program", and the line that
-/// goes with it is written to `err`. The journal is given with each of the statuses 0, 5, 6, 8 and 10, may be given with
-/// 9, and is not given with 2, 3 and 7.
+/// The one word that is taken is `run`. The status is that of docs/SPECIFICATION.md, "The program",
+/// and the line that goes with it is written to `err`. The journal is given with each of the
+/// statuses 0, 5, 6, 8 and 10, may be given with 9, and is not given with 2, 3 and 7.
 pub fn ocr_main<S: Source, O: Sink, E: Sink>(
     alloc: Global,
     words: &[String],
@@ -150,11 +162,13 @@ pub fn ocr_main<S: Source, O: Sink, E: Sink>(
     out: &mut O,
     err: &mut E,
 ) -> Ended
-    // The headline: all bytes of the source are a program, the journal is a run of it that came to its end and kept the
-    // limits, and the bytes written are the journal's output.
-    ensures headline { IfSome result.journal (IsHeadline (S.left input.old) (S.left input.new) (O.taken out.old) (O.taken out.new)
+    // The headline: all bytes of the source are a program, the journal is a run of it that came to
+    // its end and kept the limits, and the bytes written are the journal's output.
+    ensures headline { IfSome result.journal
+        (IsHeadline (S.left input.old) (S.left input.new) (O.taken out.old) (O.taken out.new)
         (Rose (O.failures out.old) (O.failures out.new)) result.status) }
-    ensures given { (result.status ≡ 0) ⊎ (result.status ≡ 5) ⊎ (result.status ≡ 6) ⊎ (result.status ≡ 8) ⊎ (result.status ≡ 10) → IsSome result.journal }
+    ensures given { (result.status ≡ 0) ⊎ (result.status ≡ 5) ⊎ (result.status ≡ 6)
+        ⊎ (result.status ≡ 8) ⊎ (result.status ≡ 10) → IsSome result.journal }
     ensures silent { IfNone result.journal (Keeps (O.taken out.old) (O.taken out.new)) }
 
     // Each status has its cause.
@@ -167,21 +181,28 @@ pub fn ocr_main<S: Source, O: Sink, E: Sink>(
         ⊎ ((found : TextFault) × IsNotBuilt (S.left input.old) (S.left input.new) found)) }
     ensures too_big { S.given input.old + (most_bytes + 1) < 2 ^ 64
         → S.given input.new ≡ S.given input.old + (most_bytes + 1) → result.status ≡ 3 }
-    ensures read_fault { result.status ≡ 7 → IsNone result.journal × Rose (S.failures input.old) (S.failures input.new) }
+    ensures read_fault { result.status ≡ 7
+        → IsNone result.journal × Rose (S.failures input.old) (S.failures input.new) }
     ensures write_fault { result.status ≡ 8 → Rose (O.failures out.old) (O.failures out.new) }
     ensures memory { result.status ≡ 9 → Keeps (O.taken out.old) (O.taken out.new) }
 
-    // Where no read and no write failed, a program is run to its end, and other bytes are refused, but for want of memory.
-    ensures complete { (bytes : List ℕ) (program : List FunctionTree) → AreRun (map (λ w. string_bytes w) words.now)
+    // Where no read and no write failed, a program is run to its end, and other bytes are refused,
+    // but for want of memory.
+    ensures complete { (bytes : List ℕ) (program : List FunctionTree)
+        → AreRun (map (λ w. string_bytes w) words.now)
         → S.left input.old ≡ Some bytes → IsProgramText bytes program
-        → (Rose (S.failures input.old) (S.failures input.new) → ⊥) → (Rose (O.failures out.old) (O.failures out.new) → ⊥)
+        → (Rose (S.failures input.old) (S.failures input.new) → ⊥)
+        → (Rose (O.failures out.old) (O.failures out.new) → ⊥)
         → (result.status ≡ 9) ⊎ CameTo result.journal result.status }
     ensures refused { (bytes : List ℕ) → AreRun (map (λ w. string_bytes w) words.now)
         → S.left input.old ≡ Some bytes → IsRefusedText bytes
-        → (Rose (S.failures input.old) (S.failures input.new) → ⊥) → (result.status ≡ 3) ⊎ (result.status ≡ 9) }
+        → (Rose (S.failures input.old) (S.failures input.new) → ⊥)
+        → (result.status ≡ 3) ⊎ (result.status ≡ 9) }
 
-    ensures told { (line : List ℕ) × (IsTold (E.taken err.old) (E.taken err.new) (Rose (E.failures err.old) (E.failures err.new)) line
-        × IsLine (IsTooBig (S.left input.old) (S.left input.new) (S.given input.old) (S.given input.new))
+    ensures told { (line : List ℕ) × (IsTold (E.taken err.old) (E.taken err.new)
+        (Rose (E.failures err.old) (E.failures err.new)) line
+        × IsLine (IsTooBig (S.left input.old) (S.left input.new) (S.given input.old)
+        (S.given input.new))
         (IsNotBuilt (S.left input.old) (S.left input.new)) result.journal result.status line) }
 {
     if !are_run(words) {

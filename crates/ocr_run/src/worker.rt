@@ -7,23 +7,22 @@ ghost use Rattle.ocr_machine.specs.History.{history_of, own};
 ghost use Rattle.ocr_machine.specs.Edts.{says_next};
 ghost use Rattle.ocr_machine.specs.Made.{is_edt};
 ghost use Rattle.ocr_machine.specs.Legal.{IsRun};
-ghost use Rattle.ocr_run.specs.Going.{IsBefore, IsServing, stop_for};
+ghost use Rattle.ocr_machine.specs.declared.limits.TheConstants.{MOST_OBJECTS};
+ghost use Rattle.ocr_run.specs.Going.{IsBefore, stop_for};
 ghost use Rattle.ocr_run.specs.Lines.{end_of, end_status};
 ghost use Rattle.ocr_run.specs.Limits.{IsLimited};
-ghost use Rattle.ocr_run.specs.Serving.{GoesOn, MayStop};
-ghost use Rattle.ocr_run.specs.UnderWay.{setting_of, IsMet, IsRunnable, IsFinished};
+ghost use Rattle.ocr_run.specs.Serving.{GoesOn, MayStop, Serves, past, setting};
+ghost use Rattle.ocr_run.specs.UnderWay.{setting_of, IsMet, IsFinished};
 
 use crate::desk::Desk;
 use crate::ending::Ending;
-use crate::going::{ARGUMENTS, Going, LIMIT, MAIN_EDT};
+use crate::going::{ARGUMENTS, Going, MAIN_EDT};
 use crate::log::Log;
-use ocr_body::{BodyStop, Checked, walk};
 use ocr_base::NoMemory;
+use ocr_body::{BodyStop, Checked, FUEL, walk};
 use ocr_guid::Guid;
-use ocr_machine::{Entry, Fault, Journal, Stop};
+use ocr_machine::{Entry, Fault, Journal, MOST_OBJECTS, Stop};
 use std::alloc::Global;
-
-const FUEL: u64 = 1_000_000;
 
 /// A run that came to its end: its journal, and how it ended.
 #[derive(Drop)]
@@ -32,13 +31,15 @@ pub struct Done {
     pub ending: Ending,
 }
 
-/// Runs a program with one worker: each EDT in the order in which they were made. Where memory is refused in the run,
-/// the journal ends with the Stop Memory.
+/// Runs a program with one worker: each EDT in the order in which they were made. Where memory is
+/// refused in the run, the journal ends with the Stop Memory.
 pub fn run(alloc: Global, program: &Checked) -> Result<Done, NoMemory>
-    requires { IsRunnable (checked_tree program.now) }
-    ensures run { IfOk result (λ done. IsRun (setting_of (checked_tree program.now)) (history_of done.journal)) }
-    ensures finished { IfOk result (λ done. IsFinished (setting_of (checked_tree program.now)) (history_of done.journal)) }
-    ensures limits { IfOk result (λ done. IsLimited (setting_of (checked_tree program.now)) (history_of done.journal)) }
+    ensures run { IfOk result (λ done. IsRun (setting_of (checked_tree program.now))
+        (history_of done.journal)) }
+    ensures finished { IfOk result (λ done. IsFinished (setting_of (checked_tree program.now))
+        (history_of done.journal)) }
+    ensures limits { IfOk result (λ done. IsLimited (setting_of (checked_tree program.now))
+        (history_of done.journal)) }
     ensures ending { IfOk result (λ done. done.ending ≡ end_of (history_of done.journal)) }
     ensures met { IfOk result (λ done. IsMet (end_status done.ending)) }
 {
@@ -99,10 +100,10 @@ fn run_all(desk: &mut Desk) -> Result<(), Stop>
     requires unclosed { desk.old.closings ≡ 0 }
     ensures program { desk.new.going.program.now ≡ desk.old.going.program.now }
     ensures going { OnOk result (GoesOn desk.new.going) }
-    ensures before { OnOk result (IsBefore (history_of desk.new.going.log.entries.items) 4097) }
+    ensures before { OnOk result (IsBefore (past desk.new.going) (MOST_OBJECTS + 1)) }
     ensures stop { IfErr result (MayStop desk.new.going) }
 {
-    for edt in 2..LIMIT + 1 {
+    for edt in 2..MOST_OBJECTS + 1 {
         if desk.going.is_edt(Guid(edt)) {
             run_edt(desk, Guid(edt))?;
         }
@@ -113,13 +114,13 @@ fn run_all(desk: &mut Desk) -> Result<(), Stop>
 // Runs one EDT, from its waking to its end.
 fn run_edt(desk: &mut Desk, edt: Guid) -> Result<(), Stop>
     requires going { GoesOn desk.old.going }
-    requires made { is_edt (history_of desk.old.going.log.entries.items) edt ≡ true }
-    requires before { IsBefore (history_of desk.old.going.log.entries.items) edt }
+    requires made { is_edt (past desk.old.going) edt ≡ true }
+    requires before { IsBefore (past desk.old.going) edt }
     requires open_run { desk.old.stop ≡ None }
     requires unclosed { desk.old.closings ≡ 0 }
     ensures program { desk.new.going.program.now ≡ desk.old.going.program.now }
     ensures going { OnOk result (GoesOn desk.new.going) }
-    ensures before { OnOk result (IsBefore (history_of desk.new.going.log.entries.items) (edt + 1)) }
+    ensures before { OnOk result (IsBefore (past desk.new.going) (edt + 1)) }
     ensures open_run { OnOk result (desk.new.stop ≡ None) }
     ensures unclosed { OnOk result (desk.new.closings ≡ 0) }
     ensures stop { IfErr result (MayStop desk.new.going) }
@@ -132,14 +133,15 @@ fn run_edt(desk: &mut Desk, edt: Guid) -> Result<(), Stop>
 // Runs the body of an EDT.
 fn run_body(desk: &mut Desk, edt: Guid) -> Result<Guid, Stop>
     requires going { GoesOn desk.old.going }
-    requires serving { IsServing (setting_of (checked_tree desk.old.going.program.now)) (history_of desk.old.going.log.entries.items) edt }
-    requires fresh { own (history_of desk.old.going.log.entries.items) edt ≡ [] }
+    requires serving { Serves desk.old.going edt }
+    requires fresh { own (past desk.old.going) edt ≡ [] }
     requires open_run { desk.old.stop ≡ None }
     requires unclosed { desk.old.closings ≡ 0 }
     ensures program { desk.new.going.program.now ≡ desk.old.going.program.now }
     ensures going { OnOk result (GoesOn desk.new.going) }
-    ensures serving { OnOk result (IsServing (setting_of (checked_tree desk.new.going.program.now)) (history_of desk.new.going.log.entries.items) edt) }
-    ensures ended { IfOk result (λ g. says_next (setting_of (checked_tree desk.new.going.program.now)) (history_of desk.new.going.log.entries.items) edt ≡ Ends g) }
+    ensures serving { OnOk result (Serves desk.new.going edt) }
+    ensures ended { IfOk result (λ g. says_next (setting desk.new.going) (past desk.new.going) edt
+        ≡ Ends g) }
     ensures open_run { OnOk result (desk.new.stop ≡ None) }
     ensures unclosed { OnOk result (desk.new.closings ≡ 0) }
     ensures stop { IfErr result (MayStop desk.new.going) }

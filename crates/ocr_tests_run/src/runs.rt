@@ -1,6 +1,7 @@
 // Programs, from the bytes in to the bytes out.
 ghost use Rattle.std.specs.Prelude.{◌<◌};
 
+use crate::examples::EXAMPLES;
 use ocr_io::{MemorySink, MemorySource};
 use ocr_run::{Ended, ocr_main};
 use std::alloc::Global;
@@ -141,6 +142,16 @@ fn runs_have_their_statuses_and_lines(rt: HostRuntime) -> Result<(), Fail> {
         assert_eq!(rt; done.out.bytes(), out);
         assert_eq!(rt; done.err.bytes(), err);
         assert!(rt; done.ended.journal.is_some());
+    }
+    Ok(())
+}
+
+#[test]
+fn examples_write_what_stands_beside_them(rt: HostRuntime) -> Result<(), Fail> {
+    for (text, out, status) in EXAMPLES {
+        let done = run(rt.alloc(), text, NO_FAULTS)?;
+        assert_eq!(rt; done.ended.status, status);
+        assert_eq!(rt; done.out.bytes(), out);
     }
     Ok(())
 }

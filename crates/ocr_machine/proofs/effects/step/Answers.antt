@@ -5,7 +5,7 @@ use Rattle.ocr_guid.specs.declared.Code.TheVariants as code
 use Rattle.ocr_machine.specs.Footprint.{footprint_of}
 use Rattle.ocr_machine.specs.LegalOn.{IsCallOn}
 use Rattle.ocr_machine.specs.Made.{is_done}
-use Rattle.ocr_machine.specs.Table.{parts_in}
+use Rattle.ocr_machine.specs.Taken.{parts_in}
 use Rattle.ocr_machine.proofs.Footprints.{new_here}
 use Rattle.ocr_machine.proofs.effects.step.Goals as goal
 

@@ -7,7 +7,8 @@ use Rattle.ocr_body.specs.Serving.{StoppedBy}
 use Rattle.ocr_machine.specs.declared.entry.Entry.{Entry}
 use Rattle.ocr_body.specs.declared.call.BodyStop.TheVariants as stop
 use Rattle.ocr_replay.specs.declared.linking.Links.{Links}
-use Rattle.ocr_replay.specs.Judging.{at_place, body_with, IsJudging, IsStuck}
+use Rattle.ocr_replay.specs.Judging.{at_place, IsJudging, IsStuck}
+use Rattle.ocr_machine.specs.Edts.{body_with}
 use Rattle.ocr_replay.specs.Linking.{IsFollowing}
 use Rattle.ocr_replay.proofs.Steps.{moved, ends_at_once, closed_stuck, stopped_says}
 use Rattle.ocr_replay.proofs.Nexts.{following_here, ended_by_next, stuck_by_next}

@@ -5,7 +5,7 @@ use Rattle.ocr_machine.specs.declared.entry.Entry.TheVariants.{Start}
 use Rattle.ocr_machine.specs.History.{Setting}
 use Rattle.ocr_machine.specs.Legal.{is_stop}
 use Rattle.ocr_machine.specs.LegalOn.{IsLegalOn}
-use Rattle.ocr_machine.specs.Whole.{all_parts}
+use Rattle.ocr_machine.specs.Table.{all_parts}
 use Rattle.ocr_replay.specs.Replaying.{setting_of, agrees}
 use Rattle.ocr_replay.proofs.Playing.{unlent_now, legal_at, not_said, next_other, next_start, fresh_at, entry_is, start_within}
 use Rattle.ocr_replay.proofs.Nexts.{following_start}

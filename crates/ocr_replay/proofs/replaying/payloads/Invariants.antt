@@ -1,5 +1,5 @@
 use Rattle.std.proofs.Common.{◌≡◌, ◌++◌, drop}
-use Rattle.ocr_replay.specs.Replaying.{payloads_in}
+use Rattle.ocr_machine.specs.Bodies.{payloads_in}
 use Rattle.ocr_replay.proofs.replaying.payloads.Given as goal
 
 abbrev pub invariant-loop-k : goal.invariant-loop-k

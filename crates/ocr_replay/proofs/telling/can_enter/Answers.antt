@@ -1,6 +1,6 @@
 use Rattle.std.proofs.Common.{◌≡◌, ◌||◌, ◌∙◌, refl, sym, true, false}
 use Rattle.ocr_machine.specs.Parts.{Parts}
-use Rattle.ocr_machine.specs.Whole.{all_parts}
+use Rattle.ocr_machine.specs.Table.{all_parts}
 use Rattle.ocr_replay.specs.Stopping.{is_enterable, is_print}
 use Rattle.ocr_replay.proofs.Entering.{by_room, by_refusal, no_room}
 use Rattle.ocr_replay.proofs.Steps.{not_true, not_false}

@@ -1,6 +1,6 @@
 use Rattle.std.proofs.Common.{◌<◌, ℕ}
 use Rattle.ocr_machine.specs.LegalOn.{IsFresh}
-use Rattle.ocr_machine.specs.Whole.{all_parts}
+use Rattle.ocr_machine.specs.Table.{all_parts}
 use Rattle.ocr_replay.proofs.telling.fresh_number.Given as goal
 
 abbrev pub invariant-loop-number : goal.invariant-loop-number

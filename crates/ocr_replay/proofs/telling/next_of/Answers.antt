@@ -5,12 +5,13 @@ use Rattle.ocr_body.specs.Body.{Body}
 use Rattle.ocr_base.specs.Count.{Rose}
 use Rattle.ocr_body.specs.Serving.{StoppedBy}
 use Rattle.ocr_machine.specs.declared.entry.Entry.{Entry}
-use Rattle.ocr_machine.specs.declared.whole.Table.{Table}
-use Rattle.ocr_machine.specs.Whole.{all_parts}
+use Rattle.ocr_machine.specs.declared.table.Table.{Table}
+use Rattle.ocr_machine.specs.Table.{all_parts}
 use Rattle.ocr_replay.specs.declared.judging.Ending.TheVariants as ending
 use Rattle.ocr_replay.specs.declared.linking.Links.{Links}
 use Rattle.ocr_replay.specs.declared.telling.Next.{Next}
-use Rattle.ocr_replay.specs.Judging.{at_place, body_with}
+use Rattle.ocr_replay.specs.Judging.{at_place}
+use Rattle.ocr_machine.specs.Edts.{body_with}
 use Rattle.ocr_replay.specs.Linking.{IsFollowing}
 use Rattle.ocr_replay.specs.Stopping.{IsTelling}
 use Rattle.ocr_replay.proofs.Steps.{moved, ends_at_once}

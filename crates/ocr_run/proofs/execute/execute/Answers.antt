@@ -3,7 +3,7 @@ use Rattle.ocr_body.specs.Checked.{checked_tree}
 use Rattle.ocr_machine.specs.declared.entry.Entry.{Entry}
 use Rattle.ocr_machine.specs.History.{history_of}
 use Rattle.ocr_machine.specs.Output.{printed}
-use Rattle.ocr_machine.proofs.Going.{quiet_law}
+use Rattle.ocr_machine.proofs.Going.{set_law, quiet_law}
 use Rattle.ocr_machine.proofs.Told.{start_law}
 use Rattle.ocr_run.specs.declared.ending.Ending.{Ending}
 use Rattle.ocr_run.specs.Lines.{end_status}
@@ -21,6 +21,7 @@ returns-clause-ran c =
       run = c.in-Ok.ensures.run;
       finished = c.in-Ok.ensures.finished;
       once = start_law (setting_of program) past c.in-Ok.ensures.run;
+      set = set_law (setting_of program) past c.in-Ok.ensures.run;
       left = λ quiet. quiet_law (setting_of program) past quiet c.in-Ok.ensures.run;
       limited = c.in-Ok.ensures.limits;
       output = c.in-Ok-output.ensures ∙ ap (λ (j : List Entry). printed (history_of j)) c.entries.ensures;

@@ -1,11 +1,22 @@
-use Rattle.std.proofs.Common.{sym, subst, List}
+use Rattle.std.proofs.Common.{◌≤◌, length, arith, sym, subst, List}
 use Rattle.ocr_text.specs.Tokens.{AreTokens}
 use Rattle.ocr_tree.specs.Tree.{FunctionTree}
 use Rattle.ocr_tree.specs.View.{tree_of}
 use Rattle.ocr_grammar.specs.Lexing.{IsTreeOf}
+use Rattle.ocr_grammar.proofs.Sizes.{size_law}
 use Rattle.ocr_check.specs.Check.{BreaksNoRule}
 use Rattle.ocr_run.specs.ProgramText.{breaks_rule}
 use Rattle.ocr_run.proofs.text.program_of.Goals as goal
+
+pub check-requires : goal.check-requires
+check-requires c =
+    let bytes = c.args.bytes.now in
+    let tokens = c.deref.result.now in
+    let program = tree_of c.in_ok-program.program in
+    let are : AreTokens bytes tokens = subst (AreTokens bytes) (sym c.deref.ensures.value) c.in_ok-tokens.ensures.tokens in
+    let few : length program ≤ length bytes = size_law bytes tokens program are c.in_ok-program.ensures.tree in
+    let small : length bytes ≤ 1048576 = c.requires in
+    omega (arith, few, small)
 
 pub returns-in-Ok-clause-program : goal.returns-in-Ok-clause-program
 returns-in-Ok-clause-program c =

@@ -1,5 +1,5 @@
-use Rattle.std.proofs.Common.{◌≡◌, Err, ap, inr, sym, ◌∙◌, codes, subst, ℕ, List}
-use Rattle.ocr_run.specs.ProgramText.{IsNoProgram, IsProgramText}
+use Rattle.std.proofs.Common.{◌≡◌, ◌≤◌, length, Err, ap, inr, sym, ◌∙◌, codes, subst, ℕ, List}
+use Rattle.ocr_run.specs.ProgramText.{IsNoProgram, IsProgramText, most_bytes}
 use Rattle.ocr_run.specs.Headline.{IsAllOf, words_refused, text_too_big, read_fault, want_of_memory}
 use Rattle.ocr_run.proofs.Told.{weaker_line, line_at, all_of, told_bytes}
 use Rattle.ocr_run.proofs.top.ocr_main.Goals as goal
@@ -13,16 +13,18 @@ returns-in-Ok-clause-no_program g c = λ is.
     let old = g.S.Source.left c.args.input.now in
     let all : IsAllOf old (g.S.Source.left c.read_all.new.source) c.deref.result.now =
     subst (IsAllOf old (g.S.Source.left c.read_all.new.source)) (sym c.deref.ensures.value) (all_of old (g.S.Source.left c.read_all.new.source) c.in-Ok.bytes.items c.in-Ok.ensures.whole c.in-Ok.ensures.end) in
+    let size : length c.deref.result.now ≤ most_bytes = rw c.deref.ensures.value c.in-Ok.ensures.most in
     let a = c.answer.ensures.no_program is in
-    (a.0, inr (a.1.0, record { bytes = c.deref.result.now; read = all; no_program = a.1.1 }))
+    (a.0, inr (a.1.0, record { bytes = c.deref.result.now; read = all; size = size; no_program = a.1.1 }))
 
 pub returns-in-Ok-clause-told : goal.returns-in-Ok-clause-told
 returns-in-Ok-clause-told g c =
     let old = g.S.Source.left c.args.input.now in
     let all : IsAllOf old (g.S.Source.left c.read_all.new.source) c.deref.result.now =
     subst (IsAllOf old (g.S.Source.left c.read_all.new.source)) (sym c.deref.ensures.value) (all_of old (g.S.Source.left c.read_all.new.source) c.in-Ok.bytes.items c.in-Ok.ensures.whole c.in-Ok.ensures.end) in
+    let size : length c.deref.result.now ≤ most_bytes = rw c.deref.ensures.value c.in-Ok.ensures.most in
     let t = c.answer.ensures.told in
-    (t.0, (t.1.0, weaker_line ⊥ _ (IsNoProgram c.deref.result.now) _ c.answer.result.journal c.answer.result.status t.0 (λ a. absurd a) (λ found none. record { bytes = c.deref.result.now; read = all; no_program = none }) t.1.1))
+    (t.0, (t.1.0, weaker_line ⊥ _ (IsNoProgram c.deref.result.now) _ c.answer.result.journal c.answer.result.status t.0 (λ a. absurd a) (λ found none. record { bytes = c.deref.result.now; read = all; size = size; no_program = none }) t.1.1))
 
 pub returns-in-Ok-clause-complete : goal.returns-in-Ok-clause-complete
 returns-in-Ok-clause-complete g c = λ bytes program words told is reads writes.

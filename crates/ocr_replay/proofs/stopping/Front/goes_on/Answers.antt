@@ -1,5 +1,5 @@
 use Rattle.std.proofs.Common.{◌≡◌, ◌&&◌, true, false, is_some, sym, ◌∙◌, subst}
-use Rattle.ocr_machine.specs.Effects.{progress_on}
+use Rattle.ocr_machine.specs.Progress.{progress_on}
 use Rattle.ocr_machine.specs.LegalOn.{is_set}
 use Rattle.ocr_replay.specs.Judging.{Whether}
 use Rattle.ocr_replay.specs.Stopping.{GoesOn, setting_in, past_in, parts_in}

@@ -1,4 +1,4 @@
-use Rattle.std.proofs.Common.{◌+◌, ◌∷◌, [], ◌&&◌, ℕ, length, if◌then◌else◌, refl, sym, ◌∙◌, ap, subst}
+use Rattle.std.proofs.Common.{◌+◌, ◌∷◌, [], ◌&&◌, ℕ, if◌then◌else◌, refl, sym, ◌∙◌, ap, subst}
 use Rattle.ocr_body.specs.Checked.{checked_tree}
 use Rattle.ocr_body.specs.declared.call.Answer.{Answer}
 use Rattle.ocr_machine.specs.declared.entry.Entry.{Entry}
@@ -7,9 +7,10 @@ use Rattle.ocr_machine.specs.Made.{is_done}
 use Rattle.ocr_machine.specs.History.{history_of}
 use Rattle.ocr_machine.specs.Codes.{code_of}
 use Rattle.ocr_machine.specs.Parts.{Parts}
-use Rattle.ocr_machine.specs.Legal.{IsLegal, is_creation}
+use Rattle.ocr_machine.specs.Legal.{IsLegal}
+use Rattle.ocr_body.specs.Call.{is_creation}
 use Rattle.ocr_run.specs.UnderWay.{setting_of}
-use Rattle.ocr_run.proofs.Goings.{IsAnswerOf, asks_served, memory_stop}
+use Rattle.ocr_run.proofs.Goings.{IsAnswerOf, memory_stop}
 use Rattle.ocr_run.proofs.Served.{within_of, full_stop, answer_legal, answer_going, answer_serving}
 use Rattle.ocr_run.proofs.going.Going.answer.Goals as goal
 
@@ -22,11 +23,6 @@ returns-then-is_full-clause-stop c =
     (within_of program past c.args.self.now.table.limit c.args.self.now.table.parts.items c.args.self.now.weight c.requires.going.1)
     c.requires.serving c.requires.next c.makes_object-makes.ensures full.0 full.1
     (c.decide-code.ensures ∙ ap (λ (f : Parts). code_of f.face c.args.call.now) c.requires.going.1.parts)
-
-pub copied-requires : goal.copied-requires
-copied-requires c =
-    let program = checked_tree c.args.self.now.program.now in
-    (length program, asks_served program (history_of c.args.self.now.log.entries.items) c.args.edt c.args.call.now c.requires.going.0.runnable c.requires.next)
 
 pub returns-in_default-clause-stop : goal.returns-in_default-clause-stop
 returns-in_default-clause-stop c =

@@ -4,8 +4,8 @@ use Rattle.ocr_machine.specs.History.{history_of}
 use Rattle.ocr_machine.specs.Made.{is_edt}
 use Rattle.ocr_machine.specs.Laws.{is_core}
 use Rattle.ocr_machine.specs.Parts.{parts_of}
-use Rattle.ocr_machine.specs.Table.{as_core}
-use Rattle.ocr_machine.specs.Whole.{core_at}
+use Rattle.ocr_machine.specs.Taken.{as_core}
+use Rattle.ocr_machine.specs.Table.{core_at}
 use Rattle.ocr_machine.specs.declared.part.Part.TheVariants as part
 use Rattle.ocr_run.specs.UnderWay.{setting_of}
 use Rattle.ocr_run.proofs.Openings.{core_known, no_edt, some_map, none_map}

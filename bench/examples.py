@@ -1,0 +1,51 @@
+#!/usr/bin/env python3
+"""Takes the programs of examples/ into the tests of crates/ocr_tests_run, each with its output and its status.
+
+usage: bench/examples.py            writes crates/ocr_tests_run/src/examples.rt
+       bench/examples.py --check    fails where that file is not what it would write
+
+NAME.ocr is a program, NAME.stdout what it must write, worked out by hand, and NAME.status its status where it is not 0.
+"""
+import pathlib
+import sys
+
+TOP = pathlib.Path(__file__).resolve().parent.parent
+TESTS = TOP / "crates/ocr_tests_run/src/examples.rt"
+HEAD = """// The programs of examples/, each with what it writes and its status: bench/examples.py writes this table.
+
+/// A program's text, its output and its status.
+pub type Example = (&'static [u8], &'static [u8], u8);
+
+"""
+
+
+def literal(text):
+    text = text.replace("\\", "\\\\").replace('"', '\\"')
+    return 'b"' + text + '"'
+
+
+def table():
+    names, items = [], []
+    for path in sorted((TOP / "examples").glob("*.ocr")):
+        name = path.stem.upper()
+        status = path.with_suffix(".status")
+        code = int(status.read_text()) if status.exists() else 0
+        output = path.with_suffix(".stdout").read_text()
+        names.append(name)
+        items.append(f"const {name}: &[u8] = {literal(path.read_text())};\n")
+        items.append(f"const {name}_OUT: &[u8] = {literal(output)};\n")
+        items.append(f"const {name}_STATUS: u8 = {code};\n")
+    rows = "".join(f"    ({n}, {n}_OUT, {n}_STATUS),\n" for n in names)
+    return HEAD + "\n".join(items) + f"\npub const EXAMPLES: [Example; {len(names)}] = [\n{rows}];\n"
+
+
+def main():
+    wanted = table()
+    if sys.argv[1:] == ["--check"]:
+        if TESTS.read_text() != wanted:
+            sys.exit("examples: crates/ocr_tests_run/src/examples.rt is not that of examples/")
+        return
+    TESTS.write_text(wanted)
+
+
+main()
