@@ -1,0 +1,5 @@
+pub mod Steps
+pub mod Passes
+pub mod Owners
+pub mod Wholes
+pub mod Columns

@@ -1,0 +1,5 @@
+pub mod Deque
+pub mod Parts
+pub mod Rest
+pub mod Hand
+pub mod Pool

@@ -1,0 +1,15 @@
+//! The deques of ready EDTs: each worker has a hand with a deque of its own, takes from it, and
+//! steals from those of the others.
+#![tactic(auto)]
+
+mod account;
+mod hand;
+mod making;
+mod moves;
+mod pool;
+mod remainder;
+
+pub use account::Account;
+pub use hand::{Hand, Steal};
+pub use pool::Pool;
+pub use remainder::gather;
