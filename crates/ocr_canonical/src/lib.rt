@@ -8,7 +8,6 @@ ghost use Rattle.ocr_canonical.specs.RoundTrip.{IsTextOf};
 
 mod expression;
 mod statement;
-mod words;
 
 use ocr_tree::Program;
 use ocr_base::NoMemory;
@@ -23,8 +22,6 @@ pub fn print_program(alloc: Global, program: &Program) -> Result<Vec<u8>, NoMemo
         (given : List ℕ) → IsTextOf given (tree_of program.now) → IsTextOf text.items (tree_of program.now)) }
 {
     let mut text = Vec::new(alloc);
-    match statement::functions(alloc, &mut text, program) {
-        Ok(()) => Ok(text),
-        Err(_) => Err(NoMemory),
-    }
+    statement::functions(alloc, &mut text, program)?;
+    Ok(text)
 }

@@ -68,21 +68,7 @@ quiet-list kind k es q = record { lets = λ past. q.lets (check.ListClosed kind 
 
 quiet-naming : (call : CallName) (y : List ℕ) (es : List Event) → IsQuiet es → IsQuiet (naming call y ∷ es)
 quiet-naming name.TemplateCreate y es q = quiet-function y es q
-quiet-naming name.DbCreate y es q = quiet-used y es q
-quiet-naming name.DbRelease y es q = quiet-used y es q
-quiet-naming name.DbDestroy y es q = quiet-used y es q
-quiet-naming name.EventCreate y es q = quiet-used y es q
-quiet-naming name.EventCreateParams y es q = quiet-used y es q
-quiet-naming name.EventDestroy y es q = quiet-used y es q
-quiet-naming name.Satisfy y es q = quiet-used y es q
-quiet-naming name.SatisfySlot y es q = quiet-used y es q
-quiet-naming name.AddDependence y es q = quiet-used y es q
-quiet-naming name.TemplateDestroy y es q = quiet-used y es q
-quiet-naming name.EdtCreate y es q = quiet-used y es q
-quiet-naming name.Shutdown y es q = quiet-used y es q
-quiet-naming name.Abort y es q = quiet-used y es q
-quiet-naming name.Load y es q = quiet-used y es q
-quiet-naming name.Store y es q = quiet-used y es q
+quiet-naming other y es q = quiet-used y es q
 
 mutual
   pub quiet-expression : (e : Expression) → IsQuiet (events_of_expression e)
@@ -117,21 +103,7 @@ declared_of past x = is_declared 0 x past
 naming_rule : (names : List (List ℕ)) (past : List Event) (call : CallName) (y : List ℕ)
     → rule_broken names past (naming call y) ≡ event_rule (known_of names) (declared_of past) (naming call y)
 naming_rule names past name.TemplateCreate y = refl
-naming_rule names past name.DbCreate y = refl
-naming_rule names past name.DbRelease y = refl
-naming_rule names past name.DbDestroy y = refl
-naming_rule names past name.EventCreate y = refl
-naming_rule names past name.EventCreateParams y = refl
-naming_rule names past name.EventDestroy y = refl
-naming_rule names past name.Satisfy y = refl
-naming_rule names past name.SatisfySlot y = refl
-naming_rule names past name.AddDependence y = refl
-naming_rule names past name.TemplateDestroy y = refl
-naming_rule names past name.EdtCreate y = refl
-naming_rule names past name.Shutdown y = refl
-naming_rule names past name.Abort y = refl
-naming_rule names past name.Load y = refl
-naming_rule names past name.Store y = refl
+naming_rule names past other y = refl
 
 -- quiet events leave the same variables declared
 still : (past events : List Event) → IsQuiet events → declared_of (onto past events) ≡ declared_of past

@@ -1,3 +1,4 @@
+pub mod Arguments
 pub mod Built
 pub mod Events
 pub mod First
@@ -5,8 +6,6 @@ pub mod Judging
 pub mod Names
 pub mod Parts
 pub mod Plain
-pub mod Rows
-pub mod Blocks
 pub mod Outcomes
 pub mod Programs
 pub mod Stops

@@ -11,7 +11,7 @@ use Rattle.ocr_tree.specs.declared.tree.Expr.{Expr}
 use Rattle.ocr_tree.specs.declared.tree.Stmt.{Stmt}
 use Rattle.ocr_tree.specs.declared.tree.Stmt.TheViews as views
 use Rattle.ocr_check.proofs.Parts.{or_both, or_first, or_second}
-use Rattle.ocr_check.proofs.Blocks.{if_view, while_view}
+use Rattle.ocr_tree.proofs.Rows.{if_view, while_view}
 
 pub told_none : (k : Kept) (o : Option ℕ) → o ≡ None → told k o ≡ Passed k
 told_none k o e = ap (λ (p : Option ℕ). told k p) e

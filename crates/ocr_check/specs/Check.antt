@@ -50,22 +50,8 @@ pub data Event : Type 0 where
 
 -- a name among the arguments of a call: a function in ocrEdtTemplateCreate, else a variable after `&`
 abbrev pub naming : CallName → List ℕ → Event
-naming name.DbCreate x = Used x
-naming name.DbRelease x = Used x
-naming name.DbDestroy x = Used x
-naming name.EventCreate x = Used x
-naming name.EventCreateParams x = Used x
-naming name.EventDestroy x = Used x
-naming name.Satisfy x = Used x
-naming name.SatisfySlot x = Used x
-naming name.AddDependence x = Used x
 naming name.TemplateCreate x = FunctionNamed x
-naming name.TemplateDestroy x = Used x
-naming name.EdtCreate x = Used x
-naming name.Shutdown x = Used x
-naming name.Abort x = Used x
-naming name.Load x = Used x
-naming name.Store x = Used x
+naming other x = Used x
 
 abbrev mutual
   pub events_of_expression : Expression → List Event
@@ -136,16 +122,12 @@ is_declared zero x (BlockOpened ∷ past) = is_declared zero x past
 is_declared (suc left) x (BlockOpened ∷ past) = is_declared left x past
 is_declared left x (BlockClosed ∷ past) = is_declared (suc left) x past
 
--- whether a call with these arguments is built
-abbrev pub is_built : CallName → Arguments → Bool
-is_built call arguments = is_call_built call arguments
-
 -- the rule that an event breaks after the events of its function before it, newest first. `names` are the functions' names
 abbrev pub rule_broken : (names : List (List ℕ)) (past : List Event) → Event → Option ℕ
 rule_broken names past (LetBegins x) = cond (is_among x (let_names past)) (Some 3) (cond (nat_lt (length (let_names past)) most_lets) None (Some 7))
 rule_broken names past (Declared x) = None
 rule_broken names past (Used x) = cond (is_declared 0 x past) None (Some 4)
-rule_broken names past (Called call arguments) = cond (is_built call arguments) None (Some 8)
+rule_broken names past (Called call arguments) = cond (is_call_built call arguments) None (Some 8)
 rule_broken names past (FunctionNamed f) = cond (is_among f names) None (Some 5)
 rule_broken names past (ListClosed kind n) = cond (nat_le n (most_members kind)) None (Some 6)
 rule_broken names past BlockOpened = None

@@ -3,7 +3,8 @@ use Rattle.std.specs.Prelude.{ℕ, Bool, cond, nat_lt, nat_le, List, [], ◌∷�
 use Rattle.std.specs.Option.{option_or}
 use Rattle.ocr_tree.specs.Tree.{Expression, Arguments, Statement, Statements, FunctionTree}
 use Rattle.ocr_tree.specs.Tree as tree
-use Rattle.ocr_check.specs.Check.{Event, rule_broken, is_among, is_built, naming, most_members, most_lets, count_of}
+use Rattle.ocr_tree.specs.Built.{is_call_built}
+use Rattle.ocr_check.specs.Check.{Event, rule_broken, is_among, naming, most_members, most_lets, count_of}
 use Rattle.ocr_check.specs.Check as check
 use Rattle.ocr_tree.specs.declared.tree.CallName.{CallName}
 use Rattle.ocr_check.specs.declared.scope.ListKind.{ListKind}
@@ -14,7 +15,7 @@ abbrev pub event_rule : (known declared : List ℕ → Bool) → Event → Optio
 event_rule known declared (check.LetBegins x) = None
 event_rule known declared (check.Declared x) = None
 event_rule known declared (check.Used x) = cond (declared x) None (Some 4)
-event_rule known declared (check.Called call arguments) = cond (is_built call arguments) None (Some 8)
+event_rule known declared (check.Called call arguments) = cond (is_call_built call arguments) None (Some 8)
 event_rule known declared (check.FunctionNamed f) = cond (known f) None (Some 5)
 event_rule known declared (check.ListClosed kind n) = cond (nat_le n (most_members kind)) None (Some 6)
 event_rule known declared check.BlockOpened = None

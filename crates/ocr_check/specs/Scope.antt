@@ -7,11 +7,11 @@ use Rattle.std.specs.Cmp.Lexicographic.{slice_cmp}
 use Rattle.std.specs.Ordering.{nat_cmp}
 use Rattle.ocr_check.specs.Check.{IsBreach, is_among, Used, ListClosed}
 use Rattle.ocr_tree.specs.Tree.{FunctionTree, Expression}
-use Rattle.ocr_tree.specs.View.{members_of, output_of}
+use Rattle.ocr_tree.specs.View.{members_of}
 use Rattle.ocr_tree.specs.declared.tree.Expr.{Expr}
 use Rattle.ocr_tree.specs.declared.tree.CallName.TheVariants as name
 use Rattle.ocr_check.specs.declared.scope.ListKind.{ListKind}
-use Rattle.ocr_check.specs.declared.scope.ListKind.TheVariants.{Parameters, Dependences}
+use Rattle.ocr_check.specs.declared.scope.ListKind.TheVariants.{Parameters}
 use Rattle.ocr_check.specs.Checking.{Kept, Outcome, Broken, event_rule, expression_rule, arguments_rule}
 use Rattle.ocr_check.specs.declared.rules.CheckFault.{CheckFault}
 use Rattle.ocr_check.specs.declared.rules.CheckStop.{CheckStop}
@@ -43,21 +43,10 @@ abbrev pub IsFaultIn : Scope → Option ℕ → CheckFault → Type 0
 IsFaultIn s rule fault = (rule ≡ Some fault.rule) × (fault.function ≡ s.function)
 
 -- a list of values with its bracket
-abbrev pub members_rule : Scope → ListKind → List Expr → Option ℕ
-members_rule s kind members =
-    option_or (arguments_rule (known_in s) (declared_in s) name.EdtCreate Parameters (members_of members))
-    (event_rule (known_in s) (declared_in s) (ListClosed kind (length members)))
-
--- the arguments of ocrEdtCreate
-abbrev pub edt_rule : Scope → Expression → Expression → List Expr → Expression → List Expr → Expression → Option (List ℕ) → Option ℕ
-edt_rule s template paramc params depc deps flags output =
-    option_or (expression_rule (known_in s) (declared_in s) template)
-    (option_or (expression_rule (known_in s) (declared_in s) paramc)
-    (option_or (members_rule s Parameters params)
-    (option_or (expression_rule (known_in s) (declared_in s) depc)
-    (option_or (members_rule s Dependences deps)
-    (option_or (expression_rule (known_in s) (declared_in s) flags)
-    (arguments_rule (known_in s) (declared_in s) name.EdtCreate Dependences (output_of output)))))))
+abbrev pub members_rule : (known declared : List ℕ → Bool) → ListKind → List Expr → Option ℕ
+members_rule known declared kind members =
+    option_or (arguments_rule known declared name.EdtCreate Parameters (members_of members))
+    (event_rule known declared (ListClosed kind (length members)))
 
 -- an assignment: the name of its variable, then its expression
 abbrev pub assign_rule : Scope → List ℕ → Expression → Option ℕ

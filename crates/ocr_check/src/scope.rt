@@ -1,17 +1,17 @@
 // The walk of a function in the order of its text, with the names that were let.
 ghost use Rattle.std.specs.Prelude.{◌≡◌, ◌&&◌, ℕ, List, None, IfErr, OnOk};
-ghost use Rattle.ocr_check.specs.Check.{Used, FunctionNamed};
-ghost use Rattle.ocr_check.specs.declared.scope.ListKind.TheVariants.{Parameters, Dependences};
-ghost use Rattle.ocr_tree.specs.declared.tree.CallName.TheVariants.{EdtCreate};
-ghost use Rattle.ocr_check.specs.Check.{is_among as among, is_built as built};
+ghost use Rattle.ocr_check.specs.Check.{Used, FunctionNamed, naming};
+ghost use Rattle.ocr_check.specs.declared.scope.ListKind.TheVariants.{Parameters};
+ghost use Rattle.ocr_check.specs.Check.{is_among as among};
 ghost use Rattle.ocr_check.specs.Checking.{event_rule, expression_rule, arguments_rule, call_rule, let_rule, with_name, nothing_kept, Passed, leaving, statement_outcome, statements_outcome, function_rule};
 ghost use Rattle.ocr_check.specs.Scope.{texts, known_in, declared_in, kept_in, knows, members_rule, assign_rule, IsFaultIn, IsStopIn, IsStopAt, IsSameFunction};
 ghost use Rattle.ocr_tree.specs.Tree.{Let};
+ghost use Rattle.ocr_tree.specs.Built as built;
 ghost use Rattle.ocr_tree.specs.Built.{is_none};
 ghost use Rattle.ocr_tree.specs.View.{expression_of, name_of, arguments_of, members_of, output_of, statement_of, statements_of, function_of};
 
 use crate::rules::{CheckFault, CheckStop};
-use ocr_tree::{Expr, Function, Invoke, Name, Stmt};
+use ocr_tree::{Argument, CallName, Expr, Function, Invoke, Name, Stmt};
 use std::alloc::Global;
 use std::collections::BTreeSet;
 
@@ -39,18 +39,11 @@ impl ListKind {
     }
 }
 
-// The values of a call, one after the other.
-macro_rules! values {
-    ($scope:expr; $($value:expr),*) => {{
-        $($scope.expression($value)?;)*
-        Ok(())
-    }};
-}
-
 /// Where the walk of a function stands: the functions that there are, the number of this one, its names that were
 /// let, and those of them that are declared here.
 #[derive(Drop)]
 pub struct Scope<'n, 'a> {
+    alloc: Global,
     names: &'n BTreeSet<&'a [u8]>,
     function: u32,
     lets: Vec<&'a [u8]>,
@@ -74,8 +67,8 @@ fn is_plain(deps: &[Expr], output: &Option<Name>) -> bool
 }
 
 // Whether a call can be made already.
-fn is_built(call: &Invoke) -> bool
-    ensures { result ≡ built (name_of call.now) (arguments_of call.now) }
+fn is_call_built(call: &Invoke) -> bool
+    ensures { result ≡ built.is_call_built (name_of call.now) (arguments_of call.now) }
 {
     match call {
         Invoke::DbCreate { .. } => false,
@@ -105,6 +98,7 @@ impl<'n, 'a> Scope<'n, 'a> {
         ensures kept { kept_in result ≡ nothing_kept }
     {
         Scope {
+            alloc,
             names,
             function,
             lets: Vec::new(alloc),
@@ -147,134 +141,93 @@ impl<'n, 'a> Scope<'n, 'a> {
         Ok(())
     }
 
-    // The variable after `&`, where one stands.
-    #[tactic(auto, using(crate::proofs::Parts::or_end))]
-    fn output(&self, output: &Option<Name>) -> Result<(), CheckFault>
-        ensures ok { OnOk result (arguments_rule (known_in self.now) (declared_in self.now) EdtCreate Dependences (output_of output.now) ≡ None) }
+    // A name among the arguments of a call.
+    fn named(&self, call: CallName, name: &Name) -> Result<(), CheckFault>
+        ensures ok { OnOk result (event_rule (known_in self.now) (declared_in self.now) (naming call name.now) ≡ None) }
         ensures err { IfErr result (IsFaultIn self.now
-            (arguments_rule (known_in self.now) (declared_in self.now) EdtCreate Dependences (output_of output.now))) }
+            (event_rule (known_in self.now) (declared_in self.now) (naming call name.now))) }
     {
-        match output {
-            Some(name) => self.used(name),
-            None => Ok(()),
+        match call {
+            CallName::TemplateCreate => self.function_named(name),
+            _ => self.used(name),
         }
     }
 
     // An expression.
     #[cycle(expression)]
-    #[tactic(auto, using(crate::proofs::Parts::or_both, crate::proofs::Parts::or_first, crate::proofs::Parts::or_second))]
-    fn expression(&self, expr: &Expr) -> Result<(), CheckFault>
+    #[tactic(auto, using(crate::proofs::Parts::or_both, crate::proofs::Stops::first_stops, crate::proofs::Stops::second_stops, crate::proofs::Stops::second_ends))]
+    fn expression(&self, expr: &Expr) -> Result<(), CheckStop>
         ensures ok { OnOk result (expression_rule (known_in self.now) (declared_in self.now) (expression_of expr.now) ≡ None) }
-        ensures err { IfErr result (IsFaultIn self.now
+        ensures err { IfErr result (IsStopAt self.now.function
             (expression_rule (known_in self.now) (declared_in self.now) (expression_of expr.now))) }
     {
         match expr {
             Expr::Number(_) => Ok(()),
             Expr::Constant(_) => Ok(()),
-            Expr::Var(name) => self.used(name),
+            Expr::Var(name) => Ok(self.used(name)?),
             Expr::Paramc => Ok(()),
             Expr::Depc => Ok(()),
             Expr::Code => Ok(()),
             Expr::Paramv(index) => self.expression(index),
             Expr::Depv(index) => self.expression(index),
             Expr::Unary(_, operand) => self.expression(operand),
-            Expr::Binary(_, left, right) => values!(self; left, right),
+            Expr::Binary(_, left, right) => {
+                self.expression(left)?;
+                self.expression(right)
+            }
             Expr::Invoke(call) => self.call(call),
         }
     }
 
     // A call: its name, then its arguments.
     #[cycle(expression)]
-    #[tactic(auto, using(crate::proofs::Parts::or_both, crate::proofs::Parts::or_first, crate::proofs::Parts::or_second))]
-    fn call(&self, call: &Invoke) -> Result<(), CheckFault>
+    #[tactic(auto, using(crate::proofs::Parts::or_both, crate::proofs::Stops::first_stops, crate::proofs::Stops::second_stops, crate::proofs::Stops::second_ends))]
+    fn call(&self, call: &Invoke) -> Result<(), CheckStop>
         ensures ok { OnOk result (call_rule (known_in self.now) (declared_in self.now) (name_of call.now) (arguments_of call.now) ≡ None) }
-        ensures err { IfErr result (IsFaultIn self.now
+        ensures err { IfErr result (IsStopAt self.now.function
             (call_rule (known_in self.now) (declared_in self.now) (name_of call.now) (arguments_of call.now))) }
     {
-        if !is_built(call) {
-            return Err(self.fault(8));
+        if !is_call_built(call) {
+            return Err(CheckStop::Fault(self.fault(8)));
         }
         self.arguments(call)
     }
 
-    // The arguments of a call.
+    // The arguments of a call, the first list of which are parameters and the second dependences.
     #[cycle(expression)]
-    #[tactic(auto, using(crate::proofs::Parts::or_both, crate::proofs::Parts::or_first, crate::proofs::Parts::or_second, crate::proofs::Rows::edt_params, crate::proofs::Rows::edt_depc, crate::proofs::Rows::edt_deps, crate::proofs::Rows::edt_flags, crate::proofs::Rows::edt_output))]
-    fn arguments(&self, call: &Invoke) -> Result<(), CheckFault>
+    fn arguments(&self, call: &Invoke) -> Result<(), CheckStop>
         ensures ok { OnOk result (arguments_rule (known_in self.now) (declared_in self.now) (name_of call.now) Parameters (arguments_of call.now) ≡ None) }
-        ensures err { IfErr result (IsFaultIn self.now
+        ensures err { IfErr result (IsStopAt self.now.function
             (arguments_rule (known_in self.now) (declared_in self.now) (name_of call.now) Parameters (arguments_of call.now))) }
     {
-        match call {
-            Invoke::DbCreate { length, flags } => values!(self; length, flags),
-            Invoke::DbRelease { block } => values!(self; block),
-            Invoke::DbDestroy { block } => values!(self; block),
-            Invoke::EventCreate { kind, flags } => values!(self; kind, flags),
-            Invoke::EventCreateParams {
-                kind,
-                flags,
-                max_gen,
-                nb_sat,
-                nb_deps,
-            } => values!(self; kind, flags, max_gen, nb_sat, nb_deps),
-            Invoke::EventDestroy { event } => values!(self; event),
-            Invoke::Satisfy { event, payload } => values!(self; event, payload),
-            Invoke::SatisfySlot {
-                event,
-                payload,
-                slot,
-            } => values!(self; event, payload, slot),
-            Invoke::AddDependence {
-                source,
-                target,
-                slot,
-                mode,
-            } => values!(self; source, target, slot, mode),
-            Invoke::TemplateCreate {
-                function,
-                paramc,
-                depc,
-            } => {
-                self.function_named(function)?;
-                values!(self; paramc, depc)
+        let list = call.arguments(self.alloc)?;
+        let mut kind = ListKind::Parameters;
+        for place in 0..list.len() {
+            match list[place] {
+                Argument::Value(value) => self.expression(value)?,
+                Argument::List(values) => {
+                    self.members(kind, values)?;
+                    kind = ListKind::Dependences;
+                }
+                Argument::Name(name) => self.named(call.name(), name)?,
             }
-            Invoke::TemplateDestroy { template } => values!(self; template),
-            Invoke::EdtCreate {
-                template,
-                paramc,
-                params,
-                depc,
-                deps,
-                flags,
-                output,
-            } => {
-                self.expression(template)?;
-                self.expression(paramc)?;
-                self.members(ListKind::Parameters, params)?;
-                self.expression(depc)?;
-                self.members(ListKind::Dependences, deps)?;
-                self.expression(flags)?;
-                self.output(output)
-            }
-            Invoke::Shutdown => Ok(()),
-            Invoke::Abort { code } => values!(self; code),
-            Invoke::Load { block, word } => values!(self; block, word),
-            Invoke::Store { block, word, value } => values!(self; block, word, value),
         }
+        Ok(())
     }
 
     // A list of values, and the bracket that closes it.
     #[cycle(expression)]
-    #[tactic(auto, using(crate::proofs::Parts::or_both, crate::proofs::Parts::or_first, crate::proofs::Parts::or_second))]
-    fn members(&self, kind: ListKind, members: &[Expr]) -> Result<(), CheckFault>
-        ensures ok { OnOk result (members_rule self.now kind members.now ≡ None) }
-        ensures err { IfErr result (IsFaultIn self.now (members_rule self.now kind members.now)) }
+    #[tactic(auto, using(crate::proofs::Parts::or_both, crate::proofs::Stops::first_stops, crate::proofs::Stops::second_stops, crate::proofs::Stops::second_ends))]
+    fn members(&self, kind: ListKind, members: &[Expr]) -> Result<(), CheckStop>
+        ensures ok { OnOk result (members_rule (known_in self.now) (declared_in self.now) kind members.now ≡ None) }
+        ensures err { IfErr result (IsStopAt self.now.function
+            (members_rule (known_in self.now) (declared_in self.now) kind members.now)) }
     {
         for member in members {
             self.expression(member)?;
         }
         if members.len() > kind.most_members() {
-            return Err(self.fault(6));
+            return Err(CheckStop::Fault(self.fault(6)));
         }
         Ok(())
     }
@@ -320,10 +273,10 @@ impl<'n, 'a> Scope<'n, 'a> {
     }
 
     // An assignment: the name of its variable, then its expression.
-    #[tactic(auto, using(crate::proofs::Parts::or_both, crate::proofs::Parts::or_first, crate::proofs::Parts::or_second))]
-    fn assignment(&self, name: &Name, value: &Expr) -> Result<(), CheckFault>
+    #[tactic(auto, using(crate::proofs::Parts::or_both, crate::proofs::Stops::first_stops, crate::proofs::Stops::second_stops, crate::proofs::Stops::second_ends))]
+    fn assignment(&self, name: &Name, value: &Expr) -> Result<(), CheckStop>
         ensures ok { OnOk result (assign_rule self.now name.now (expression_of value.now) ≡ None) }
-        ensures err { IfErr result (IsFaultIn self.now (assign_rule self.now name.now (expression_of value.now))) }
+        ensures err { IfErr result (IsStopAt self.now.function (assign_rule self.now name.now (expression_of value.now))) }
     {
         self.used(name)?;
         self.expression(value)
@@ -331,7 +284,7 @@ impl<'n, 'a> Scope<'n, 'a> {
 
     // A statement.
     #[cycle(statement)]
-    #[tactic(auto, using(crate::proofs::Outcomes::told_none, crate::proofs::Outcomes::told_some, crate::proofs::Outcomes::if_test_breaks, crate::proofs::Outcomes::if_first_breaks, crate::proofs::Outcomes::while_test_breaks))]
+    #[tactic(auto, using(crate::proofs::Outcomes::told_none, crate::proofs::Stops::told_stops, crate::proofs::Stops::told_ends, crate::proofs::Outcomes::if_test_breaks, crate::proofs::Outcomes::if_first_breaks, crate::proofs::Outcomes::while_test_breaks))]
     fn statement(&mut self, stmt: &'a Stmt) -> Result<(), CheckStop>
         ensures same { IsSameFunction self.old self.new }
         ensures ok { OnOk result (statement_outcome (known_in self.old) (statement_of stmt.now) (kept_in self.old)
@@ -341,10 +294,7 @@ impl<'n, 'a> Scope<'n, 'a> {
     {
         match stmt {
             Stmt::Let { name, value } => self.let_statement(name, value),
-            Stmt::Assign { name, value } => {
-                self.assignment(name, value)?;
-                Ok(())
-            }
+            Stmt::Assign { name, value } => self.assignment(name, value),
             Stmt::If { test, yes, no } => {
                 self.expression(test)?;
                 self.block(yes)?;
@@ -354,18 +304,9 @@ impl<'n, 'a> Scope<'n, 'a> {
                 self.expression(test)?;
                 self.block(body)
             }
-            Stmt::Print { value } => {
-                self.expression(value)?;
-                Ok(())
-            }
-            Stmt::Return { value } => {
-                self.expression(value)?;
-                Ok(())
-            }
-            Stmt::Invoke(call) => {
-                self.call(call)?;
-                Ok(())
-            }
+            Stmt::Print { value } => self.expression(value),
+            Stmt::Return { value } => self.expression(value),
+            Stmt::Invoke(call) => self.call(call),
         }
     }
 

@@ -2,13 +2,15 @@
 #![tactic(auto)]
 
 mod laws;
+mod levels;
 mod lexeme;
 mod lexing;
 mod slots;
 mod words;
 
 pub use laws::grammar_laws;
+pub use levels::{UNARY_LEVEL, level};
 pub use lexeme::{Lexeme, Word};
 pub use lexing::read_token;
 pub use slots::{Slot, shape};
-pub use words::{call_text, constant_text, named, operator_text, symbol, word_text};
+pub use words::{call_text, constant_text, named, operator_text, sign_text, symbol, word_text};

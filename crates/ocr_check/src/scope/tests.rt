@@ -1,5 +1,5 @@
 // The rules of arguments, which `check` does not come to while their calls are not built.
-use crate::rules::CheckFault;
+use crate::rules::{CheckFault, CheckStop};
 use crate::scope::Scope;
 use ocr_tree::{Expr, Invoke, Name};
 use std::alloc::{AllocError, Global};
@@ -64,8 +64,8 @@ fn arguments_keep_their_rules(rt: HostRuntime) -> Result<(), Fail> {
         (edt_create(alloc, 0, 0, Some(name(alloc, b"o")?))?, Some(4)),
     ]?;
     for (call, rule) in &calls {
-        let fault = rule.map(|rule| CheckFault { rule, function: 1 });
-        assert_eq!(rt; scope.arguments(call).err(), fault);
+        let stop = rule.map(|rule| CheckStop::Fault(CheckFault { rule, function: 1 }));
+        assert_eq!(rt; scope.arguments(call).err(), stop);
     }
     Ok(())
 }

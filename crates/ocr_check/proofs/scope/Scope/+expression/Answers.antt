@@ -1,78 +1,59 @@
-use Rattle.std.proofs.Common.{◌≡◌, ◌∙◌, sym, ap, List, None, Some, refl, rules}
+use Rattle.std.proofs.Common.{◌≡◌, ◌<◌, ◌∙◌, ℕ, Bool, List, Option, length, sym, ap, arith}
 use Rattle.std.proofs.lemmas.Result.{err_from_is_err_and}
-use Rattle.ocr_check.specs.Checking.{expression_rule, arguments_rule}
-use Rattle.ocr_check.specs.Scope.{known_in, declared_in, members_rule}
-use Rattle.ocr_tree.specs.View.{expression_of, name_of, arguments_of, output_of}
-use Rattle.ocr_tree.specs.declared.tree.CallName.TheVariants.{EdtCreate}
-use Rattle.ocr_tree.specs.declared.tree.Expr.{Expr}
-use Rattle.ocr_check.specs.declared.scope.ListKind.TheVariants.{Parameters, Dependences}
-use Rattle.ocr_check.proofs.Rows.{edt_params, edt_depc, edt_deps, edt_flags, edt_output}
+use Rattle.ocr_tree.proofs.Rows.{list_within}
+use Rattle.ocr_tree.specs.Argument.{plain_of}
+use Rattle.ocr_tree.specs.Tree.{Arguments}
+use Rattle.ocr_tree.specs.View.{name_of, arguments_of}
+use Rattle.ocr_tree.specs.declared.argument.Argument.{Argument}
+use Rattle.ocr_tree.specs.declared.argument.Argument.TheVariants as argument
+use Rattle.ocr_tree.specs.declared.tree.CallName.{CallName}
+use Rattle.ocr_tree.specs.declared.tree.Invoke.{size-Invoke}
+use Rattle.ocr_check.specs.Checking.{arguments_rule}
+use Rattle.ocr_check.specs.Scope.{known_in, declared_in}
+use Rattle.ocr_check.specs.declared.scope.ListKind.TheVariants.{Parameters}
+use Rattle.ocr_check.proofs.Arguments.{own_rule, passes, stops}
+use Rattle.ocr_check.proofs.Stops.{same_stop}
 use Rattle.ocr_check.proofs.scope.Scope.+expression.Goals as goal
+use Rattle.ocr_check.proofs.scope.Scope.+expression.Goals.{arguments-in-Value+in_ok-expression-in-Value, arguments-in-List+in_ok-members-in-List, arguments-in-Name+in_ok-named-in-Name}
 
-pub arguments-returns-in_err-members-in-EdtCreate-clause-err :
-    goal.arguments-returns-in_err-members-in-EdtCreate-clause-err
-arguments-returns-in_err-members-in-EdtCreate-clause-err t c =
-    let p = err_from_is_err_and c.from_residual-in_err-members-in-EdtCreate.result c.from_residual-in_err-members-in-EdtCreate.ensures.1 in
-    let template : expression_rule (known_in c.args.self.now) (declared_in c.args.self.now) (expression_of c.in-EdtCreate.template.value) ≡ None = search rules in
-    let paramc : expression_rule (known_in c.args.self.now) (declared_in c.args.self.now) (expression_of c.in-EdtCreate.paramc.value) ≡ None = search rules in
-    let broken : members_rule c.args.self.now Parameters c.in-EdtCreate.params.items ≡ Some c.in_err-members-in-EdtCreate.field-0.0.rule = ap (λ (xs : List Expr). members_rule c.args.self.now Parameters xs) (sym c.deref-in-EdtCreate-3.ensures.value) ∙ c.in_err-members-in-EdtCreate.ensures.err.0 in
-    rw (p.1, p.2) (edt_params c.args.self.now c.args.call.now c.in-EdtCreate.template c.in-EdtCreate.paramc c.in-EdtCreate.depc c.in-EdtCreate.flags c.in-EdtCreate.params c.in-EdtCreate.deps c.in-EdtCreate.output c.in_err-members-in-EdtCreate.field-0.0.rule c.in-EdtCreate.is template paramc broken, c.in_err-members-in-EdtCreate.ensures.err.1)
+pub arguments-members-requires : goal.arguments-members-requires
+arguments-members-requires t c =
+    let smaller = list_within (size-Invoke c.args.call.now) c.in_ok-list.list.items c.loop-place.place c.index.result.now c.in-List.values
+    c.in_ok-list.ensures.within (omega (arith, c.loop-place-test.true, c.len-place-end.ensures)) c.index.ensures c.in-List.is in
+    (omega (arith, smaller, c.decreases), tt {0})
 
-pub arguments-returns-in_err-expression-in-EdtCreate-3-clause-err :
-    goal.arguments-returns-in_err-expression-in-EdtCreate-3-clause-err
-arguments-returns-in_err-expression-in-EdtCreate-3-clause-err t c =
-    let p = err_from_is_err_and c.from_residual-in_err-expression-in-EdtCreate-3.result c.from_residual-in_err-expression-in-EdtCreate-3.ensures.1 in
-    let template : expression_rule (known_in c.args.self.now) (declared_in c.args.self.now) (expression_of c.in-EdtCreate.template.value) ≡ None = search rules in
-    let paramc : expression_rule (known_in c.args.self.now) (declared_in c.args.self.now) (expression_of c.in-EdtCreate.paramc.value) ≡ None = search rules in
-    let params : members_rule c.args.self.now Parameters c.in-EdtCreate.params.items ≡ None = ap (λ (xs : List Expr). members_rule c.args.self.now Parameters xs) (sym c.deref-in-EdtCreate-3.ensures.value) ∙ c.in_ok-members-in-EdtCreate.ensures.ok in
-    let broken : expression_rule (known_in c.args.self.now) (declared_in c.args.self.now) (expression_of c.in-EdtCreate.depc.value) ≡ Some c.in_err-expression-in-EdtCreate-3.field-0.0.rule = search rules in
-    rw (p.1, p.2) (edt_depc c.args.self.now c.args.call.now c.in-EdtCreate.template c.in-EdtCreate.paramc c.in-EdtCreate.depc c.in-EdtCreate.flags c.in-EdtCreate.params c.in-EdtCreate.deps c.in-EdtCreate.output c.in_err-expression-in-EdtCreate-3.field-0.0.rule c.in-EdtCreate.is template paramc params broken, c.in_err-expression-in-EdtCreate-3.ensures.err.1)
+pub arguments-returns-in_err-members-in-List-clause-err : goal.arguments-returns-in_err-members-in-List-clause-err
+arguments-returns-in_err-members-in-List-clause-err t c =
+    let known : List ℕ → Bool = known_in c.args.self.now in
+    let declared : List ℕ → Bool = declared_in c.args.self.now in
+    let call : CallName = name_of c.args.call.now in
+    let xs : List Argument = c.in_ok-list.list.items in
+    let p = err_from_is_err_and c.from_residual-in_err-members-in-List.result c.from_residual-in_err-members-in-List.ensures.1 in
+    rw (p.1, p.2) (stops known declared call c.loop-place.kind c.loop-place.place xs c.index.result.now
+    (arguments_rule known declared call Parameters (arguments_of c.args.call.now)) c.args.self.now.function c.in_err-members-in-List.field-0.0
+    (omega (arith, c.loop-place-test.true, c.len-place-end.ensures)) c.index.ensures
+    (ap (λ (ys : Arguments). arguments_rule known declared call Parameters ys) (sym c.in_ok-list.ensures.same) ∙ c.loop-place.invariant)
+    (same_stop c.args.self.now.function (own_rule known declared call c.loop-place.kind (argument.List c.in-List.values))
+    (own_rule known declared call c.loop-place.kind c.index.result.now) c.in_err-members-in-List.field-0.0
+    (ap (own_rule known declared call c.loop-place.kind) c.in-List.is) c.in_err-members-in-List.ensures.err))
 
-pub arguments-returns-in_err-members-in-EdtCreate-2-clause-err :
-    goal.arguments-returns-in_err-members-in-EdtCreate-2-clause-err
-arguments-returns-in_err-members-in-EdtCreate-2-clause-err t c =
-    let p = err_from_is_err_and c.from_residual-in_err-members-in-EdtCreate-2.result c.from_residual-in_err-members-in-EdtCreate-2.ensures.1 in
-    let template : expression_rule (known_in c.args.self.now) (declared_in c.args.self.now) (expression_of c.in-EdtCreate.template.value) ≡ None = search rules in
-    let paramc : expression_rule (known_in c.args.self.now) (declared_in c.args.self.now) (expression_of c.in-EdtCreate.paramc.value) ≡ None = search rules in
-    let params : members_rule c.args.self.now Parameters c.in-EdtCreate.params.items ≡ None = ap (λ (xs : List Expr). members_rule c.args.self.now Parameters xs) (sym c.deref-in-EdtCreate-3.ensures.value) ∙ c.in_ok-members-in-EdtCreate.ensures.ok in
-    let depc : expression_rule (known_in c.args.self.now) (declared_in c.args.self.now) (expression_of c.in-EdtCreate.depc.value) ≡ None = search rules in
-    let broken : members_rule c.args.self.now Dependences c.in-EdtCreate.deps.items ≡ Some c.in_err-members-in-EdtCreate-2.field-0.0.rule = ap (λ (xs : List Expr). members_rule c.args.self.now Dependences xs) (sym c.deref-in-EdtCreate-5.ensures.value) ∙ c.in_err-members-in-EdtCreate-2.ensures.err.0 in
-    rw (p.1, p.2) (edt_deps c.args.self.now c.args.call.now c.in-EdtCreate.template c.in-EdtCreate.paramc c.in-EdtCreate.depc c.in-EdtCreate.flags c.in-EdtCreate.params c.in-EdtCreate.deps c.in-EdtCreate.output c.in_err-members-in-EdtCreate-2.field-0.0.rule c.in-EdtCreate.is template paramc params depc broken, c.in_err-members-in-EdtCreate-2.ensures.err.1)
-
-pub arguments-returns-in_err-expression-in-EdtCreate-4-clause-err :
-    goal.arguments-returns-in_err-expression-in-EdtCreate-4-clause-err
-arguments-returns-in_err-expression-in-EdtCreate-4-clause-err t c =
-    let p = err_from_is_err_and c.from_residual-in_err-expression-in-EdtCreate-4.result c.from_residual-in_err-expression-in-EdtCreate-4.ensures.1 in
-    let template : expression_rule (known_in c.args.self.now) (declared_in c.args.self.now) (expression_of c.in-EdtCreate.template.value) ≡ None = search rules in
-    let paramc : expression_rule (known_in c.args.self.now) (declared_in c.args.self.now) (expression_of c.in-EdtCreate.paramc.value) ≡ None = search rules in
-    let params : members_rule c.args.self.now Parameters c.in-EdtCreate.params.items ≡ None = ap (λ (xs : List Expr). members_rule c.args.self.now Parameters xs) (sym c.deref-in-EdtCreate-3.ensures.value) ∙ c.in_ok-members-in-EdtCreate.ensures.ok in
-    let depc : expression_rule (known_in c.args.self.now) (declared_in c.args.self.now) (expression_of c.in-EdtCreate.depc.value) ≡ None = search rules in
-    let deps : members_rule c.args.self.now Dependences c.in-EdtCreate.deps.items ≡ None = ap (λ (xs : List Expr). members_rule c.args.self.now Dependences xs) (sym c.deref-in-EdtCreate-5.ensures.value) ∙ c.in_ok-members-in-EdtCreate-2.ensures.ok in
-    let broken : expression_rule (known_in c.args.self.now) (declared_in c.args.self.now) (expression_of c.in-EdtCreate.flags.value) ≡ Some c.in_err-expression-in-EdtCreate-4.field-0.0.rule = search rules in
-    rw (p.1, p.2) (edt_flags c.args.self.now c.args.call.now c.in-EdtCreate.template c.in-EdtCreate.paramc c.in-EdtCreate.depc c.in-EdtCreate.flags c.in-EdtCreate.params c.in-EdtCreate.deps c.in-EdtCreate.output c.in_err-expression-in-EdtCreate-4.field-0.0.rule c.in-EdtCreate.is template paramc params depc deps broken, c.in_err-expression-in-EdtCreate-4.ensures.err.1)
-
-pub arguments-returns-in_ok-expression-in-EdtCreate-4-clause-ok :
-    goal.arguments-returns-in_ok-expression-in-EdtCreate-4-clause-ok
-arguments-returns-in_ok-expression-in-EdtCreate-4-clause-ok t c =
-    let template : expression_rule (known_in c.args.self.now) (declared_in c.args.self.now) (expression_of c.in-EdtCreate.template.value) ≡ None = search rules in
-    let paramc : expression_rule (known_in c.args.self.now) (declared_in c.args.self.now) (expression_of c.in-EdtCreate.paramc.value) ≡ None = search rules in
-    let params : members_rule c.args.self.now Parameters c.in-EdtCreate.params.items ≡ None = ap (λ (xs : List Expr). members_rule c.args.self.now Parameters xs) (sym c.deref-in-EdtCreate-3.ensures.value) ∙ c.in_ok-members-in-EdtCreate.ensures.ok in
-    let depc : expression_rule (known_in c.args.self.now) (declared_in c.args.self.now) (expression_of c.in-EdtCreate.depc.value) ≡ None = search rules in
-    let deps : members_rule c.args.self.now Dependences c.in-EdtCreate.deps.items ≡ None = ap (λ (xs : List Expr). members_rule c.args.self.now Dependences xs) (sym c.deref-in-EdtCreate-5.ensures.value) ∙ c.in_ok-members-in-EdtCreate-2.ensures.ok in
-    let flags : expression_rule (known_in c.args.self.now) (declared_in c.args.self.now) (expression_of c.in-EdtCreate.flags.value) ≡ None = search rules in
-    let whole : arguments_rule (known_in c.args.self.now) (declared_in c.args.self.now) (name_of c.args.call.now) Parameters (arguments_of c.args.call.now) ≡ arguments_rule (known_in c.args.self.now) (declared_in c.args.self.now) EdtCreate Dependences (output_of c.in-EdtCreate.output) =
-    edt_output c.args.self.now c.args.call.now c.in-EdtCreate.template c.in-EdtCreate.paramc c.in-EdtCreate.depc c.in-EdtCreate.flags c.in-EdtCreate.params c.in-EdtCreate.deps c.in-EdtCreate.output (arguments_rule (known_in c.args.self.now) (declared_in c.args.self.now) EdtCreate Dependences (output_of c.in-EdtCreate.output)) c.in-EdtCreate.is template paramc params depc deps flags refl in
-    rw whole c.output.ensures.ok
-
-pub arguments-returns-in_ok-expression-in-EdtCreate-4-clause-err :
-    goal.arguments-returns-in_ok-expression-in-EdtCreate-4-clause-err
-arguments-returns-in_ok-expression-in-EdtCreate-4-clause-err t c =
-    let template : expression_rule (known_in c.args.self.now) (declared_in c.args.self.now) (expression_of c.in-EdtCreate.template.value) ≡ None = search rules in
-    let paramc : expression_rule (known_in c.args.self.now) (declared_in c.args.self.now) (expression_of c.in-EdtCreate.paramc.value) ≡ None = search rules in
-    let params : members_rule c.args.self.now Parameters c.in-EdtCreate.params.items ≡ None = ap (λ (xs : List Expr). members_rule c.args.self.now Parameters xs) (sym c.deref-in-EdtCreate-3.ensures.value) ∙ c.in_ok-members-in-EdtCreate.ensures.ok in
-    let depc : expression_rule (known_in c.args.self.now) (declared_in c.args.self.now) (expression_of c.in-EdtCreate.depc.value) ≡ None = search rules in
-    let deps : members_rule c.args.self.now Dependences c.in-EdtCreate.deps.items ≡ None = ap (λ (xs : List Expr). members_rule c.args.self.now Dependences xs) (sym c.deref-in-EdtCreate-5.ensures.value) ∙ c.in_ok-members-in-EdtCreate-2.ensures.ok in
-    let flags : expression_rule (known_in c.args.self.now) (declared_in c.args.self.now) (expression_of c.in-EdtCreate.flags.value) ≡ None = search rules in
-    let whole : arguments_rule (known_in c.args.self.now) (declared_in c.args.self.now) (name_of c.args.call.now) Parameters (arguments_of c.args.call.now) ≡ arguments_rule (known_in c.args.self.now) (declared_in c.args.self.now) EdtCreate Dependences (output_of c.in-EdtCreate.output) =
-    edt_output c.args.self.now c.args.call.now c.in-EdtCreate.template c.in-EdtCreate.paramc c.in-EdtCreate.depc c.in-EdtCreate.flags c.in-EdtCreate.params c.in-EdtCreate.deps c.in-EdtCreate.output (arguments_rule (known_in c.args.self.now) (declared_in c.args.self.now) EdtCreate Dependences (output_of c.in-EdtCreate.output)) c.in-EdtCreate.is template paramc params depc deps flags refl in
-    rw whole c.output.ensures.err
+pub arguments-loop-place-preserved : goal.arguments-loop-place-preserved
+arguments-loop-place-preserved t c =
+    let known : List ℕ → Bool = known_in c.args.self.now in
+    let declared : List ℕ → Bool = declared_in c.args.self.now in
+    let call : CallName = name_of c.args.call.now in
+    let xs : List Argument = c.in_ok-list.list.items in
+    let whole : Option ℕ = arguments_rule known declared call Parameters (plain_of xs) in
+    let inside : c.loop-place.place < length xs = omega (arith, c.loop-place-test.true, c.len-place-end.ensures) in
+    elim c.match-index.branch [
+      arguments-in-Value+in_ok-expression-in-Value w ↦ passes known declared call c.loop-place.kind c.match-index.kind c.loop-place.place xs
+          c.index.result.now (argument.Value w.in-Value.value) whole inside c.index.ensures w.in-Value.is w.kind-is c.loop-place.invariant
+          w.in_ok-expression-in-Value.ensures.ok
+    | arguments-in-List+in_ok-members-in-List w ↦ passes known declared call c.loop-place.kind c.match-index.kind c.loop-place.place xs
+        c.index.result.now (argument.List w.in-List.values) whole inside c.index.ensures w.in-List.is w.kind-is c.loop-place.invariant
+        w.in_ok-members-in-List.ensures.ok
+    | arguments-in-Name+in_ok-named-in-Name w ↦ passes known declared call c.loop-place.kind c.match-index.kind c.loop-place.place xs
+        c.index.result.now (argument.Name w.in-Name.name) whole inside c.index.ensures w.in-Name.is w.kind-is c.loop-place.invariant
+        (ap (λ (n : CallName). own_rule known declared n c.loop-place.kind (argument.Name w.in-Name.name)) (sym w.name.ensures)
+        ∙ w.in_ok-named-in-Name.ensures.ok)
+    ]
