@@ -9,8 +9,8 @@ ghost use Rattle.ocr_canonical.specs.RoundTrip.{IsTextOf};
 mod expression;
 mod statement;
 
-use ocr_tree::Program;
 use ocr_base::NoMemory;
+use ocr_tree::Program;
 use std::alloc::Global;
 
 /// The canonical text of a program: its one spelling in lines, with the fewest brackets. For a program that some

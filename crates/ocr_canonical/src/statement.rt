@@ -21,12 +21,7 @@ fn deeper(alloc: Global, margin: &[u8]) -> Result<Vec<u8>, NoMemory>
 }
 
 // An assignment `x = e;`, up to the end of its line.
-fn assignment(
-    alloc: Global,
-    text: &mut Vec<u8>,
-    name: &Name,
-    value: &Expr,
-) -> Result<(), NoMemory>
+fn assignment(alloc: Global, text: &mut Vec<u8>, name: &Name, value: &Expr) -> Result<(), NoMemory>
     ensures { let e = expression_text (expression_of value.now) in
         OnOk result (text.new.items ≡ text.old.items ++ (name.now ++ codes " = " ++ e ++ codes ";\n")) }
 {
@@ -77,12 +72,7 @@ fn line(text: &mut Vec<u8>, margin: &[u8], bytes: &[u8]) -> Result<(), NoMemory>
 
 // A statement, each of its lines behind the margin.
 #[cycle(statement)]
-fn statement(
-    alloc: Global,
-    text: &mut Vec<u8>,
-    margin: &[u8],
-    stmt: &Stmt,
-) -> Result<(), NoMemory>
+fn statement(alloc: Global, text: &mut Vec<u8>, margin: &[u8], stmt: &Stmt) -> Result<(), NoMemory>
     ensures { OnOk result (text.new.items ≡ text.old.items ++ statement_text margin.now (statement_of stmt.now)) }
 {
     match stmt {

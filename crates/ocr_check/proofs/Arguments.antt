@@ -10,13 +10,13 @@ use Rattle.ocr_tree.specs.declared.tree.CallName.TheVariants as name
 use Rattle.ocr_tree.specs.declared.tree.Expr.{Expr}
 use Rattle.ocr_tree.specs.declared.argument.Argument.{Argument}
 use Rattle.ocr_tree.specs.declared.argument.Argument.TheVariants as argument
-use Rattle.ocr_check.specs.Check.{count_of, ListClosed, naming}
-use Rattle.ocr_check.specs.Checking.{expression_rule, arguments_rule, event_rule}
-use Rattle.ocr_check.specs.Scope.{members_rule, IsStopAt}
+use Rattle.ocr_check.specs.Check.{count_of, ListClosed, mention_of_name}
+use Rattle.ocr_check.specs.Checking.{expression_rule, arguments_rule, mention_rule}
+use Rattle.ocr_check.specs.Names.{members_rule, IsStopAt}
 use Rattle.ocr_check.specs.declared.rules.CheckStop.{CheckStop}
-use Rattle.ocr_check.specs.declared.scope.ListKind.{ListKind}
-use Rattle.ocr_check.specs.declared.scope.ListKind.TheVariants.{Parameters, Dependences}
-use Rattle.ocr_check.proofs.Events.{option_or-assoc}
+use Rattle.ocr_check.specs.declared.names.ListKind.{ListKind}
+use Rattle.ocr_check.specs.declared.names.ListKind.TheVariants.{Parameters, Dependences}
+use Rattle.ocr_check.proofs.Mentions.{option_or-assoc}
 use Rattle.ocr_check.proofs.Parts.{or_of_none}
 use Rattle.ocr_check.proofs.Stops.{first_stops}
 
@@ -35,7 +35,7 @@ members_alike known declared call kind (x ∷ xs) =
 abbrev pub own_rule : (known declared : List ℕ → Bool) → CallName → ListKind → Argument → Option ℕ
 own_rule known declared call kind (argument.Value e) = expression_rule known declared (expression_of e.now)
 own_rule known declared call kind (argument.List es) = members_rule known declared kind es.now
-own_rule known declared call kind (argument.Name x) = event_rule known declared (naming call x.now)
+own_rule known declared call kind (argument.Name x) = mention_rule known declared (mention_of_name call x.now)
 
 -- what the next list holds
 abbrev pub next_kind : ListKind → Argument → ListKind
@@ -50,9 +50,9 @@ taken known declared call kind (argument.Value e) rest = refl
 taken known declared call kind (argument.List es) rest =
     let after : Option ℕ = arguments_rule known declared call Dependences rest in
     (λ i. option_or (members_alike known declared call kind es.now i)
-    (option_or (event_rule known declared (ListClosed kind (count-members es.now i))) after))
+    (option_or (mention_rule known declared (ListClosed kind (count-members es.now i))) after))
     ∙ sym (option_or-assoc (arguments_rule known declared name.EdtCreate Parameters (members_of es.now))
-    (event_rule known declared (ListClosed kind (length es.now))) after)
+    (mention_rule known declared (ListClosed kind (length es.now))) after)
 taken known declared call kind (argument.Name x) rest = refl
 
 parted : (known declared : List ℕ → Bool) (call : CallName) (kind : ListKind) (place : ℕ) (xs : List Argument) (a : Argument)

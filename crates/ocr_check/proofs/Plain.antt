@@ -1,4 +1,4 @@
--- Creations without dependences and without an output event.
+-- Creations without dependences and without an output mention.
 use Rattle.std.proofs.Common.{◌≡◌, ℕ, suc, sym, arith, Bool, true, false, ◌&&◌, ◌==◌, List, [], ◌∷◌, length, Option, None, Some, is_none as none_in, refl, ap, ◌∙◌, Vec, Box, Global}
 use Rattle.std.proofs.lemmas.Bool.{eqb-true}
 use Rattle.ocr_tree.specs.Tree as tree

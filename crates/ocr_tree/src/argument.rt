@@ -95,13 +95,12 @@ impl Invoke {
                 max_gen,
                 nb_sat,
                 nb_deps,
-            } => Ok(vec![
-                in alloc;
+            } => Ok(vec![in alloc;
                 Value(kind),
                 Value(flags),
                 Value(max_gen),
                 Value(nb_sat),
-                Value(nb_deps)
+                Value(nb_deps),
             ]?),
             Invoke::TemplateCreate {
                 function,
@@ -117,14 +116,13 @@ impl Invoke {
                 flags,
                 output,
             } => {
-                let mut arguments = vec![
-                    in alloc;
+                let mut arguments = vec![in alloc;
                     Value(template),
                     Value(paramc),
                     List(params),
                     Value(depc),
                     List(deps),
-                    Value(flags)
+                    Value(flags),
                 ]?;
                 let Some(variable) = output else {
                     return Ok(arguments)

@@ -11,9 +11,9 @@ returns-in_default-clause-same c =
     let e = c.in-EdtCreate in
     ap plain_of c.in_ok-arguments-in-EdtCreate.ensures.items
     ∙ (λ i. tree.value (expression_of (c.deref-in-EdtCreate.ensures i)) (tree.value (expression_of (c.deref-in-EdtCreate-2.ensures i))
-      (tree.list (members_of (c.deref-in-EdtCreate-3.ensures.value i)) (tree.value (expression_of (c.deref-in-EdtCreate-4.ensures i))
-      (tree.list (members_of (c.deref-in-EdtCreate-5.ensures.value i)) (tree.value (expression_of (c.deref-in-EdtCreate-6.ensures i))
-      (output_of (sym c.in_default.is i))))))))
+    (tree.list (members_of (c.deref-in-EdtCreate-3.ensures.value i)) (tree.value (expression_of (c.deref-in-EdtCreate-4.ensures i))
+    (tree.list (members_of (c.deref-in-EdtCreate-5.ensures.value i)) (tree.value (expression_of (c.deref-in-EdtCreate-6.ensures i))
+    (output_of (sym c.in_default.is i))))))))
     ∙ sym (ap arguments_of e.is ∙ creation_view e.template e.paramc e.params e.depc e.deps e.flags e.output)
 
 grown : (xs ys zs : List Argument) (a : Argument) → xs ≡ ys → zs ≡ xs ++ (a ∷ []) → zs ≡ ys ++ (a ∷ [])
@@ -24,7 +24,7 @@ returns-in_ok-push-in-EdtCreate-clause-same c =
     let e = c.in-EdtCreate in
     ap plain_of (grown _ _ _ _ c.in_ok-arguments-in-EdtCreate.ensures.items c.in_ok-push-in-EdtCreate.ensures.items)
     ∙ (λ i. tree.value (expression_of (c.deref-in-EdtCreate.ensures i)) (tree.value (expression_of (c.deref-in-EdtCreate-2.ensures i))
-      (tree.list (members_of (c.deref-in-EdtCreate-3.ensures.value i)) (tree.value (expression_of (c.deref-in-EdtCreate-4.ensures i))
-      (tree.list (members_of (c.deref-in-EdtCreate-5.ensures.value i)) (tree.value (expression_of (c.deref-in-EdtCreate-6.ensures i))
-      (output_of (sym c.in-Some.is i))))))))
+    (tree.list (members_of (c.deref-in-EdtCreate-3.ensures.value i)) (tree.value (expression_of (c.deref-in-EdtCreate-4.ensures i))
+    (tree.list (members_of (c.deref-in-EdtCreate-5.ensures.value i)) (tree.value (expression_of (c.deref-in-EdtCreate-6.ensures i))
+    (output_of (sym c.in-Some.is i))))))))
     ∙ sym (ap arguments_of e.is ∙ creation_view e.template e.paramc e.params e.depc e.deps e.flags e.output)

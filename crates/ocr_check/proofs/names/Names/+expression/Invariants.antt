@@ -1,11 +1,11 @@
 use Rattle.std.proofs.Common.{◌≡◌, drop}
 use Rattle.ocr_check.specs.Checking.{arguments_rule}
-use Rattle.ocr_check.specs.Scope.{known_in, declared_in}
+use Rattle.ocr_check.specs.Names.{known_in, declared_in}
 use Rattle.ocr_tree.specs.Argument.{plain_of}
 use Rattle.ocr_tree.specs.View.{name_of, members_of}
-use Rattle.ocr_check.specs.declared.scope.ListKind.TheVariants.{Parameters}
+use Rattle.ocr_check.specs.declared.names.ListKind.TheVariants.{Parameters}
 use Rattle.ocr_tree.specs.declared.tree.CallName.TheVariants.{EdtCreate}
-use Rattle.ocr_check.proofs.scope.Scope.+expression.Given as goal
+use Rattle.ocr_check.proofs.names.Names.+expression.Given as goal
 
 -- what the arguments break is what those that are left break
 abbrev pub invariant-arguments-loop-place : goal.invariant-arguments-loop-place

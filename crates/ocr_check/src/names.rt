@@ -1,22 +1,24 @@
 // The walk of a function in the order of its text, with the names that were let.
 ghost use Rattle.std.specs.Prelude.{◌≡◌, ◌&&◌, ℕ, List, None, IfErr, OnOk};
-ghost use Rattle.ocr_check.specs.Check.{Used, FunctionNamed, naming};
-ghost use Rattle.ocr_check.specs.declared.scope.ListKind.TheVariants.{Parameters};
+ghost use Rattle.ocr_check.specs.Check.{Used, FunctionNamed, mention_of_name};
+ghost use Rattle.ocr_check.specs.declared.names.ListKind.TheVariants.{Parameters};
 ghost use Rattle.ocr_check.specs.Check.{is_among as among};
-ghost use Rattle.ocr_check.specs.Checking.{event_rule, expression_rule, arguments_rule, call_rule, let_rule, with_name, nothing_kept, Passed, leaving, statement_outcome, statements_outcome, function_rule};
-ghost use Rattle.ocr_check.specs.Scope.{texts, known_in, declared_in, kept_in, knows, members_rule, assign_rule, IsFaultIn, IsStopIn, IsStopAt, IsSameFunction};
+ghost use Rattle.ocr_check.specs.Checking.{mention_rule, expression_rule, arguments_rule, call_rule, let_rule, with_name, no_declarations, Passed, leaving, statement_outcome, statements_outcome, function_rule};
+ghost use Rattle.ocr_check.specs.Names.{texts, known_in, declared_in, declarations_in, knows, members_rule, assign_rule, IsFaultIn, IsStopIn, IsStopAt, IsSameFunction};
 ghost use Rattle.ocr_tree.specs.Tree.{Let};
 ghost use Rattle.ocr_tree.specs.Built as built;
 ghost use Rattle.ocr_tree.specs.Built.{is_none};
 ghost use Rattle.ocr_tree.specs.View.{expression_of, name_of, arguments_of, members_of, output_of, statement_of, statements_of, function_of};
 
 use crate::rules::{CheckFault, CheckStop};
-use ocr_tree::{Argument, CallName, Expr, Function, Invoke, Name, Stmt};
+use ocr_tree::{
+    Argument, CallName, Expr, Function, Invoke, MOST_DEPENDENCES, MOST_PARAMETERS, Name, Stmt,
+};
 use std::alloc::Global;
 use std::collections::BTreeSet;
 
 /// The most names that a function lets.
-const MOST_LETS: usize = 64;
+pub const MOST_LETS: usize = 64;
 
 /// A list of a call.
 #[derive(Clone, Copy)]
@@ -33,25 +35,25 @@ impl ListKind {
         ensures { result ≡ most_members self }
     {
         match self {
-            ListKind::Parameters => 16,
-            ListKind::Dependences => 32,
+            ListKind::Parameters => MOST_PARAMETERS,
+            ListKind::Dependences => MOST_DEPENDENCES,
         }
     }
 }
 
-/// Where the walk of a function stands: the functions that there are, the number of this one, its names that were
-/// let, and those of them that are declared here.
+/// The names where the walk of a function stands: those of the functions, those that this one, by its number, has let,
+/// and those of them that are declared here.
 #[derive(Drop)]
-pub struct Scope<'n, 'a> {
+pub struct Names<'n, 'a> {
     alloc: Global,
-    names: &'n BTreeSet<&'a [u8]>,
+    functions: &'n BTreeSet<&'a [u8]>,
     function: u32,
     lets: Vec<&'a [u8]>,
     declared: Vec<&'a [u8]>,
 }
 
 // Whether a name is among others.
-#[tactic(auto, using(crate::proofs::Names::list_any_texts))]
+#[tactic(auto, using(crate::proofs::Texts::list_any_texts))]
 fn is_among(name: &[u8], others: &[&[u8]]) -> bool
     ensures { result ≡ among name.now (texts others.now) }
 {
@@ -90,16 +92,16 @@ fn is_call_built(call: &Invoke) -> bool
     }
 }
 
-impl<'n, 'a> Scope<'n, 'a> {
+impl<'n, 'a> Names<'n, 'a> {
     // The start of a function.
-    fn new(alloc: Global, names: &'n BTreeSet<&'a [u8]>, function: u32) -> Self
-        ensures names { result.names.now ≡ names.now }
+    fn new(alloc: Global, functions: &'n BTreeSet<&'a [u8]>, function: u32) -> Self
+        ensures functions { result.functions.now ≡ functions.now }
         ensures function { result.function ≡ function }
-        ensures kept { kept_in result ≡ nothing_kept }
+        ensures kept { declarations_in result ≡ no_declarations }
     {
-        Scope {
+        Names {
             alloc,
-            names,
+            functions,
             function,
             lets: Vec::new(alloc),
             declared: Vec::new(alloc),
@@ -119,9 +121,9 @@ impl<'n, 'a> Scope<'n, 'a> {
 
     // A variable is read, assigned or written.
     fn used(&self, name: &Name) -> Result<(), CheckFault>
-        ensures ok { OnOk result (event_rule (known_in self.now) (declared_in self.now) (Used name.now) ≡ None) }
+        ensures ok { OnOk result (mention_rule (known_in self.now) (declared_in self.now) (Used name.now) ≡ None) }
         ensures err { IfErr result (IsFaultIn self.now
-            (event_rule (known_in self.now) (declared_in self.now) (Used name.now))) }
+            (mention_rule (known_in self.now) (declared_in self.now) (Used name.now))) }
     {
         if !is_among(name.as_bytes(), &self.declared) {
             return Err(self.fault(4));
@@ -131,11 +133,11 @@ impl<'n, 'a> Scope<'n, 'a> {
 
     // A function is named.
     fn function_named(&self, name: &Name) -> Result<(), CheckFault>
-        ensures ok { OnOk result (event_rule (known_in self.now) (declared_in self.now) (FunctionNamed name.now) ≡ None) }
+        ensures ok { OnOk result (mention_rule (known_in self.now) (declared_in self.now) (FunctionNamed name.now) ≡ None) }
         ensures err { IfErr result (IsFaultIn self.now
-            (event_rule (known_in self.now) (declared_in self.now) (FunctionNamed name.now))) }
+            (mention_rule (known_in self.now) (declared_in self.now) (FunctionNamed name.now))) }
     {
-        if !self.names.contains(name.as_bytes()) {
+        if !self.functions.contains(name.as_bytes()) {
             return Err(self.fault(5));
         }
         Ok(())
@@ -143,9 +145,9 @@ impl<'n, 'a> Scope<'n, 'a> {
 
     // A name among the arguments of a call.
     fn named(&self, call: CallName, name: &Name) -> Result<(), CheckFault>
-        ensures ok { OnOk result (event_rule (known_in self.now) (declared_in self.now) (naming call name.now) ≡ None) }
+        ensures ok { OnOk result (mention_rule (known_in self.now) (declared_in self.now) (mention_of_name call name.now) ≡ None) }
         ensures err { IfErr result (IsFaultIn self.now
-            (event_rule (known_in self.now) (declared_in self.now) (naming call name.now))) }
+            (mention_rule (known_in self.now) (declared_in self.now) (mention_of_name call name.now))) }
     {
         match call {
             CallName::TemplateCreate => self.function_named(name),
@@ -234,8 +236,8 @@ impl<'n, 'a> Scope<'n, 'a> {
 
     // A `let` begins.
     fn let_begins(&self, name: &Name) -> Result<(), CheckFault>
-        ensures ok { OnOk result (let_rule (kept_in self.now) name.now ≡ None) }
-        ensures err { IfErr result (IsFaultIn self.now (let_rule (kept_in self.now) name.now)) }
+        ensures ok { OnOk result (let_rule (declarations_in self.now) name.now ≡ None) }
+        ensures err { IfErr result (IsFaultIn self.now (let_rule (declarations_in self.now) name.now)) }
     {
         if is_among(name.as_bytes(), &self.lets) {
             return Err(self.fault(3));
@@ -247,10 +249,10 @@ impl<'n, 'a> Scope<'n, 'a> {
     }
 
     // The name of a `let` is declared.
-    #[tactic(auto, using(crate::proofs::Names::texts_push))]
+    #[tactic(auto, using(crate::proofs::Texts::texts_push))]
     fn declare(&mut self, name: &'a Name) -> Result<(), CheckStop>
         ensures same { IsSameFunction self.old self.new }
-        ensures ok { OnOk result (kept_in self.new ≡ with_name (kept_in self.old) name.now) }
+        ensures ok { OnOk result (declarations_in self.new ≡ with_name (declarations_in self.old) name.now) }
         ensures err { IfErr result (λ stop. stop ≡ CheckStop.NoMemory) }
     {
         self.lets.push(name.as_bytes())?;
@@ -262,10 +264,10 @@ impl<'n, 'a> Scope<'n, 'a> {
     #[tactic(auto, using(crate::proofs::Outcomes::let_passes, crate::proofs::Outcomes::let_name_breaks, crate::proofs::Outcomes::let_value_breaks))]
     fn let_statement(&mut self, name: &'a Name, value: &Expr) -> Result<(), CheckStop>
         ensures same { IsSameFunction self.old self.new }
-        ensures ok { OnOk result (statement_outcome (known_in self.old) (Let name.now (expression_of value.now)) (kept_in self.old)
-            ≡ Passed (kept_in self.new)) }
+        ensures ok { OnOk result (statement_outcome (known_in self.old) (Let name.now (expression_of value.now)) (declarations_in self.old)
+            ≡ Passed (declarations_in self.new)) }
         ensures err { IfErr result (IsStopIn self.old
-            (statement_outcome (known_in self.old) (Let name.now (expression_of value.now)) (kept_in self.old))) }
+            (statement_outcome (known_in self.old) (Let name.now (expression_of value.now)) (declarations_in self.old))) }
     {
         self.let_begins(name)?;
         self.expression(value)?;
@@ -287,10 +289,10 @@ impl<'n, 'a> Scope<'n, 'a> {
     #[tactic(auto, using(crate::proofs::Outcomes::told_none, crate::proofs::Stops::told_stops, crate::proofs::Stops::told_ends, crate::proofs::Outcomes::if_test_breaks, crate::proofs::Outcomes::if_first_breaks, crate::proofs::Outcomes::while_test_breaks))]
     fn statement(&mut self, stmt: &'a Stmt) -> Result<(), CheckStop>
         ensures same { IsSameFunction self.old self.new }
-        ensures ok { OnOk result (statement_outcome (known_in self.old) (statement_of stmt.now) (kept_in self.old)
-            ≡ Passed (kept_in self.new)) }
+        ensures ok { OnOk result (statement_outcome (known_in self.old) (statement_of stmt.now) (declarations_in self.old)
+            ≡ Passed (declarations_in self.new)) }
         ensures err { IfErr result (IsStopIn self.old
-            (statement_outcome (known_in self.old) (statement_of stmt.now) (kept_in self.old))) }
+            (statement_outcome (known_in self.old) (statement_of stmt.now) (declarations_in self.old))) }
     {
         match stmt {
             Stmt::Let { name, value } => self.let_statement(name, value),
@@ -315,11 +317,11 @@ impl<'n, 'a> Scope<'n, 'a> {
     #[tactic(auto, using(crate::proofs::Outcomes::block_passes, crate::proofs::Outcomes::block_breaks))]
     fn block(&mut self, stmts: &'a [Stmt]) -> Result<(), CheckStop>
         ensures same { IsSameFunction self.old self.new }
-        ensures ok { OnOk result (leaving (kept_in self.old)
-            (statements_outcome (known_in self.old) (statements_of stmts.now) (kept_in self.old))
-            ≡ Passed (kept_in self.new)) }
-        ensures err { IfErr result (IsStopIn self.old (leaving (kept_in self.old)
-            (statements_outcome (known_in self.old) (statements_of stmts.now) (kept_in self.old)))) }
+        ensures ok { OnOk result (leaving (declarations_in self.old)
+            (statements_outcome (known_in self.old) (statements_of stmts.now) (declarations_in self.old))
+            ≡ Passed (declarations_in self.new)) }
+        ensures err { IfErr result (IsStopIn self.old (leaving (declarations_in self.old)
+            (statements_outcome (known_in self.old) (statements_of stmts.now) (declarations_in self.old)))) }
     {
         let before = self.declared.len();
         self.statements(stmts)?;
@@ -331,10 +333,10 @@ impl<'n, 'a> Scope<'n, 'a> {
     #[cycle(statement)]
     fn statements(&mut self, stmts: &'a [Stmt]) -> Result<(), CheckStop>
         ensures same { IsSameFunction self.old self.new }
-        ensures ok { OnOk result (statements_outcome (known_in self.old) (statements_of stmts.now) (kept_in self.old)
-            ≡ Passed (kept_in self.new)) }
+        ensures ok { OnOk result (statements_outcome (known_in self.old) (statements_of stmts.now) (declarations_in self.old)
+            ≡ Passed (declarations_in self.new)) }
         ensures err { IfErr result (IsStopIn self.old
-            (statements_outcome (known_in self.old) (statements_of stmts.now) (kept_in self.old))) }
+            (statements_outcome (known_in self.old) (statements_of stmts.now) (declarations_in self.old))) }
     {
         for stmt in stmts {
             self.statement(stmt)?;
@@ -354,8 +356,8 @@ pub fn walk_function<'a>(
     ensures ok { OnOk result (function_rule (knows names.now) (function_of function.now) ≡ None) }
     ensures err { IfErr result (IsStopAt number (function_rule (knows names.now) (function_of function.now))) }
 {
-    let mut scope = Scope::new(alloc, names, number);
-    scope.statements(&function.body)
+    let mut walk = Names::new(alloc, names, number);
+    walk.statements(&function.body)
 }
 
 #[cfg(test)]

@@ -1,4 +1,4 @@
-use Rattle.std.proofs.Common.{◌≡◌, ◌<◌, ◌∙◌, ℕ, Bool, List, Option, length, sym, ap, arith}
+use Rattle.std.proofs.Common.{◌<◌, ◌∙◌, ℕ, Bool, List, Option, length, sym, ap, arith}
 use Rattle.std.proofs.lemmas.Result.{err_from_is_err_and}
 use Rattle.ocr_tree.proofs.Rows.{list_within}
 use Rattle.ocr_tree.specs.Argument.{plain_of}
@@ -9,12 +9,12 @@ use Rattle.ocr_tree.specs.declared.argument.Argument.TheVariants as argument
 use Rattle.ocr_tree.specs.declared.tree.CallName.{CallName}
 use Rattle.ocr_tree.specs.declared.tree.Invoke.{size-Invoke}
 use Rattle.ocr_check.specs.Checking.{arguments_rule}
-use Rattle.ocr_check.specs.Scope.{known_in, declared_in}
-use Rattle.ocr_check.specs.declared.scope.ListKind.TheVariants.{Parameters}
+use Rattle.ocr_check.specs.Names.{known_in, declared_in}
+use Rattle.ocr_check.specs.declared.names.ListKind.TheVariants.{Parameters}
 use Rattle.ocr_check.proofs.Arguments.{own_rule, passes, stops}
 use Rattle.ocr_check.proofs.Stops.{same_stop}
-use Rattle.ocr_check.proofs.scope.Scope.+expression.Goals as goal
-use Rattle.ocr_check.proofs.scope.Scope.+expression.Goals.{arguments-in-Value+in_ok-expression-in-Value, arguments-in-List+in_ok-members-in-List, arguments-in-Name+in_ok-named-in-Name}
+use Rattle.ocr_check.proofs.names.Names.+expression.Goals as goal
+use Rattle.ocr_check.proofs.names.Names.+expression.Goals.{arguments-in-Value+in_ok-expression-in-Value, arguments-in-List+in_ok-members-in-List, arguments-in-Name+in_ok-named-in-Name}
 
 pub arguments-members-requires : goal.arguments-members-requires
 arguments-members-requires t c =
@@ -46,14 +46,14 @@ arguments-loop-place-preserved t c =
     let whole : Option ℕ = arguments_rule known declared call Parameters (plain_of xs) in
     let inside : c.loop-place.place < length xs = omega (arith, c.loop-place-test.true, c.len-place-end.ensures) in
     elim c.match-index.branch [
-      arguments-in-Value+in_ok-expression-in-Value w ↦ passes known declared call c.loop-place.kind c.match-index.kind c.loop-place.place xs
+      | arguments-in-Value+in_ok-expression-in-Value w ↦ passes known declared call c.loop-place.kind c.match-index.kind c.loop-place.place xs
           c.index.result.now (argument.Value w.in-Value.value) whole inside c.index.ensures w.in-Value.is w.kind-is c.loop-place.invariant
           w.in_ok-expression-in-Value.ensures.ok
-    | arguments-in-List+in_ok-members-in-List w ↦ passes known declared call c.loop-place.kind c.match-index.kind c.loop-place.place xs
-        c.index.result.now (argument.List w.in-List.values) whole inside c.index.ensures w.in-List.is w.kind-is c.loop-place.invariant
-        w.in_ok-members-in-List.ensures.ok
-    | arguments-in-Name+in_ok-named-in-Name w ↦ passes known declared call c.loop-place.kind c.match-index.kind c.loop-place.place xs
-        c.index.result.now (argument.Name w.in-Name.name) whole inside c.index.ensures w.in-Name.is w.kind-is c.loop-place.invariant
-        (ap (λ (n : CallName). own_rule known declared n c.loop-place.kind (argument.Name w.in-Name.name)) (sym w.name.ensures)
-        ∙ w.in_ok-named-in-Name.ensures.ok)
+      | arguments-in-List+in_ok-members-in-List w ↦ passes known declared call c.loop-place.kind c.match-index.kind c.loop-place.place xs
+          c.index.result.now (argument.List w.in-List.values) whole inside c.index.ensures w.in-List.is w.kind-is c.loop-place.invariant
+          w.in_ok-members-in-List.ensures.ok
+      | arguments-in-Name+in_ok-named-in-Name w ↦ passes known declared call c.loop-place.kind c.match-index.kind c.loop-place.place xs
+          c.index.result.now (argument.Name w.in-Name.name) whole inside c.index.ensures w.in-Name.is w.kind-is c.loop-place.invariant
+          (ap (λ (n : CallName). own_rule known declared n c.loop-place.kind (argument.Name w.in-Name.name)) (sym w.name.ensures)
+          ∙ w.in_ok-named-in-Name.ensures.ok)
     ]
