@@ -1,3 +1,4 @@
+pub mod Arguments
 pub mod Blocks
 pub mod Grammatical
 pub mod Keeping
@@ -7,7 +8,6 @@ pub mod Limited
 pub mod Pieces
 pub mod Read
 pub mod RoundTrip
-pub mod Rows
 pub mod Speakable
 pub mod Spellings
 pub mod Tokens

@@ -1,5 +1,5 @@
 -- From lexemes to tokens, and from tokens to lexemes.
-use Rattle.std.proofs.Common.{◌≡◌, ◌+◌, ◌-◌, ◌≤◌, ℕ, List, [], ◌∷◌, Bool, true, false, cond, ◌==◌, Option, Some, None, length, take, drop, refl, sym, ap, subst, ◌∙◌, arith, length-drop}
+use Rattle.std.proofs.Common.{◌≡◌, ◌+◌, ◌-◌, ◌≤◌, ℕ, List, [], ◌∷◌, Bool, true, false, cond, Option, Some, None, length, take, drop, refl, sym, ap, subst, ◌∙◌, arith, length-drop}
 use Rattle.std.proofs.lemmas.List.{drop-drop}
 use Rattle.ocr_text.specs.declared.token.TokenKind.{TokenKind}
 use Rattle.ocr_text.specs.declared.token.TokenKind.TheVariants as kind
@@ -77,27 +77,18 @@ pick : (b : Bool) (l : Lexeme) (o : Option Lexeme) → IsGood l → IsGoodOption
 pick true l o good others = good
 pick false l o good others = others
 
-either : (b : Bool) (o q : Option Lexeme) → IsGoodOption o → IsGoodOption q → IsGoodOption (cond b o q)
-either true o q first second = first
-either false o q first second = second
+abbrev AreGoodSymbols : List (List ℕ × Lexeme) → Type 0
+AreGoodSymbols [] = Unit {0}
+AreGoodSymbols (s ∷ rest) = IsGood s.1 × AreGoodSymbols rest
 
-single_good : (b : ℕ) → IsGoodOption (texts.single b)
-single_good b =
-    pick (b == 33) _ _ tt (pick (b == 37) _ _ tt (pick (b == 38) _ _ tt (pick (b == 40) _ _ tt (pick (b == 41) _ _ tt (pick (b == 42) _ _ tt (pick (b == 43) _ _ tt
-    (pick (b == 44) _ _ tt (pick (b == 45) _ _ tt (pick (b == 47) _ _ tt (pick (b == 59) _ _ tt (pick (b == 60) _ _ tt (pick (b == 61) _ _ tt (pick (b == 62) _ _ tt
-    (pick (b == 91) _ _ tt (pick (b == 93) _ _ tt (pick (b == 94) _ _ tt (pick (b == 123) _ _ tt (pick (b == 124) _ _ tt (pick (b == 125) _ _ tt (pick (b == 126) _ _ tt
-    tt))))))))))))))))))))
-
-double_good : (a b : ℕ) → IsGoodOption (texts.double a b)
-double_good a b =
-    either (b == 61) _ _ (pick (a == 33) _ _ tt (pick (a == 60) _ _ tt (pick (a == 61) _ _ tt (pick (a == 62) _ _ tt tt))))
-    (either (b == 60) _ _ (pick (a == 60) _ _ tt tt) (either (b == 62) _ _ (pick (a == 62) _ _ tt tt) tt))
+found_good : (xs : List (List ℕ × Lexeme)) (text : List ℕ) → AreGoodSymbols xs → IsGoodOption (texts.found_in xs text)
+found_good [] text good = tt
+found_good (s ∷ rest) text good = pick (texts.same text s.0) s.1 (texts.found_in rest text) good.0 (found_good rest text good.1)
 
 symbol_good : (piece : List ℕ) → IsGoodOption (texts.symbol piece)
-symbol_good [] = tt
-symbol_good (a ∷ []) = single_good a
-symbol_good (a ∷ b ∷ []) = double_good a b
-symbol_good (a ∷ b ∷ c ∷ rest) = tt
+symbol_good piece =
+    found_good texts.symbols piece
+    (tt, (tt, (tt, (tt, (tt, (tt, (tt, (tt, (tt, (tt, (tt, (tt, (tt, (tt, (tt, (tt, (tt, (tt, (tt, (tt, (tt, (tt, (tt, (tt, (tt, (tt, (tt, tt)))))))))))))))))))))))))))
 
 named_good : (w : Option Word) (c : Option CallName) (k : Option of_constant.Constant) (piece : List ℕ) → is_form kind.Name piece ≡ true
     → texts.word_of piece ≡ w → texts.call_of piece ≡ c → texts.constant_of piece ≡ k → IsGood (texts.found_name w c k piece)

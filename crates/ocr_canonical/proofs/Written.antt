@@ -18,8 +18,7 @@ use Rattle.ocr_grammar.specs.declared.lexeme.Word.TheVariants as reserved
 use Rattle.ocr_grammar.specs.declared.slots.Slot.{Slot}
 use Rattle.ocr_grammar.specs.Shape.{shape}
 use Rattle.ocr_grammar.specs.Grammar.{level, unary_level, spelled, spelled_unary}
-use Rattle.ocr_grammar.specs.Texts.{operator_text, call_text, constant_text}
-use Rattle.ocr_canonical.specs.Words.{unary_text}
+use Rattle.ocr_grammar.specs.Texts.{operator_text, sign_text, call_text, constant_text}
 use Rattle.ocr_canonical.specs.Canonical as text
 use Rattle.ocr_canonical.specs.Canonical.{expression_text, arguments_text, further_text, statement_text, statements_text, function_text, program_text, further_functions, deeper}
 use Rattle.ocr_canonical.proofs.Lexemes as canonical
@@ -33,7 +32,7 @@ use Rattle.ocr_canonical.proofs.Speakable.{IsSpeakable, Suits, AreSpeakable, IsW
 
 -- ---- signs
 
-unary_before : (op : UnaryOp) (rest : List ℕ) (ls : List Lexeme) → second_of 33 rest ≡ 0 → IsLexed rest ls → IsLexed (unary_text op ++ rest) (spelled_unary op ∷ ls)
+unary_before : (op : UnaryOp) (rest : List ℕ) (ls : List Lexeme) → second_of 33 rest ≡ 0 → IsLexed rest ls → IsLexed (sign_text op ++ rest) (spelled_unary op ∷ ls)
 unary_before unary.Not rest ls apart d = single 33 rest lexeme.Not ls refl apart refl d
 unary_before unary.Invert rest ls apart d = plain 126 rest lexeme.Invert ls refl (λ b. refl) refl d
 unary_before unary.Minus rest ls apart d = plain 45 rest (lexeme.Operator binary.Sub) ls refl (λ b. refl) refl d
@@ -81,7 +80,7 @@ number_apart : (x rest : List ℕ) → is_form kind.Number x ≡ true → second
 number_apart [] rest form = cc
 number_apart (b ∷ bs) rest form = no_equals b (bs ++ rest) (digit_apart b (and_left _ _ form))
 
-unary_apart : (op : UnaryOp) (x rest : List ℕ) → second_of 33 (unary_text op ++ x ++ rest) ≡ 0
+unary_apart : (op : UnaryOp) (x rest : List ℕ) → second_of 33 (sign_text op ++ x ++ rest) ≡ 0
 unary_apart unary.Not x rest = refl
 unary_apart unary.Invert x rest = refl
 unary_apart unary.Minus x rest = refl

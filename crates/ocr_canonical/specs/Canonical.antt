@@ -2,8 +2,7 @@
 use Rattle.std.specs.Prelude.{ℕ, ◌+◌, List, [], ◌∷◌, ◌++◌, Bool, true, false, nat_lt, codes, decimal}
 use Rattle.ocr_tree.specs.Tree.{Expression, Number, Named, Var, Paramc, Depc, LastCode, Paramv, Depv, Unary, Binary, Invoked, Arguments, empty, value, list, named, Statement, Let, Assign, If, While, Print, Return, Do, Statements, nothing, statement, FunctionTree}
 use Rattle.ocr_grammar.specs.Grammar.{level, unary_level}
-use Rattle.ocr_grammar.specs.Texts.{operator_text, constant_text, call_text}
-use Rattle.ocr_canonical.specs.Words.{unary_text}
+use Rattle.ocr_grammar.specs.Texts.{operator_text, sign_text, constant_text, call_text}
 
 -- the level of the operator of an expression, above all levels where none joins it
 abbrev pub level_of : Expression → ℕ
@@ -28,7 +27,7 @@ abbrev mutual
   expression_text LastCode = codes "code"
   expression_text (Paramv e) = codes "paramv[" ++ expression_text e ++ codes "]"
   expression_text (Depv e) = codes "depv[" ++ expression_text e ++ codes "]"
-  expression_text (Unary op e) = unary_text op ++ operand_text unary_level (level_of e) (expression_text e)
+  expression_text (Unary op e) = sign_text op ++ operand_text unary_level (level_of e) (expression_text e)
   expression_text (Binary op a b) =
       operand_text (level op) (level_of a) (expression_text a) ++ codes " " ++ operator_text op ++ codes " "
       ++ operand_text (level op + 1) (level_of b) (expression_text b)

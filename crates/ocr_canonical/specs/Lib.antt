@@ -1,3 +1,3 @@
-pub mod Words
 pub mod Canonical
 pub mod RoundTrip
+pub mod Writing

@@ -1,16 +1,18 @@
 // Expressions and calls.
 ghost use Rattle.std.specs.Prelude.{◌≡◌, ◌++◌, OnOk, codes};
 ghost use Rattle.ocr_tree.specs.Tree.{Number, Invoked};
-ghost use Rattle.ocr_tree.specs.View as view;
-ghost use Rattle.ocr_tree.specs.View.{expression_of, arguments_of, members_of, output_of};
+ghost use Rattle.ocr_tree.specs.View.{expression_of, name_of, arguments_of, members_of};
 ghost use Rattle.ocr_canonical.specs.Canonical as canonical;
-ghost use Rattle.ocr_canonical.specs.Canonical.{expression_text, operand_text, arguments_text, further_text};
+ghost use Rattle.ocr_canonical.specs.Canonical.{expression_text, operand_text, arguments_text};
+ghost use Rattle.ocr_canonical.specs.Writing as writing;
 
-use crate::words::{UNARY_LEVEL, level, unary_text};
 use itoa::Buffer;
-use ocr_tree::{CallName, Expr, Invoke, Name};
-use ocr_grammar::{call_text, constant_text, operator_text};
-use std::alloc::AllocError;
+use ocr_base::NoMemory;
+use ocr_grammar::{
+    UNARY_LEVEL, Word, call_text, constant_text, level, operator_text, sign_text, word_text,
+};
+use ocr_tree::{Argument, Expr, Invoke};
+use std::alloc::Global;
 
 // The level of the operator of an expression, above all levels where none joins it.
 fn level_of(expression: &Expr) -> u8
@@ -22,243 +24,143 @@ fn level_of(expression: &Expr) -> u8
     }
 }
 
-// The name of a call.
-fn name_of(call: &Invoke) -> CallName
-    ensures { result ≡ view.name_of call.now }
-{
-    match call {
-        Invoke::DbCreate { .. } => CallName::DbCreate,
-        Invoke::DbRelease { .. } => CallName::DbRelease,
-        Invoke::DbDestroy { .. } => CallName::DbDestroy,
-        Invoke::EventCreate { .. } => CallName::EventCreate,
-        Invoke::EventCreateParams { .. } => CallName::EventCreateParams,
-        Invoke::EventDestroy { .. } => CallName::EventDestroy,
-        Invoke::Satisfy { .. } => CallName::Satisfy,
-        Invoke::SatisfySlot { .. } => CallName::SatisfySlot,
-        Invoke::AddDependence { .. } => CallName::AddDependence,
-        Invoke::TemplateCreate { .. } => CallName::TemplateCreate,
-        Invoke::TemplateDestroy { .. } => CallName::TemplateDestroy,
-        Invoke::EdtCreate { .. } => CallName::EdtCreate,
-        Invoke::Shutdown => CallName::Shutdown,
-        Invoke::Abort { .. } => CallName::Abort,
-        Invoke::Load { .. } => CallName::Load,
-        Invoke::Store { .. } => CallName::Store,
-    }
-}
-
 // A number in decimal.
-fn number(text: &mut Vec<u8>, value: u64) -> Result<(), AllocError>
+fn number(text: &mut Vec<u8>, value: u64) -> Result<(), NoMemory>
     ensures { OnOk result (text.new.items ≡ text.old.items ++ expression_text (Number value)) }
 {
     let mut buffer = Buffer::new();
-    text.extend_from_slice(buffer.format(value).as_bytes())?;
+    write(text, buffer.format(value).as_bytes())
+}
+
+/// Writes bytes at the text's end.
+pub fn write(text: &mut Vec<u8>, bytes: &[u8]) -> Result<(), NoMemory>
+    ensures { OnOk result (text.new.items ≡ text.old.items ++ bytes.now) }
+{
+    text.extend_from_slice(bytes)?;
     Ok(())
 }
 
 /// Writes an expression at the text's end.
 #[cycle(expression)]
-pub fn expression(text: &mut Vec<u8>, expr: &Expr) -> Result<(), AllocError>
+pub fn expression(alloc: Global, text: &mut Vec<u8>, expr: &Expr) -> Result<(), NoMemory>
     ensures { OnOk result (text.new.items ≡ text.old.items ++ expression_text (expression_of expr.now)) }
 {
     match expr {
         Expr::Number(value) => number(text, *value),
-        Expr::Constant(constant) => text.extend_from_slice(constant_text(*constant)),
-        Expr::Var(name) => text.extend_from_slice(name.as_bytes()),
-        Expr::Paramc => text.extend_from_slice(b"paramc"),
-        Expr::Depc => text.extend_from_slice(b"depc"),
-        Expr::Code => text.extend_from_slice(b"code"),
+        Expr::Constant(constant) => write(text, constant_text(*constant)),
+        Expr::Var(name) => write(text, name.as_bytes()),
+        Expr::Paramc => write(text, word_text(Word::Paramc)),
+        Expr::Depc => write(text, word_text(Word::Depc)),
+        Expr::Code => write(text, word_text(Word::Code)),
         Expr::Paramv(index) => {
-            text.extend_from_slice(b"paramv")?;
-            enclosed(text, b"[", index, b"]")
+            write(text, word_text(Word::Paramv))?;
+            enclosed(alloc, text, b"[", index, b"]")
         }
         Expr::Depv(index) => {
-            text.extend_from_slice(b"depv")?;
-            enclosed(text, b"[", index, b"]")
+            write(text, word_text(Word::Depv))?;
+            enclosed(alloc, text, b"[", index, b"]")
         }
         Expr::Unary(op, inner) => {
-            text.extend_from_slice(unary_text(*op))?;
-            operand(text, inner, UNARY_LEVEL)
+            write(text, sign_text(*op))?;
+            operand(alloc, text, inner, UNARY_LEVEL)
         }
         Expr::Binary(op, left, right) => {
-            operand(text, left, level(*op))?;
-            text.extend_from_slice(b" ")?;
-            text.extend_from_slice(operator_text(*op))?;
-            text.extend_from_slice(b" ")?;
-            operand(text, right, level(*op) + 1)
+            operand(alloc, text, left, level(*op))?;
+            write(text, b" ")?;
+            write(text, operator_text(*op))?;
+            write(text, b" ")?;
+            operand(alloc, text, right, level(*op) + 1)
         }
-        Expr::Invoke(call) => invoke(text, call),
+        Expr::Invoke(call) => invoke(alloc, text, call),
     }
 }
 
 // An expression between two brackets.
 #[cycle(expression)]
 fn enclosed(
+    alloc: Global,
     text: &mut Vec<u8>,
     opening: &[u8],
     expr: &Expr,
     closing: &[u8],
-) -> Result<(), AllocError>
+) -> Result<(), NoMemory>
     ensures { OnOk result (text.new.items
         ≡ text.old.items ++ (opening.now ++ expression_text (expression_of expr.now) ++ closing.now)) }
 {
-    text.extend_from_slice(opening)?;
-    expression(text, expr)?;
-    text.extend_from_slice(closing)
+    write(text, opening)?;
+    expression(alloc, text, expr)?;
+    write(text, closing)
 }
 
 // An operand, in brackets where its level is below the least that may stand here without.
 #[cycle(expression)]
-fn operand(text: &mut Vec<u8>, expr: &Expr, least: u8) -> Result<(), AllocError>
+fn operand(alloc: Global, text: &mut Vec<u8>, expr: &Expr, least: u8) -> Result<(), NoMemory>
     ensures { let e = expression_of expr.now in
         OnOk result (text.new.items ≡ text.old.items ++ operand_text least (canonical.level_of e) (expression_text e)) }
 {
     if level_of(expr) < least {
-        enclosed(text, b"(", expr, b")")
+        enclosed(alloc, text, b"(", expr, b")")
     } else {
-        expression(text, expr)
+        expression(alloc, text, expr)
     }
 }
 
 /// Writes a call at the text's end.
 #[cycle(expression)]
-pub fn invoke(text: &mut Vec<u8>, call: &Invoke) -> Result<(), AllocError>
-    ensures { let e = Invoked (view.name_of call.now) (arguments_of call.now) in
+pub fn invoke(alloc: Global, text: &mut Vec<u8>, call: &Invoke) -> Result<(), NoMemory>
+    ensures { let e = Invoked (name_of call.now) (arguments_of call.now) in
         OnOk result (text.new.items ≡ text.old.items ++ expression_text e) }
 {
-    text.extend_from_slice(call_text(name_of(call)))?;
-    text.extend_from_slice(b"(")?;
-    arguments(text, call)?;
-    text.extend_from_slice(b")")
+    write(text, call_text(call.name()))?;
+    write(text, b"(")?;
+    arguments(alloc, text, call)?;
+    write(text, b")")
 }
 
-// The arguments of a call.
+// What stands before the argument at a place, from 0.
+fn comma_at(place: usize) -> &'static [u8]
+    ensures { result.now ≡ writing.comma_at place }
+{
+    if place == 0 { b"" } else { b", " }
+}
+
+// What stands before the name at a place.
+fn sign_at(place: usize) -> &'static [u8]
+    ensures { result.now ≡ writing.sign_at place }
+{
+    if place == 0 { b"" } else { b"&" }
+}
+
+// The arguments of a call. A name that is not the first is that of a variable, behind `&`.
 #[cycle(expression)]
-fn arguments(text: &mut Vec<u8>, call: &Invoke) -> Result<(), AllocError>
+fn arguments(alloc: Global, text: &mut Vec<u8>, call: &Invoke) -> Result<(), NoMemory>
     ensures { OnOk result (text.new.items ≡ text.old.items ++ arguments_text (arguments_of call.now)) }
 {
-    match call {
-        Invoke::Shutdown => Ok(()),
-        Invoke::DbRelease { block } => expression(text, block),
-        Invoke::DbDestroy { block } => expression(text, block),
-        Invoke::EventDestroy { event } => expression(text, event),
-        Invoke::TemplateDestroy { template } => expression(text, template),
-        Invoke::Abort { code } => expression(text, code),
-        Invoke::DbCreate { length, flags } => {
-            expression(text, length)?;
-            further(text, flags)
+    let list = call.arguments(alloc)?;
+    for place in 0..list.len() {
+        write(text, comma_at(place))?;
+        match list[place] {
+            Argument::Value(value) => expression(alloc, text, value)?,
+            Argument::List(values) => members(alloc, text, values)?,
+            Argument::Name(name) => {
+                write(text, sign_at(place))?;
+                write(text, name.as_bytes())?;
+            }
         }
-        Invoke::EventCreate { kind, flags } => {
-            expression(text, kind)?;
-            further(text, flags)
-        }
-        Invoke::Satisfy { event, payload } => {
-            expression(text, event)?;
-            further(text, payload)
-        }
-        Invoke::Load { block, word } => {
-            expression(text, block)?;
-            further(text, word)
-        }
-        Invoke::SatisfySlot {
-            event,
-            payload,
-            slot,
-        } => {
-            expression(text, event)?;
-            further(text, payload)?;
-            further(text, slot)
-        }
-        Invoke::Store { block, word, value } => {
-            expression(text, block)?;
-            further(text, word)?;
-            further(text, value)
-        }
-        Invoke::AddDependence {
-            source,
-            target,
-            slot,
-            mode,
-        } => {
-            expression(text, source)?;
-            further(text, target)?;
-            further(text, slot)?;
-            further(text, mode)
-        }
-        Invoke::EventCreateParams {
-            kind,
-            flags,
-            max_gen,
-            nb_sat,
-            nb_deps,
-        } => {
-            expression(text, kind)?;
-            further(text, flags)?;
-            further(text, max_gen)?;
-            further(text, nb_sat)?;
-            further(text, nb_deps)
-        }
-        Invoke::TemplateCreate {
-            function,
-            paramc,
-            depc,
-        } => {
-            text.extend_from_slice(function.as_bytes())?;
-            further(text, paramc)?;
-            further(text, depc)
-        }
-        Invoke::EdtCreate {
-            template,
-            paramc,
-            params,
-            depc,
-            deps,
-            flags,
-            output,
-        } => {
-            expression(text, template)?;
-            further(text, paramc)?;
-            list(text, params)?;
-            further(text, depc)?;
-            list(text, deps)?;
-            further(text, flags)?;
-            output_variable(text, output)
-        }
-    }
-}
-
-// An argument, or a member of a list, that is not the first.
-#[cycle(expression)]
-fn further(text: &mut Vec<u8>, expr: &Expr) -> Result<(), AllocError>
-    ensures { OnOk result (text.new.items ≡ text.old.items ++ (codes ", " ++ expression_text (expression_of expr.now))) }
-{
-    text.extend_from_slice(b", ")?;
-    expression(text, expr)
-}
-
-// A list, which is not the first argument.
-#[cycle(expression)]
-fn list(text: &mut Vec<u8>, members: &[Expr]) -> Result<(), AllocError>
-    ensures { OnOk result (text.new.items
-        ≡ text.old.items ++ (codes ", [" ++ arguments_text (members_of members.now) ++ codes "]")) }
-{
-    text.extend_from_slice(b", [")?;
-    let [first, rest @ ..] = members else {
-        return text.extend_from_slice(b"]");
-    };
-    expression(text, first)?;
-    for member in rest {
-        further(text, member)?;
-    }
-    text.extend_from_slice(b"]")
-}
-
-// The variable that a call sets, where one is named.
-fn output_variable(text: &mut Vec<u8>, output: &Option<Name>) -> Result<(), AllocError>
-    ensures { OnOk result (text.new.items ≡ text.old.items ++ further_text (output_of output.now)) }
-{
-    if let Some(variable) = output {
-        text.extend_from_slice(b", &")?;
-        text.extend_from_slice(variable.as_bytes())?;
     }
     Ok(())
+}
+
+// A list between its brackets.
+#[cycle(expression)]
+fn members(alloc: Global, text: &mut Vec<u8>, values: &[Expr]) -> Result<(), NoMemory>
+    ensures { OnOk result (text.new.items
+        ≡ text.old.items ++ (codes "[" ++ arguments_text (members_of values.now) ++ codes "]")) }
+{
+    write(text, b"[")?;
+    for place in 0..values.len() {
+        write(text, comma_at(place))?;
+        expression(alloc, text, &values[place])?;
+    }
+    write(text, b"]")
 }

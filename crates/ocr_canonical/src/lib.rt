@@ -8,10 +8,9 @@ ghost use Rattle.ocr_canonical.specs.RoundTrip.{IsTextOf};
 
 mod expression;
 mod statement;
-mod words;
 
-use ocr_tree::Program;
 use ocr_base::NoMemory;
+use ocr_tree::Program;
 use std::alloc::Global;
 
 /// The canonical text of a program: its one spelling in lines, with the fewest brackets. For a program that some
@@ -23,8 +22,6 @@ pub fn print_program(alloc: Global, program: &Program) -> Result<Vec<u8>, NoMemo
         (given : List ℕ) → IsTextOf given (tree_of program.now) → IsTextOf text.items (tree_of program.now)) }
 {
     let mut text = Vec::new(alloc);
-    match statement::functions(alloc, &mut text, program) {
-        Ok(()) => Ok(text),
-        Err(_) => Err(NoMemory),
-    }
+    statement::functions(alloc, &mut text, program)?;
+    Ok(text)
 }

@@ -1,15 +1,18 @@
 // Statements, functions and whole programs.
 ghost use Rattle.std.specs.Prelude.{◌≡◌, ◌++◌, OnOk, IfOk, codes};
 ghost use Rattle.ocr_tree.specs.View.{expression_of, statement_of, statements_of, function_of, tree_of};
+ghost use Rattle.ocr_grammar.specs.Texts as texts;
 ghost use Rattle.ocr_canonical.specs.Canonical as canonical;
 ghost use Rattle.ocr_canonical.specs.Canonical.{expression_text, statement_text, statements_text, function_text, program_text};
 
-use crate::expression::{expression, invoke};
+use crate::expression::{expression, invoke, write};
+use ocr_base::NoMemory;
+use ocr_grammar::{Word, word_text};
 use ocr_tree::{Expr, Function, Name, Program, Stmt};
-use std::alloc::{AllocError, Global};
+use std::alloc::Global;
 
 // The spaces two deeper.
-fn deeper(alloc: Global, margin: &[u8]) -> Result<Vec<u8>, AllocError>
+fn deeper(alloc: Global, margin: &[u8]) -> Result<Vec<u8>, NoMemory>
     ensures { IfOk result (λ inner. inner.items ≡ canonical.deeper margin.now) }
 {
     let mut inner = Vec::from_slice(alloc, margin)?;
@@ -17,85 +20,91 @@ fn deeper(alloc: Global, margin: &[u8]) -> Result<Vec<u8>, AllocError>
     Ok(inner)
 }
 
-// A line `x = e;`, behind what stands before the name.
-fn assignment(
-    text: &mut Vec<u8>,
-    margin: &[u8],
-    before: &[u8],
-    name: &Name,
-    value: &Expr,
-) -> Result<(), AllocError>
+// An assignment `x = e;`, up to the end of its line.
+fn assignment(alloc: Global, text: &mut Vec<u8>, name: &Name, value: &Expr) -> Result<(), NoMemory>
     ensures { let e = expression_text (expression_of value.now) in
-        OnOk result (text.new.items
-        ≡ text.old.items ++ canonical.line margin.now (before.now ++ name.now ++ codes " = " ++ e ++ codes ";")) }
+        OnOk result (text.new.items ≡ text.old.items ++ (name.now ++ codes " = " ++ e ++ codes ";\n")) }
 {
-    text.extend_from_slice(margin)?;
-    text.extend_from_slice(before)?;
-    text.extend_from_slice(name.as_bytes())?;
-    text.extend_from_slice(b" = ")?;
-    expression(text, value)?;
-    text.extend_from_slice(b";\n")
+    write(text, name.as_bytes())?;
+    write(text, b" = ")?;
+    expression(alloc, text, value)?;
+    write(text, b";\n")
 }
 
 // A line of a word, an expression and what ends it.
 fn worded(
+    alloc: Global,
     text: &mut Vec<u8>,
     margin: &[u8],
-    word: &[u8],
+    word: Word,
     value: &Expr,
     end: &[u8],
-) -> Result<(), AllocError>
-    ensures { let e = expression_text (expression_of value.now) in
-        OnOk result (text.new.items ≡ text.old.items ++ canonical.line margin.now (word.now ++ e ++ end.now)) }
+) -> Result<(), NoMemory>
+    ensures { let e = expression_text (expression_of value.now) in OnOk result (text.new.items
+        ≡ text.old.items ++ canonical.line margin.now (texts.word_text word ++ codes " " ++ e ++ end.now)) }
 {
-    text.extend_from_slice(margin)?;
-    text.extend_from_slice(word)?;
-    expression(text, value)?;
-    text.extend_from_slice(end)?;
-    text.extend_from_slice(b"\n")
+    write(text, margin)?;
+    write(text, word_text(word))?;
+    write(text, b" ")?;
+    expression(alloc, text, value)?;
+    write(text, end)?;
+    write(text, b"\n")
+}
+
+// A line `} else {`.
+fn else_line(text: &mut Vec<u8>, margin: &[u8]) -> Result<(), NoMemory>
+    ensures { OnOk result (text.new.items ≡ text.old.items ++ canonical.line margin.now (codes "} else {")) }
+{
+    write(text, margin)?;
+    write(text, b"} ")?;
+    write(text, word_text(Word::Else))?;
+    write(text, b" {\n")
 }
 
 // A line of these bytes alone.
-fn line(text: &mut Vec<u8>, margin: &[u8], bytes: &[u8]) -> Result<(), AllocError>
+fn line(text: &mut Vec<u8>, margin: &[u8], bytes: &[u8]) -> Result<(), NoMemory>
     ensures { OnOk result (text.new.items ≡ text.old.items ++ canonical.line margin.now bytes.now) }
 {
-    text.extend_from_slice(margin)?;
-    text.extend_from_slice(bytes)?;
-    text.extend_from_slice(b"\n")
+    write(text, margin)?;
+    write(text, bytes)?;
+    write(text, b"\n")
 }
 
 // A statement, each of its lines behind the margin.
 #[cycle(statement)]
-fn statement(
-    alloc: Global,
-    text: &mut Vec<u8>,
-    margin: &[u8],
-    stmt: &Stmt,
-) -> Result<(), AllocError>
+fn statement(alloc: Global, text: &mut Vec<u8>, margin: &[u8], stmt: &Stmt) -> Result<(), NoMemory>
     ensures { OnOk result (text.new.items ≡ text.old.items ++ statement_text margin.now (statement_of stmt.now)) }
 {
     match stmt {
-        Stmt::Let { name, value } => assignment(text, margin, b"let ", name, value),
-        Stmt::Assign { name, value } => assignment(text, margin, b"", name, value),
-        Stmt::Print { value } => worded(text, margin, b"print ", value, b";"),
-        Stmt::Return { value } => worded(text, margin, b"return ", value, b";"),
+        Stmt::Let { name, value } => {
+            write(text, margin)?;
+            write(text, word_text(Word::Let))?;
+            write(text, b" ")?;
+            assignment(alloc, text, name, value)
+        }
+        Stmt::Assign { name, value } => {
+            write(text, margin)?;
+            assignment(alloc, text, name, value)
+        }
+        Stmt::Print { value } => worded(alloc, text, margin, Word::Print, value, b";"),
+        Stmt::Return { value } => worded(alloc, text, margin, Word::Return, value, b";"),
         Stmt::Invoke(call) => {
-            text.extend_from_slice(margin)?;
-            invoke(text, call)?;
-            text.extend_from_slice(b";\n")
+            write(text, margin)?;
+            invoke(alloc, text, call)?;
+            write(text, b";\n")
         }
         Stmt::While { test, body } => {
-            worded(text, margin, b"while ", test, b" {")?;
+            worded(alloc, text, margin, Word::While, test, b" {")?;
             block(alloc, text, margin, body)?;
             line(text, margin, b"}")
         }
         Stmt::If { test, yes, no } => {
-            worded(text, margin, b"if ", test, b" {")?;
+            worded(alloc, text, margin, Word::If, test, b" {")?;
             block(alloc, text, margin, yes)?;
             if no.is_empty() {
                 return line(text, margin, b"}");
             }
-            line(text, margin, b"} else {")?;
+            else_line(text, margin)?;
             block(alloc, text, margin, no)?;
             line(text, margin, b"}")
         }
@@ -104,7 +113,7 @@ fn statement(
 
 // The statements of a block, two spaces deeper than this margin.
 #[cycle(statement)]
-fn block(alloc: Global, text: &mut Vec<u8>, margin: &[u8], stmts: &[Stmt]) -> Result<(), AllocError>
+fn block(alloc: Global, text: &mut Vec<u8>, margin: &[u8], stmts: &[Stmt]) -> Result<(), NoMemory>
     ensures { OnOk result (text.new.items
         ≡ text.old.items ++ statements_text (canonical.deeper margin.now) (statements_of stmts.now)) }
 {
@@ -116,18 +125,19 @@ fn block(alloc: Global, text: &mut Vec<u8>, margin: &[u8], stmts: &[Stmt]) -> Re
 }
 
 // A function.
-fn function(alloc: Global, text: &mut Vec<u8>, function: &Function) -> Result<(), AllocError>
+fn function(alloc: Global, text: &mut Vec<u8>, function: &Function) -> Result<(), NoMemory>
     ensures { OnOk result (text.new.items ≡ text.old.items ++ function_text (function_of function.now)) }
 {
-    text.extend_from_slice(b"fn ")?;
-    text.extend_from_slice(function.name.as_bytes())?;
-    text.extend_from_slice(b" {\n")?;
+    write(text, word_text(Word::Fn))?;
+    write(text, b" ")?;
+    write(text, function.name.as_bytes())?;
+    write(text, b" {\n")?;
     block(alloc, text, b"", &function.body)?;
-    text.extend_from_slice(b"}\n")
+    write(text, b"}\n")
 }
 
 /// Writes the functions of a program at the text's end.
-pub fn functions(alloc: Global, text: &mut Vec<u8>, program: &Program) -> Result<(), AllocError>
+pub fn functions(alloc: Global, text: &mut Vec<u8>, program: &Program) -> Result<(), NoMemory>
     ensures { OnOk result (text.new.items ≡ text.old.items ++ program_text (tree_of program.now)) }
 {
     let [first, rest @ ..] = program.functions.as_slice() else {
@@ -135,7 +145,7 @@ pub fn functions(alloc: Global, text: &mut Vec<u8>, program: &Program) -> Result
     };
     function(alloc, text, first)?;
     for other in rest {
-        text.extend_from_slice(b"\n")?;
+        write(text, b"\n")?;
         function(alloc, text, other)?;
     }
     Ok(())

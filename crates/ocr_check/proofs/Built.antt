@@ -12,10 +12,10 @@ use Rattle.ocr_tree.specs.declared.tree.CallName.TheVariants as name
 use Rattle.ocr_tree.specs.declared.tree.CallName.{CallName}
 use Rattle.ocr_check.specs.Check.{FailsNowhere, Breaks, BreaksSome}
 use Rattle.ocr_check.specs.Check as check
-use Rattle.ocr_check.specs.Checking.{Kept, Outcome, Passed, Broken, told, and_then, leaving, let_rule, value_rule, with_name, event_rule, expression_rule, arguments_rule, statement_outcome, statements_outcome, rule_of, function_rule, nothing_kept}
-use Rattle.ocr_check.specs.declared.scope.ListKind.{ListKind}
-use Rattle.ocr_check.specs.declared.scope.ListKind.TheVariants.{Parameters, Dependences}
-use Rattle.ocr_check.proofs.Events.{known_of}
+use Rattle.ocr_check.specs.Checking.{Declarations, Outcome, Passed, Broken, told, and_then, leaving, let_rule, value_rule, with_name, mention_rule, expression_rule, arguments_rule, statement_outcome, statements_outcome, rule_of, function_rule, no_declarations}
+use Rattle.ocr_check.specs.declared.names.ListKind.{ListKind}
+use Rattle.ocr_check.specs.declared.names.ListKind.TheVariants.{Parameters, Dependences}
+use Rattle.ocr_check.proofs.Mentions.{known_of}
 use Rattle.ocr_check.proofs.Programs.{function_stops}
 
 both_true : (a b : Bool) → a ≡ true → b ≡ true → (a && b) ≡ true
@@ -36,7 +36,7 @@ held false rule e = absurd (cc)
 
 -- each call that breaks no rule is so
 abbrev pub IsKept : (known : List ℕ → Bool) → (CallName → Arguments → Bool) → Type 0
-IsKept known p = (declared : List ℕ → Bool) (call : CallName) (xs : Arguments) → event_rule known declared (check.Called call xs) ≡ None
+IsKept known p = (declared : List ℕ → Bool) (call : CallName) (xs : Arguments) → mention_rule known declared (check.Called call xs) ≡ None
     → arguments_rule known declared call Parameters xs ≡ None → p call xs ≡ true
 
 mutual
@@ -55,7 +55,7 @@ mutual
       (expression_keeps known p kept declared a (left_none (expression_rule known declared a) (expression_rule known declared b) h))
       (expression_keeps known p kept declared b (right_none (expression_rule known declared a) (expression_rule known declared b) h))
   expression_keeps known p kept declared (tree.Invoked call xs) h =
-      let called : Option ℕ = event_rule known declared (check.Called call xs) in
+      let called : Option ℕ = mention_rule known declared (check.Called call xs) in
       let arguments : Option ℕ = arguments_rule known declared call Parameters xs in
       both_true (p call xs) (is_each_call_of_all p xs) (kept declared call xs (left_none called arguments h) (right_none called arguments h))
       (arguments_keep known p kept declared call Parameters xs (right_none called arguments h))
@@ -68,40 +68,40 @@ mutual
       (arguments_keep known p kept declared call kind rest (right_none (expression_rule known declared e) (arguments_rule known declared call kind rest) h))
   arguments_keep known p kept declared call kind (tree.list es rest) h =
       let members : Option ℕ = arguments_rule known declared call kind es in
-      let closed : Option ℕ = event_rule known declared (check.ListClosed kind (check.count_of es)) in
+      let closed : Option ℕ = mention_rule known declared (check.ListClosed kind (check.count_of es)) in
       let others : Option ℕ = arguments_rule known declared call Dependences rest in
       both_true (is_each_call_of_all p es) (is_each_call_of_all p rest)
       (arguments_keep known p kept declared call kind es (left_none members (option_or closed others) h))
       (arguments_keep known p kept declared call Dependences rest (right_none closed others (right_none members (option_or closed others) h)))
   arguments_keep known p kept declared call kind (tree.named x rest) h =
       arguments_keep known p kept declared call kind rest
-      (right_none (event_rule known declared (check.naming call x)) (arguments_rule known declared call kind rest) h)
+      (right_none (mention_rule known declared (check.mention_of_name call x)) (arguments_rule known declared call kind rest) h)
 
 -- a part that passes tells no rule
-told_passes : (k m : Kept) (o : Option ℕ) → told k o ≡ Passed m → o ≡ None
+told_passes : (k m : Declarations) (o : Option ℕ) → told k o ≡ Passed m → o ≡ None
 told_passes k m None e = refl
 told_passes k m (Some r) e = absurd (cc)
 
 -- what passes in two parts passes in the first, and in the second after it
-first_passes : (o : Outcome) (next : Kept → Outcome) (m : Kept) → and_then o next ≡ Passed m → (k : Kept) × (o ≡ Passed k) × (next k ≡ Passed m)
+first_passes : (o : Outcome) (next : Declarations → Outcome) (m : Declarations) → and_then o next ≡ Passed m → (k : Declarations) × (o ≡ Passed k) × (next k ≡ Passed m)
 first_passes (Passed k) next m e = (k, refl, e)
 first_passes (Broken r) next m e = absurd (cc)
 
-inner_passes : (k m : Kept) (o : Outcome) → leaving k o ≡ Passed m → (n : Kept) × (o ≡ Passed n)
+inner_passes : (k m : Declarations) (o : Outcome) → leaving k o ≡ Passed m → (n : Declarations) × (o ≡ Passed n)
 inner_passes k m (Passed n) e = (n, refl)
 inner_passes k m (Broken r) e = absurd (cc)
 
-value_keeps : (known : List ℕ → Bool) (p : CallName → Arguments → Bool) (kept : IsKept known p) (k m : Kept) (e : Expression) → told k (value_rule known k e) ≡ Passed m → is_each_call p e ≡ true
+value_keeps : (known : List ℕ → Bool) (p : CallName → Arguments → Bool) (kept : IsKept known p) (k m : Declarations) (e : Expression) → told k (value_rule known k e) ≡ Passed m → is_each_call p e ≡ true
 value_keeps known p kept k m e h = expression_keeps known p kept (λ x. check.is_among x k.declared) e (told_passes k m (value_rule known k e) h)
 
 mutual
-  statement_keeps : (known : List ℕ → Bool) (p : CallName → Arguments → Bool) (kept : IsKept known p) (s : Statement) (k m : Kept) → statement_outcome known s k ≡ Passed m → is_each_call_in p s ≡ true
+  statement_keeps : (known : List ℕ → Bool) (p : CallName → Arguments → Bool) (kept : IsKept known p) (s : Statement) (k m : Declarations) → statement_outcome known s k ≡ Passed m → is_each_call_in p s ≡ true
   statement_keeps known p kept (tree.Let x e) k m h =
       let part = first_passes (told k (option_or (let_rule k x) (value_rule known k e))) (λ n. Passed (with_name n x)) m h in
       expression_keeps known p kept (λ y. check.is_among y k.declared) e
       (right_none (let_rule k x) (value_rule known k e) (told_passes k part.0 (option_or (let_rule k x) (value_rule known k e)) part.1))
   statement_keeps known p kept (tree.Assign x e) k m h =
-      let used : Option ℕ = event_rule known (λ y. check.is_among y k.declared) (check.Used x) in
+      let used : Option ℕ = mention_rule known (λ y. check.is_among y k.declared) (check.Used x) in
       expression_keeps known p kept (λ y. check.is_among y k.declared) e
       (right_none used (value_rule known k e) (told_passes k m (option_or used (value_rule known k e)) h))
   statement_keeps known p kept (tree.If e first second) k m h =
@@ -121,20 +121,20 @@ mutual
   statement_keeps known p kept (tree.Return e) k m h = value_keeps known p kept k m e h
   statement_keeps known p kept (tree.Do call xs) k m h = value_keeps known p kept k m (tree.Invoked call xs) h
 
-  statements_keep : (known : List ℕ → Bool) (p : CallName → Arguments → Bool) (kept : IsKept known p) (ss : Statements) (k m : Kept) → statements_outcome known ss k ≡ Passed m → is_each_call_in_all p ss ≡ true
+  statements_keep : (known : List ℕ → Bool) (p : CallName → Arguments → Bool) (kept : IsKept known p) (ss : Statements) (k m : Declarations) → statements_outcome known ss k ≡ Passed m → is_each_call_in_all p ss ≡ true
   statements_keep known p kept tree.nothing k m h = refl
   statements_keep known p kept (tree.statement s rest) k m h =
       let part = first_passes (statement_outcome known s k) (λ n. statements_outcome known rest n) m h in
       both_true (is_each_call_in p s) (is_each_call_in_all p rest) (statement_keeps known p kept s k part.0 part.1) (statements_keep known p kept rest part.0 m part.2)
 
-passed_or_broken : (known : List ℕ → Bool) (p : CallName → Arguments → Bool) (kept : IsKept known p) (ss : Statements) (o : Outcome) → statements_outcome known ss nothing_kept ≡ o → rule_of o ≡ None → is_each_call_in_all p ss ≡ true
-passed_or_broken known p kept ss (Passed m) is h = statements_keep known p kept ss nothing_kept m is
+passed_or_broken : (known : List ℕ → Bool) (p : CallName → Arguments → Bool) (kept : IsKept known p) (ss : Statements) (o : Outcome) → statements_outcome known ss no_declarations ≡ o → rule_of o ≡ None → is_each_call_in_all p ss ≡ true
+passed_or_broken known p kept ss (Passed m) is h = statements_keep known p kept ss no_declarations m is
 passed_or_broken known p kept ss (Broken r) is h = absurd (cc)
 
 -- a function that breaks no rule, by whether it does
 function_keeps : (names : List (List ℕ)) (p : CallName → Arguments → Bool) (kept : IsKept (known_of names) p) (f : FunctionTree) (o : Option ℕ) → function_rule (known_of names) f ≡ o → (BreaksSome names [] f → ⊥)
     → is_each_call_in_all p f.body ≡ true
-function_keeps names p kept f None is keeps = passed_or_broken (known_of names) p kept f.body (statements_outcome (known_of names) f.body nothing_kept) refl is
+function_keeps names p kept f None is keeps = passed_or_broken (known_of names) p kept f.body (statements_outcome (known_of names) f.body no_declarations) refl is
 function_keeps names p kept f (Some r) is keeps = absurd (keeps (r, function_stops (known_of names) names (λ x. refl) f r is))
 
 -- where no function breaks a rule, each call is so
@@ -168,7 +168,7 @@ template_named : (program : List FunctionTree) (declared : List ℕ → Bool) (x
 template_named program declared (tree.named f (tree.value c (tree.value d tree.empty))) shape arguments =
     let known = known_of (check.names_of program) in
     let rest : Option ℕ = arguments_rule known declared name.TemplateCreate Parameters (tree.value c (tree.value d tree.empty)) in
-    le-leb (number_named f program) (length program) (named_within f program (held (known f) 5 (left_none (event_rule known declared (check.FunctionNamed f)) rest arguments)))
+    le-leb (number_named f program) (length program) (named_within f program (held (known f) 5 (left_none (mention_rule known declared (check.FunctionNamed f)) rest arguments)))
 template_named program declared other shape arguments = cc shape
 
 named_kept : (program : List FunctionTree) → IsKept (known_of (check.names_of program)) (is_function_named program)
@@ -186,13 +186,13 @@ short_arguments known declared call kind (tree.value e rest) h =
     short_arguments known declared call kind rest (right_none (expression_rule known declared e) (arguments_rule known declared call kind rest) h)
 short_arguments known declared call kind (tree.list es rest) h =
     let members : Option ℕ = arguments_rule known declared call kind es in
-    let closed : Option ℕ = event_rule known declared (check.ListClosed kind (check.count_of es)) in
+    let closed : Option ℕ = mention_rule known declared (check.ListClosed kind (check.count_of es)) in
     let others : Option ℕ = arguments_rule known declared call Dependences rest in
     both_true (nat_le (check.count_of es) (check.most_members kind)) (are_short 32 rest)
     (held (nat_le (check.count_of es) (check.most_members kind)) 6 (left_none closed others (right_none members (option_or closed others) h)))
     (short_arguments known declared call Dependences rest (right_none closed others (right_none members (option_or closed others) h)))
 short_arguments known declared call kind (tree.named x rest) h =
-    short_arguments known declared call kind rest (right_none (event_rule known declared (check.naming call x)) (arguments_rule known declared call kind rest) h)
+    short_arguments known declared call kind rest (right_none (mention_rule known declared (check.mention_of_name call x)) (arguments_rule known declared call kind rest) h)
 
 short_kept : (known : List ℕ → Bool) → IsKept known is_list_short
 short_kept known declared call xs called arguments = short_arguments known declared call Parameters xs arguments

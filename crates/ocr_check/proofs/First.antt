@@ -3,8 +3,8 @@ use Rattle.std.proofs.Common.{◌≡◌, ℕ, ◌+◌, List, [], ◌∷◌, ◌+
 use Rattle.std.specs.Option.{option_or, is_some}
 use Rattle.std.proofs.lemmas.List.{append_assoc, append-nil, reverse-append}
 use Rattle.ocr_tree.specs.Tree.{FunctionTree}
-use Rattle.ocr_check.specs.Check.{Event, IsFirst, FailsNowhere, BreaksRule, BreaksSome, Breaks, rule_broken, HasNamesake, same_name, no_main, in_body, BreachLaw, names_of, events_of}
-use Rattle.ocr_check.proofs.Events.{first_broken}
+use Rattle.ocr_check.specs.Check.{Mention, IsFirst, FailsNowhere, BreaksRule, BreaksSome, Breaks, rule_broken, HasNamesake, same_name, no_main, in_body, BreachLaw, names_of, mentions_of}
+use Rattle.ocr_check.proofs.Mentions.{first_broken}
 
 -- two ways to take a list apart at an item: at the same place, or one place is before the other
 data Apart {X : Type 0} (xs : List X) (x : X) (past_x ys : List X) (y : X) (past_y : List X) : Type 0 where
@@ -57,7 +57,7 @@ some_injective a b e = cc
 -- a function breaks at most one rule first
 pub broken_is_one : (names : List (List ℕ)) (f : FunctionTree) (r s : ℕ) → Breaks names f r → Breaks names f s → r ≡ s
 broken_is_one names f r s a b =
-    let both = first_is_one (BreaksRule names) (events_of f) a.before b.before a.event b.event a.first b.first in
+    let both = first_is_one (BreaksRule names) (mentions_of f) a.before b.before a.mention b.mention a.first b.first in
     some_injective r s (sym a.broken ∙ (λ i. rule_broken names (reverse (both.0 i)) (both.1 i)) ∙ b.broken)
 
 pub breach_is_one : BreachLaw
@@ -76,9 +76,9 @@ breach_is_one program r n s m (in_body xs x d g h b v) (in_body ys y c k l e w) 
       v ∙ ap (λ (zs : List FunctionTree). length zs + 1) both.0 ∙ sym w,
     )
 
--- ---- the first event that breaks a rule
+-- ---- the first mention that breaks a rule
 
-reverse-push : (xs : List Event) (x : Event) → reverse (xs ++ (x ∷ [])) ≡ x ∷ reverse xs
+reverse-push : (xs : List Mention) (x : Mention) → reverse (xs ++ (x ∷ [])) ≡ x ∷ reverse xs
 reverse-push xs x = reverse-append xs (x ∷ [])
 
 or_none : (a b : Option ℕ) → option_or a b ≡ None → (a ≡ None) × (b ≡ None)
@@ -93,43 +93,43 @@ is_some-Some : (o : Option ℕ) (r : ℕ) → o ≡ Some r → is_some o ≡ tru
 is_some-Some None r e = absurd (cc)
 is_some-Some (Some s) r e = refl
 
-pub keeps_on : (names : List (List ℕ)) (xs ys : List Event) → FailsNowhere (BreaksRule names) xs → first_broken names (reverse xs) ys ≡ None → FailsNowhere (BreaksRule names) (xs ++ ys)
-keeps_on names xs [] earlier e = subst (λ (zs : List Event). FailsNowhere (BreaksRule names) zs) (sym (append-nil xs)) earlier
+pub keeps_on : (names : List (List ℕ)) (xs ys : List Mention) → FailsNowhere (BreaksRule names) xs → first_broken names (reverse xs) ys ≡ None → FailsNowhere (BreaksRule names) (xs ++ ys)
+keeps_on names xs [] earlier e = subst (λ (zs : List Mention). FailsNowhere (BreaksRule names) zs) (sym (append-nil xs)) earlier
 keeps_on names xs (y ∷ ys) earlier e =
     let parts = or_none (rule_broken names (reverse xs) y) (first_broken names (y ∷ reverse xs) ys) e in
     let pushed : FailsNowhere (BreaksRule names) (xs ++ (y ∷ [])) = FailsNowhere-push (BreaksRule names) xs y earlier (λ h. not_some (rule_broken names (reverse xs) y) parts.0 h) in
-    let rest : first_broken names (reverse (xs ++ (y ∷ []))) ys ≡ None = ap (λ (p : List Event). first_broken names p ys) (reverse-push xs y) ∙ parts.1 in
-    subst (λ (zs : List Event). FailsNowhere (BreaksRule names) zs) (append_assoc xs (y ∷ []) ys) (keeps_on names (xs ++ (y ∷ [])) ys pushed rest)
+    let rest : first_broken names (reverse (xs ++ (y ∷ []))) ys ≡ None = ap (λ (p : List Mention). first_broken names p ys) (reverse-push xs y) ∙ parts.1 in
+    subst (λ (zs : List Mention). FailsNowhere (BreaksRule names) zs) (append_assoc xs (y ∷ []) ys) (keeps_on names (xs ++ (y ∷ [])) ys pushed rest)
 
--- the first event that breaks a rule, with the rule
-abbrev pub FirstEvent : List (List ℕ) → List Event → ℕ → Type 0
-FirstEvent names events r = (before : List Event) × (event : Event) × (IsFirst (BreaksRule names) events before event) × (rule_broken names (reverse before) event ≡ Some r)
+-- the first mention that breaks a rule, with the rule
+abbrev pub FirstMention : List (List ℕ) → List Mention → ℕ → Type 0
+FirstMention names mentions r = (before : List Mention) × (mention : Mention) × (IsFirst (BreaksRule names) mentions before mention) × (rule_broken names (reverse before) mention ≡ Some r)
 
--- one more event: it breaks a rule, or the next ones do
-one_more : (names : List (List ℕ)) (xs ys : List Event) (y : Event) (r : ℕ) (o : Option ℕ) → FailsNowhere (BreaksRule names) xs
+-- one more mention: it breaks a rule, or the next ones do
+one_more : (names : List (List ℕ)) (xs ys : List Mention) (y : Mention) (r : ℕ) (o : Option ℕ) → FailsNowhere (BreaksRule names) xs
     → rule_broken names (reverse xs) y ≡ o → option_or o (first_broken names (y ∷ reverse xs) ys) ≡ Some r
-    → (FailsNowhere (BreaksRule names) (xs ++ (y ∷ [])) → first_broken names (reverse (xs ++ (y ∷ []))) ys ≡ Some r → FirstEvent names ((xs ++ (y ∷ [])) ++ ys) r)
-    → FirstEvent names (xs ++ (y ∷ ys)) r
+    → (FailsNowhere (BreaksRule names) (xs ++ (y ∷ [])) → first_broken names (reverse (xs ++ (y ∷ []))) ys ≡ Some r → FirstMention names ((xs ++ (y ∷ [])) ++ ys) r)
+    → FirstMention names (xs ++ (y ∷ ys)) r
 one_more names xs ys y r None earlier is e later =
     let pushed : FailsNowhere (BreaksRule names) (xs ++ (y ∷ [])) = FailsNowhere-push (BreaksRule names) xs y earlier (λ h. not_some (rule_broken names (reverse xs) y) is h) in
-    let rest : first_broken names (reverse (xs ++ (y ∷ []))) ys ≡ Some r = ap (λ (p : List Event). first_broken names p ys) (reverse-push xs y) ∙ e in
-    subst (λ (zs : List Event). FirstEvent names zs r) (append_assoc xs (y ∷ []) ys) (later pushed rest)
+    let rest : first_broken names (reverse (xs ++ (y ∷ []))) ys ≡ Some r = ap (λ (p : List Mention). first_broken names p ys) (reverse-push xs y) ∙ e in
+    subst (λ (zs : List Mention). FirstMention names zs r) (append_assoc xs (y ∷ []) ys) (later pushed rest)
 one_more names xs ys y r (Some s) earlier is e later =
     (xs, y, record { after = ys; whole = refl; fails = is_some-Some (rule_broken names (reverse xs) y) s is; earlier = earlier }, is ∙ e)
 
-pub breaks_on : (names : List (List ℕ)) (xs ys : List Event) (r : ℕ) → FailsNowhere (BreaksRule names) xs → first_broken names (reverse xs) ys ≡ Some r → FirstEvent names (xs ++ ys) r
+pub breaks_on : (names : List (List ℕ)) (xs ys : List Mention) (r : ℕ) → FailsNowhere (BreaksRule names) xs → first_broken names (reverse xs) ys ≡ Some r → FirstMention names (xs ++ ys) r
 breaks_on names xs [] r earlier e = absurd (cc)
 breaks_on names xs (y ∷ ys) r earlier e =
     one_more names xs ys y r (rule_broken names (reverse xs) y) earlier refl e (λ pushed rest. breaks_on names (xs ++ (y ∷ [])) ys r pushed rest)
 
-pub function_keeps : (names : List (List ℕ)) (f : FunctionTree) → first_broken names [] (events_of f) ≡ None → FailsNowhere (BreaksRule names) (events_of f)
-function_keeps names f e = keeps_on names [] (events_of f) (FailsNowhere-nil (BreaksRule names)) e
+pub function_keeps : (names : List (List ℕ)) (f : FunctionTree) → first_broken names [] (mentions_of f) ≡ None → FailsNowhere (BreaksRule names) (mentions_of f)
+function_keeps names f e = keeps_on names [] (mentions_of f) (FailsNowhere-nil (BreaksRule names)) e
 
-pub function_breaks : (names : List (List ℕ)) (f : FunctionTree) (r : ℕ) → first_broken names [] (events_of f) ≡ Some r → Breaks names f r
+pub function_breaks : (names : List (List ℕ)) (f : FunctionTree) (r : ℕ) → first_broken names [] (mentions_of f) ≡ Some r → Breaks names f r
 function_breaks names f r e =
-    let found = breaks_on names [] (events_of f) r (FailsNowhere-nil (BreaksRule names)) e in
-    record { before = found.0; event = found.1; first = found.2; broken = found.3 }
+    let found = breaks_on names [] (mentions_of f) r (FailsNowhere-nil (BreaksRule names)) e in
+    record { before = found.0; mention = found.1; first = found.2; broken = found.3 }
 
--- a function whose events break no rule has no first breach
-pub kept_function : (names : List (List ℕ)) (f : FunctionTree) → FailsNowhere (BreaksRule names) (events_of f) → (r : ℕ) → Breaks names f r → ⊥
-kept_function names f none r b = first_fails (BreaksRule names) (events_of f) b.before b.event b.first none
+-- a function whose mentions break no rule has no first breach
+pub kept_function : (names : List (List ℕ)) (f : FunctionTree) → FailsNowhere (BreaksRule names) (mentions_of f) → (r : ℕ) → Breaks names f r → ⊥
+kept_function names f none r b = first_fails (BreaksRule names) (mentions_of f) b.before b.mention b.first none

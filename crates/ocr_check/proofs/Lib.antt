@@ -1,12 +1,11 @@
+pub mod Arguments
 pub mod Built
-pub mod Events
+pub mod Mentions
 pub mod First
 pub mod Judging
-pub mod Names
+pub mod Texts
 pub mod Parts
 pub mod Plain
-pub mod Rows
-pub mod Blocks
 pub mod Outcomes
 pub mod Programs
 pub mod Stops

@@ -1,15 +1,14 @@
--- Creations without dependences and without an output event.
+-- Creations without dependences and without an output mention.
 use Rattle.std.proofs.Common.{◌≡◌, ℕ, suc, sym, arith, Bool, true, false, ◌&&◌, ◌==◌, List, [], ◌∷◌, length, Option, None, Some, is_none as none_in, refl, ap, ◌∙◌, Vec, Box, Global}
 use Rattle.std.proofs.lemmas.Bool.{eqb-true}
 use Rattle.ocr_tree.specs.Tree as tree
 use Rattle.ocr_tree.specs.Tree.{Expression, Arguments}
 use Rattle.ocr_tree.specs.View.{expression_of, members_of, name_of, arguments_of, output_of}
-use Rattle.ocr_tree.specs.Built.{is_none, is_plain_creation}
+use Rattle.ocr_tree.specs.Built.{is_none, is_plain_creation, is_call_built}
 use Rattle.ocr_tree.specs.declared.tree.Expr.{Expr}
 use Rattle.ocr_tree.specs.declared.tree.Invoke.{Invoke}
 use Rattle.ocr_tree.specs.declared.tree.Expr.TheViews as views
-use Rattle.ocr_check.specs.Check.{is_built}
-use Rattle.ocr_check.proofs.Rows.{members_are}
+use Rattle.ocr_tree.proofs.Rows.{creation_view}
 
 some_more : (n : ℕ) (b : Bool) → (suc n == 0) ≡ b → b ≡ false
 some_more n true is = absurd (omega (arith, eqb-true (suc n) 0 is))
@@ -36,8 +35,9 @@ plain_rest t c d f ps (tree.named x rest) o = refl
 -- whether the call is built
 pub plain_is : (call : Invoke) (template paramc depc flags : Box Expr Global) (params deps : Vec Expr Global) (output : Option (List ℕ))
     → call ≡ views.EdtCreate template paramc params depc deps flags output
-    → is_built (name_of call) (arguments_of call) ≡ (is_none (members_of deps.items) && is_none (output_of output))
+    → is_call_built (name_of call) (arguments_of call) ≡ (is_none (members_of deps.items) && is_none (output_of output))
 plain_is call template paramc depc flags params deps output is =
-    ap (λ (c : Invoke). is_built (name_of c) (arguments_of c)) is
-    ∙ (λ i. is_plain_creation (tree.value (expression_of template.value) (tree.value (expression_of paramc.value) (tree.list (members_are params i) (tree.value (expression_of depc.value) (tree.list (members_are deps i) (tree.value (expression_of flags.value) (output_of output))))))))
-    ∙ plain_rest (expression_of template.value) (expression_of paramc.value) (expression_of depc.value) (expression_of flags.value) (members_of params.items) (members_of deps.items) (output_of output)
+    ap (λ (c : Invoke). is_call_built (name_of c) (arguments_of c)) is
+    ∙ ap is_plain_creation (creation_view template paramc params depc deps flags output)
+    ∙ plain_rest (expression_of template.value) (expression_of paramc.value) (expression_of depc.value) (expression_of flags.value)
+    (members_of params.items) (members_of deps.items) (output_of output)

@@ -11,12 +11,12 @@ use Rattle.ocr_tree.specs.View.{function_of, functions_of, tree_of}
 use Rattle.ocr_check.specs.Check.{is_among, names_of, IsFirst, FailsNowhere, HasNamesake, Breaks, BreaksSome, BreaksNoRule, IsBreach, same_name, no_main, in_body}
 use Rattle.ocr_tree.specs.Functions.{main_name}
 use Rattle.ocr_check.specs.Checking.{function_rule}
-use Rattle.ocr_check.specs.Scope.{knows, IsStopAt, IsStopOf}
+use Rattle.ocr_check.specs.Names.{knows, IsStopAt, IsStopOf}
 use Rattle.ocr_check.specs.declared.rules.CheckStop.{CheckStop}
 use Rattle.ocr_check.specs.declared.rules.CheckStop.TheVariants.{Fault, NoMemory}
 use Rattle.ocr_tree.specs.declared.tree.Function.{Function}
 use Rattle.ocr_tree.specs.declared.tree.Program.{Program}
-use Rattle.ocr_check.proofs.Events.{known_of}
+use Rattle.ocr_check.proofs.Mentions.{known_of}
 use Rattle.ocr_check.proofs.Judging.{function_agrees}
 use Rattle.ocr_check.proofs.First.{FailsNowhere-push, function_keeps, function_breaks, kept_function, first_fails}
 

@@ -1,3 +1,3 @@
 pub mod Check
 pub mod Checking
-pub mod Scope
+pub mod Names

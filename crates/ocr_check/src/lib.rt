@@ -1,7 +1,7 @@
 //! The rules that a task program keeps.
 #![tactic(auto)]
 
+mod names;
 mod rules;
-mod scope;
 
 pub use rules::{CheckFault, CheckStop, breach_law, check};

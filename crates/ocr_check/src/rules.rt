@@ -2,17 +2,19 @@
 ghost use Rattle.std.specs.Prelude.{◌≡◌, ◌<◌, ◌+◌, ◌^◌, ℕ, List, length, IfOk, IfErr, OnOk};
 ghost use Rattle.ocr_check.specs.Check.{FailsNowhere, HasNamesake, BreaksNoRule, BreachLaw, is_among};
 ghost use Rattle.ocr_check.specs.Check.{names_of as names_in};
-ghost use Rattle.ocr_check.specs.Scope.{knows, IsStopOf};
+ghost use Rattle.ocr_check.specs.Names.{knows, IsStopOf};
 ghost use Rattle.ocr_tree.specs.Runnable.{IsRunnable};
 ghost use Rattle.ocr_body.specs.Checked.{checked_tree};
 ghost use Rattle.ocr_tree.specs.View.{functions_of, tree_of};
 
-use crate::scope::walk_function;
+use crate::names::walk_function;
 use ocr_base::NoMemory;
 use ocr_body::Checked;
-use ocr_tree::{Function, Program};
+use ocr_tree::{Function, Program, main_name};
 use std::alloc::{AllocFailed, Global};
 use std::collections::BTreeSet;
+use std::error::Error;
+use std::fmt;
 
 /// The rule that a program breaks first, and the number of the function in which it does, from 1 in the order of the
 /// text; 0 where there is no function `mainEdt`.
@@ -22,6 +24,18 @@ pub struct CheckFault {
     pub function: u32,
 }
 
+impl fmt::Display for CheckFault {
+    fn fmt<W: fmt::Write>(&self, f: &mut fmt::Formatter<W>) -> fmt::Result {
+        write!(
+            f,
+            "check fault: rule {} in function {}",
+            self.rule, self.function
+        )
+    }
+}
+
+impl Error for CheckFault {}
+
 /// Why a program was not taken.
 #[derive(Clone, Copy, PartialEq, Eq, Debug)]
 pub enum CheckStop {
@@ -30,6 +44,17 @@ pub enum CheckStop {
     /// Memory was refused.
     NoMemory,
 }
+
+impl fmt::Display for CheckStop {
+    fn fmt<W: fmt::Write>(&self, f: &mut fmt::Formatter<W>) -> fmt::Result {
+        match self {
+            CheckStop::Fault(fault) => fault.fmt(f),
+            CheckStop::NoMemory => NoMemory.fmt(f),
+        }
+    }
+}
+
+impl Error for CheckStop {}
 
 impl From<CheckFault> for CheckStop {
     ghost use Rattle.ocr_check.specs.declared.rules.CheckStop.TheVariants.{Fault};
@@ -88,7 +113,7 @@ fn judge(alloc: Global, functions: &[Function]) -> Result<(), CheckStop>
     ensures err { IfErr result (IsStopOf (functions_of functions.now)) }
 {
     let names = names_of(alloc, functions)?;
-    if !names.contains(b"mainEdt".as_slice()) {
+    if !names.contains(main_name()) {
         return Err(CheckStop::Fault(CheckFault {
             rule: 2,
             function: 0,

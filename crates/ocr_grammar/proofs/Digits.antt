@@ -1,6 +1,5 @@
 -- A number's bytes are digits.
-use Rattle.std.proofs.Common.{◌≡◌, ℕ, List, [], ◌∷◌, Bool, true, false, IsTrue, refl}
-use Rattle.std.specs.Prelude.{◌&&◌}
+use Rattle.std.proofs.Common.{ℕ, List, [], ◌∷◌, Bool, IsTrue, refl}
 use Rattle.std.specs.List.{list_all}
 use Rattle.ocr_text.specs.Forms.{is_run, is_digit, is_form}
 use Rattle.ocr_text.specs.declared.token.TokenKind.TheVariants as kind

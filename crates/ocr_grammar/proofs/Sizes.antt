@@ -1,5 +1,5 @@
 -- A program has no more functions than its text has bytes.
-use Rattle.std.proofs.Common.{◌≡◌, ◌≤◌, ◌+◌, ℕ, suc, List, [], ◌∷◌, ◌++◌, length, Option, Some, None, ap, arith, length-append}
+use Rattle.std.proofs.Common.{◌≤◌, ◌+◌, ℕ, suc, List, [], ◌∷◌, length, Option, Some, None, ap, arith, length-append}
 use Rattle.ocr_text.specs.declared.token.Token.{Token}
 use Rattle.ocr_text.specs.Tokens.{Tile}
 use Rattle.ocr_tree.specs.Tree.{Statement, Statements, FunctionTree}

@@ -8,6 +8,7 @@ use Rattle.ocr_tree.specs.declared.tree.Constant as of_constant
 use Rattle.ocr_tree.specs.declared.tree.CallName.{CallName}
 use Rattle.ocr_tree.specs.Tree as tree
 use Rattle.ocr_tree.specs.Tree.{Expression, Arguments, empty, value, list, named, Statement, Statements, nothing, statement, FunctionTree}
+use Rattle.ocr_grammar.specs.declared.levels.TheConstants.{UNARY_LEVEL}
 use Rattle.ocr_grammar.specs.declared.lexeme.Lexeme.{Lexeme}
 use Rattle.ocr_grammar.specs.declared.lexeme.Lexeme.TheVariants as lexeme
 use Rattle.ocr_grammar.specs.declared.lexeme.Word.TheVariants as word
@@ -36,7 +37,7 @@ level binary.Rem = 7
 
 -- the level of what has no operator between two operands
 abbrev pub unary_level : ℕ
-unary_level = 8
+unary_level = UNARY_LEVEL
 
 abbrev pub spelled : BinaryOp → Lexeme
 spelled op = lexeme.Operator op

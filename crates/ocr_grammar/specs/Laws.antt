@@ -1,5 +1,5 @@
 -- Laws of the grammar and its limits.
-use Rattle.std.specs.Prelude.{◌≡◌, ◌≤◌, ◌+◌, ℕ, List, ◌++◌, Option, Some, None, length}
+use Rattle.std.specs.Prelude.{◌≡◌, ◌≤◌, ◌+◌, ℕ, List, ◌++◌, Some, length}
 use Rattle.ocr_text.specs.Tokens.{AreTokens}
 use Rattle.ocr_text.specs.declared.token.Token.{Token}
 use Rattle.ocr_tree.specs.Tree.{Expression, Arguments, FunctionTree}
@@ -12,7 +12,7 @@ use Rattle.ocr_grammar.specs.declared.lexeme.Word.{Word}
 use Rattle.ocr_grammar.specs.declared.slots.Slot.{Slot}
 use Rattle.ocr_grammar.specs.Grammar.{IsExpression, AreArguments}
 use Rattle.ocr_grammar.specs.Lexing.{IsTreeOf}
-use Rattle.ocr_grammar.specs.Limits.{Tally, tally}
+use Rattle.ocr_grammar.specs.Limits.{tally}
 use Rattle.ocr_grammar.specs.Texts.{word_text, call_text, constant_text, operator_text, named, symbol}
 
 -- From the one list to the other stand tokens of which the tally counts each.

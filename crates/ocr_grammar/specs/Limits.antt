@@ -1,8 +1,8 @@
--- The limits: an outermost expression has at most 256 tokens, and blocks nest at most 64 deep. Both are counted
--- along the tokens. An outermost expression begins after `print`, `return`, `if`, `while` or `=`, or with the name of a
--- call that stands alone, and ends before `;` or `{`.
+-- The limits: how many tokens an outermost expression has, and how deep blocks nest. Both are counted along the tokens.
+-- An outermost expression begins after `print`, `return`, `if`, `while` or `=`, or with the name of a call that stands
+-- alone, and ends before `;` or `{`.
 use Rattle.std.specs.Prelude.{◌≡◌, ◌+◌, ◌-◌, ℕ, List, [], ◌∷◌, Option, Some, None, Bool, true, false, ◌||◌, nat_lt}
-use Rattle.ocr_tree.specs.declared.tree.CallName.{CallName}
+use Rattle.ocr_grammar.specs.declared.limits.TheConstants.{MOST_TOKENS, MOST_BLOCKS}
 use Rattle.ocr_grammar.specs.declared.lexeme.Lexeme.{Lexeme}
 use Rattle.ocr_grammar.specs.declared.lexeme.Lexeme.TheVariants as lexeme
 use Rattle.ocr_grammar.specs.declared.lexeme.Word.TheVariants as word
@@ -45,10 +45,10 @@ nothing_read = record { tokens = None; depth = 0 }
 
 abbrev pub is_long : Option ℕ → Bool
 is_long None = false
-is_long (Some n) = nat_lt 256 n
+is_long (Some n) = nat_lt MOST_TOKENS n
 
 abbrev pub is_over : Tally → Bool
-is_over t = is_long t.tokens || nat_lt 64 t.depth
+is_over t = is_long t.tokens || nat_lt MOST_BLOCKS t.depth
 
 -- the last of these tokens, or one before it, is one too many
 abbrev pub IsOver : List Lexeme → Type 0

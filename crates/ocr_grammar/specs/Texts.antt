@@ -1,8 +1,10 @@
 -- How tokens are written.
-use Rattle.std.specs.Prelude.{ℕ, List, [], ◌∷◌, Bool, Option, Some, None, ◌==◌, if◌then◌else◌, codes, find, nat_eq}
+use Rattle.std.specs.Prelude.{ℕ, List, [], ◌∷◌, Bool, Option, Some, None, ◌++◌, if◌then◌else◌, codes, find, map, nat_eq}
 use Rattle.std.specs.Cmp.Lexicographic.{pointwise}
 use Rattle.ocr_tree.specs.declared.tree.BinaryOp.{BinaryOp}
 use Rattle.ocr_tree.specs.declared.tree.BinaryOp.TheVariants as binary
+use Rattle.ocr_tree.specs.declared.tree.UnaryOp.{UnaryOp}
+use Rattle.ocr_tree.specs.declared.tree.UnaryOp.TheVariants as unary
 use Rattle.ocr_tree.specs.declared.tree.CallName.{CallName}
 use Rattle.ocr_tree.specs.declared.tree.CallName.TheVariants as name
 use Rattle.ocr_tree.specs.declared.tree.Constant as of_constant
@@ -86,6 +88,17 @@ operator_text binary.Mul = codes "*"
 operator_text binary.Div = codes "/"
 operator_text binary.Rem = codes "%"
 
+-- the sign before an operand
+abbrev pub sign_text : UnaryOp → List ℕ
+sign_text unary.Not = codes "!"
+sign_text unary.Invert = codes "~"
+sign_text unary.Minus = codes "-"
+
+abbrev pub operators : List BinaryOp
+operators =
+    binary.Or ∷ binary.Xor ∷ binary.And ∷ binary.Eq ∷ binary.Ne ∷ binary.Lt ∷ binary.Le ∷ binary.Gt ∷ binary.Ge
+    ∷ binary.Shl ∷ binary.Shr ∷ binary.Add ∷ binary.Sub ∷ binary.Mul ∷ binary.Div ∷ binary.Rem ∷ []
+
 abbrev pub words : List Word
 words =
     word.Fn ∷ word.Let ∷ word.If ∷ word.Else ∷ word.While ∷ word.Print ∷ word.Return ∷ word.Paramc ∷ word.Paramv
@@ -127,45 +140,22 @@ found_name None None None text = lexeme.Name text
 abbrev pub named : List ℕ → Lexeme
 named text = found_name (word_of text) (call_of text) (constant_of text) text
 
--- the symbol of one byte
-abbrev pub single : ℕ → Option Lexeme
-single b =
-    if b == 33 then Some lexeme.Not else
-    if b == 37 then Some (lexeme.Operator binary.Rem) else
-    if b == 38 then Some (lexeme.Operator binary.And) else
-    if b == 40 then Some lexeme.OpenRound else
-    if b == 41 then Some lexeme.CloseRound else
-    if b == 42 then Some (lexeme.Operator binary.Mul) else
-    if b == 43 then Some (lexeme.Operator binary.Add) else
-    if b == 44 then Some lexeme.Comma else
-    if b == 45 then Some (lexeme.Operator binary.Sub) else
-    if b == 47 then Some (lexeme.Operator binary.Div) else
-    if b == 59 then Some lexeme.Semicolon else
-    if b == 60 then Some (lexeme.Operator binary.Lt) else
-    if b == 61 then Some lexeme.Equals else
-    if b == 62 then Some (lexeme.Operator binary.Gt) else
-    if b == 91 then Some lexeme.OpenSquare else
-    if b == 93 then Some lexeme.CloseSquare else
-    if b == 94 then Some (lexeme.Operator binary.Xor) else
-    if b == 123 then Some lexeme.OpenBrace else
-    if b == 124 then Some (lexeme.Operator binary.Or) else
-    if b == 125 then Some lexeme.CloseBrace else
-    if b == 126 then Some lexeme.Invert else None
+-- the symbols that are no operators
+abbrev pub marks : List (List ℕ × Lexeme)
+marks =
+    (codes "!", lexeme.Not) ∷ (codes "~", lexeme.Invert) ∷ (codes "=", lexeme.Equals) ∷ (codes ",", lexeme.Comma)
+    ∷ (codes ";", lexeme.Semicolon) ∷ (codes "(", lexeme.OpenRound) ∷ (codes ")", lexeme.CloseRound)
+    ∷ (codes "[", lexeme.OpenSquare) ∷ (codes "]", lexeme.CloseSquare) ∷ (codes "{", lexeme.OpenBrace)
+    ∷ (codes "}", lexeme.CloseBrace) ∷ []
 
--- the symbol of two bytes
-abbrev pub double : ℕ → ℕ → Option Lexeme
-double a b =
-    if b == 61 then
-    (if a == 33 then Some (lexeme.Operator binary.Ne) else
-    if a == 60 then Some (lexeme.Operator binary.Le) else
-    if a == 61 then Some (lexeme.Operator binary.Eq) else
-    if a == 62 then Some (lexeme.Operator binary.Ge) else None)
-    else if b == 60 then (if a == 60 then Some (lexeme.Operator binary.Shl) else None)
-    else if b == 62 then (if a == 62 then Some (lexeme.Operator binary.Shr) else None)
-    else None
+-- the symbols, each with what it is
+abbrev pub symbols : List (List ℕ × Lexeme)
+symbols = marks ++ map (λ op. (operator_text op, lexeme.Operator op)) operators
 
+abbrev pub found_in : List (List ℕ × Lexeme) → List ℕ → Option Lexeme
+found_in [] text = None
+found_in (entry ∷ rest) text = if same text entry.0 then Some entry.1 else found_in rest text
+
+-- the symbol of these bytes, where they are one
 abbrev pub symbol : List ℕ → Option Lexeme
-symbol [] = None
-symbol (a ∷ []) = single a
-symbol (a ∷ b ∷ []) = double a b
-symbol (a ∷ b ∷ c ∷ rest) = None
+symbol text = found_in symbols text

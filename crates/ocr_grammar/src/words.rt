@@ -1,9 +1,9 @@
 // How tokens are written.
-ghost use Rattle.std.specs.Prelude.{◌≡◌, IfOk};
+ghost use Rattle.std.specs.Prelude.{◌≡◌, [], ◌∷◌, IfOk};
 ghost use Rattle.ocr_grammar.specs.Texts as texts;
 
 use crate::lexeme::{Lexeme, Word};
-use ocr_tree::{BinaryOp, CallName, Constant, Name};
+use ocr_tree::{BinaryOp, CallName, Constant, Name, UnaryOp};
 use std::alloc::{AllocError, Global};
 
 const WORDS: [Word; 12] = [
@@ -163,6 +163,17 @@ pub fn operator_text(op: BinaryOp) -> &'static [u8]
     }
 }
 
+/// The sign before an operand.
+pub fn sign_text(op: UnaryOp) -> &'static [u8]
+    ensures { result.now ≡ texts.sign_text op }
+{
+    match op {
+        UnaryOp::Not => b"!",
+        UnaryOp::Invert => b"~",
+        UnaryOp::Minus => b"-",
+    }
+}
+
 fn word_of(text: &[u8]) -> Option<Word>
     ensures { result ≡ texts.word_of text.now }
 {
@@ -200,8 +211,9 @@ pub fn named(alloc: Global, text: &[u8]) -> Result<Lexeme, AllocError>
     Ok(Lexeme::Name(Name::from_vec(text.to_vec(alloc)?)))
 }
 
+// The symbol of one byte.
 fn single(byte: u8) -> Option<Lexeme>
-    ensures { result ≡ texts.single byte }
+    ensures { result ≡ texts.symbol (byte ∷ []) }
 {
     match byte {
         b'!' => Some(Lexeme::Not),
@@ -229,8 +241,9 @@ fn single(byte: u8) -> Option<Lexeme>
     }
 }
 
+// The symbol of two bytes.
 fn double(first: u8, second: u8) -> Option<Lexeme>
-    ensures { result ≡ texts.double first second }
+    ensures { result ≡ texts.symbol (first ∷ second ∷ []) }
 {
     match second {
         b'=' => match first {

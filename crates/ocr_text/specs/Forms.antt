@@ -1,12 +1,12 @@
 -- The forms of the five kinds of tokens.
-use Rattle.std.specs.Prelude.{◌+◌, ◌-◌, ◌*◌, ℕ, List, [], ◌∷◌, Bool, false, ◌||◌, ◌&&◌, ◌==◌, nat_le, not}
+use Rattle.std.specs.Prelude.{◌+◌, ◌-◌, ◌*◌, ℕ, List, [], ◌∷◌, Bool, false, ◌||◌, ◌&&◌, ◌==◌, codes, nat_le, not}
 use Rattle.std.specs.List.{list_any, list_all}
 use Rattle.ocr_text.specs.declared.token.TokenKind.{TokenKind}
 use Rattle.ocr_text.specs.declared.token.TokenKind.TheVariants as kind
 
 -- a space, a tab, a carriage return or a line feed
 abbrev pub blanks : List ℕ
-blanks = 32 ∷ 9 ∷ 13 ∷ 10 ∷ []
+blanks = codes " \t\r\n"
 
 abbrev pub is_blank : ℕ → Bool
 is_blank b = list_any (λ c. c == b) blanks
@@ -19,16 +19,16 @@ is_digit b = nat_le 48 b && nat_le b 57
 abbrev pub is_letter : ℕ → Bool
 is_letter b = (nat_le 65 b && nat_le b 90) || ((nat_le 97 b && nat_le b 122) || (b == 95))
 
--- one of ! % & ( ) * + , - / ; < = > [ ] ^ { | } ~
+-- the symbols of one byte
 abbrev pub singles : List ℕ
-singles = 33 ∷ 37 ∷ 38 ∷ 40 ∷ 41 ∷ 42 ∷ 43 ∷ 44 ∷ 45 ∷ 47 ∷ 59 ∷ 60 ∷ 61 ∷ 62 ∷ 91 ∷ 93 ∷ 94 ∷ 123 ∷ 124 ∷ 125 ∷ 126 ∷ []
+singles = codes "!%&()*+,-/;<=>[]^{|}~"
 
 abbrev pub is_single : ℕ → Bool
 is_single b = list_any (λ c. c == b) singles
 
 -- one of != <= == >= or one of << >>
 abbrev pub is_double : ℕ → ℕ → Bool
-is_double a b = (list_any (λ c. c == a) (33 ∷ 60 ∷ 61 ∷ 62 ∷ []) && (b == 61)) || (list_any (λ c. c == a) (60 ∷ 62 ∷ []) && (a == b))
+is_double a b = (list_any (λ c. c == a) (codes "!<=>") && (b == 61)) || (list_any (λ c. c == a) (codes "<>") && (a == b))
 
 abbrev pub is_symbol : List ℕ → Bool
 is_symbol [] = false

@@ -173,14 +173,12 @@ pub fn tokens(alloc: Global, bytes: &[u8]) -> Result<Vec<Token>, TokensStop>
     let mut place = 0;
     while place < bytes.len() {
         let Some(token) = token_at(bytes, place) else {
-            return Err(TokensStop::Fault(LexFault { place }))
+            return Err(LexFault { place }.into())
         };
         if !is_in_range(bytes, token) {
-            return Err(TokensStop::Fault(LexFault { place }));
+            return Err(LexFault { place }.into());
         }
-        if found.push(token).is_err() {
-            return Err(TokensStop::NoMemory);
-        }
+        found.push(token)?;
         place = token.end;
     }
     Ok(found)

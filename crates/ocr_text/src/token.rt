@@ -1,4 +1,8 @@
 // Tokens, and why a text has none.
+use ocr_base::NoMemory;
+use std::alloc::AllocFailed;
+use std::error::Error;
+use std::fmt;
 
 /// What a token is.
 #[derive(Clone, Copy, PartialEq, Eq, Debug)]
@@ -29,6 +33,14 @@ pub struct LexFault {
     pub place: usize,
 }
 
+impl fmt::Display for LexFault {
+    fn fmt<W: fmt::Write>(&self, f: &mut fmt::Formatter<W>) -> fmt::Result {
+        write!(f, "lex fault at {}", self.place)
+    }
+}
+
+impl Error for LexFault {}
+
 /// Why a text was not cut into tokens.
 #[derive(Clone, Copy, PartialEq, Eq, Debug)]
 pub enum TokensStop {
@@ -36,4 +48,37 @@ pub enum TokensStop {
     Fault(LexFault),
     /// Memory was refused.
     NoMemory,
+}
+
+impl fmt::Display for TokensStop {
+    fn fmt<W: fmt::Write>(&self, f: &mut fmt::Formatter<W>) -> fmt::Result {
+        match self {
+            TokensStop::Fault(fault) => fault.fmt(f),
+            TokensStop::NoMemory => NoMemory.fmt(f),
+        }
+    }
+}
+
+impl Error for TokensStop {}
+
+impl From<LexFault> for TokensStop {
+    ghost use Rattle.std.specs.Prelude.{◌≡◌};
+    ghost use Rattle.ocr_text.specs.declared.token.TokensStop.TheVariants.{Fault};
+
+    ghost from_gives = { λ fault stop. stop ≡ Fault fault };
+
+    fn from(fault: LexFault) -> Self {
+        TokensStop::Fault(fault)
+    }
+}
+
+impl<T: Drop> From<AllocFailed<T>> for TokensStop {
+    ghost use Rattle.std.specs.Prelude.{◌≡◌};
+    ghost use Rattle.ocr_text.specs.declared.token.TokensStop.TheVariants.{NoMemory};
+
+    ghost from_gives = { λ _ stop. stop ≡ NoMemory };
+
+    fn from(_failed: AllocFailed<T>) -> Self {
+        TokensStop::NoMemory
+    }
 }

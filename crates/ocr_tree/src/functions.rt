@@ -18,3 +18,10 @@ pub fn number_named(program: &[Function], name: &[u8]) -> usize
     }
     program.len() - rest.len() + 1
 }
+
+/// The name of the function that the first EDT runs.
+pub fn main_name() -> &'static [u8]
+    ensures { result.now ≡ functions.main_name }
+{
+    b"mainEdt"
+}

@@ -3,7 +3,7 @@ use Rattle.std.proofs.lemmas.List.{take_all, length-map}
 use Rattle.std.proofs.lemmas.Result.{err_from_is_err_and}
 use Rattle.ocr_check.specs.Check.{BreaksSome, FailsNowhere, is_among, names_of, no_main}
 use Rattle.ocr_tree.specs.Functions.{main_name}
-use Rattle.ocr_check.specs.Scope.{knows}
+use Rattle.ocr_check.specs.Names.{knows}
 use Rattle.ocr_tree.specs.View.{function_of, functions_of}
 use Rattle.ocr_tree.specs.declared.tree.Function.{Function}
 use Rattle.ocr_check.proofs.Built.{keeps_built, keeps_named, keeps_short, named_within}
@@ -14,7 +14,7 @@ use Rattle.ocr_check.proofs.rules.judge.Goals as goal
 pub returns-then-not-contains-clause-err : goal.returns-then-not-contains-clause-err
 returns-then-not-contains-clause-err c =
     let missing : is_among main_name (names_of (functions_of c.args.functions.now)) ≡ false =
-    sym (c.in_ok-names.ensures.names main_name) ∙ ap (λ (x : List ℕ). knows c.in_ok-names.names x) (sym c.as_slice.ensures) ∙ sym c.contains.ensures ∙ c.if-not-contains.true in
+    sym (c.in_ok-names.ensures.names main_name) ∙ ap (λ (x : List ℕ). knows c.in_ok-names.names x) (sym c.main_name.ensures) ∙ sym c.contains.ensures ∙ c.if-not-contains.true in
     no_main c.in_ok-names.ensures.distinct missing refl refl
 
 pub loop-i-init : goal.loop-i-init
@@ -24,7 +24,7 @@ pub returns-in_err-walk_function-clause-err : goal.returns-in_err-walk_function-
 returns-in_err-walk_function-clause-err c =
     let p = err_from_is_err_and c.from_residual-in_err-walk_function.result c.from_residual-in_err-walk_function.ensures.1 in
     let main : is_among main_name (names_of (functions_of c.args.functions.now)) ≡ true =
-    sym (c.in_ok-names.ensures.names main_name) ∙ ap (λ (x : List ℕ). knows c.in_ok-names.names x) (sym c.as_slice.ensures) ∙ sym c.contains.ensures ∙ c.if-not-contains.false in
+    sym (c.in_ok-names.ensures.names main_name) ∙ ap (λ (x : List ℕ). knows c.in_ok-names.names x) (sym c.main_name.ensures) ∙ sym c.contains.ensures ∙ c.if-not-contains.false in
     rw (p.1, p.2)
     (walk_stops (λ x. knows c.in_ok-names.names x) c.args.functions.now c.loop-i.i c.index-functions-i.result c.in_err-walk_function.field-0.0 c.loop-i-test.true c.index-functions-i.is
     c.in_ok-names.ensures.names c.in_ok-names.ensures.distinct main c.loop-i.invariant c.in_err-walk_function.ensures.err)
@@ -41,7 +41,7 @@ returns-clause-runnable c =
     let sound : FailsNowhere (BreaksSome (names_of (functions_of fs))) (functions_of fs) =
     subst (λ (gs : List Function). FailsNowhere (BreaksSome (names_of (functions_of fs))) (functions_of gs)) (take_all c.loop-i.i fs outside) c.loop-i.invariant in
     let main : is_among main_name (names_of (functions_of fs)) ≡ true =
-    sym (c.in_ok-names.ensures.names main_name) ∙ ap (λ (x : List ℕ). knows c.in_ok-names.names x) (sym c.as_slice.ensures) ∙ sym c.contains.ensures ∙ c.if-not-contains.false in
+    sym (c.in_ok-names.ensures.names main_name) ∙ ap (λ (x : List ℕ). knows c.in_ok-names.names x) (sym c.main_name.ensures) ∙ sym c.contains.ensures ∙ c.if-not-contains.false in
     record {
       built = keeps_built (names_of (functions_of fs)) (functions_of fs) sound;
       named = keeps_named (functions_of fs) sound;

@@ -1,7 +1,7 @@
 use Rattle.std.proofs.Common.{◌≡◌, ◌∙◌, ◌||◌, ◌+◌, ℕ, List, true, false, refl, sym, ap}
 use Rattle.std.specs.Str.{bytes_eq}
 use Rattle.ocr_check.specs.Check.{HasNamesake}
-use Rattle.ocr_check.specs.Scope.{knows}
+use Rattle.ocr_check.specs.Names.{knows}
 use Rattle.ocr_check.proofs.Programs.{name_breach, none_more, names_more, knows_more, not_false, not_true}
 use Rattle.ocr_check.proofs.rules.names_of.Goals as goal
 

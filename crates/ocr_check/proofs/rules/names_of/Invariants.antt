@@ -1,6 +1,6 @@
 use Rattle.std.proofs.Common.{◌≡◌, ℕ, List, take}
 use Rattle.ocr_check.specs.Check.{FailsNowhere, HasNamesake, is_among, names_of}
-use Rattle.ocr_check.specs.Scope.{knows}
+use Rattle.ocr_check.specs.Names.{knows}
 use Rattle.ocr_tree.specs.View.{functions_of}
 use Rattle.ocr_check.proofs.rules.names_of.Given as goal
 

@@ -1,25 +1,13 @@
-// The signs of unary operators, and the levels of the others.
+// The levels of the operators: one of a higher level binds its operands closer.
 ghost use Rattle.std.specs.Prelude.{◌≡◌};
 ghost use Rattle.ocr_grammar.specs.Grammar as grammar;
-ghost use Rattle.ocr_canonical.specs.Words as words;
 
-use ocr_tree::{BinaryOp, UnaryOp};
+use ocr_tree::BinaryOp;
 
-// The level of what no operator joins, above the levels of the operators.
+/// The level of what no operator joins, above the levels of the operators.
 pub const UNARY_LEVEL: u8 = 8;
 
-// The sign before an operand.
-pub fn unary_text(op: UnaryOp) -> &'static [u8]
-    ensures { result.now ≡ words.unary_text op }
-{
-    match op {
-        UnaryOp::Not => b"!",
-        UnaryOp::Invert => b"~",
-        UnaryOp::Minus => b"-",
-    }
-}
-
-// The level of an operator, from the lowest: one of a higher level binds its operands closer.
+/// The level of an operator, from the lowest.
 pub fn level(op: BinaryOp) -> u8
     ensures { result ≡ grammar.level op }
 {

@@ -1,17 +1,17 @@
 use Rattle.std.proofs.Common.{◌≡◌, ◌∙◌, ℕ, List, Bor, length, take, sym, ap}
-use Rattle.ocr_check.specs.Checking.{Kept, Outcome, Passed, leaving, statement_outcome, statements_outcome}
-use Rattle.ocr_check.specs.Scope.{texts, knows, known_in, kept_in}
+use Rattle.ocr_check.specs.Checking.{Declarations, Outcome, Passed, leaving, statement_outcome, statements_outcome}
+use Rattle.ocr_check.specs.Names.{texts, knows, known_in, declarations_in}
 use Rattle.ocr_tree.specs.View.{statement_of, statements_of}
 use Rattle.ocr_tree.specs.declared.tree.Stmt.{Stmt}
-use Rattle.ocr_check.proofs.Names.{length-texts, texts_take}
+use Rattle.ocr_check.proofs.Texts.{length-texts, texts_take}
 use Rattle.ocr_check.proofs.Outcomes.{front_stays, block_passes, if_second, while_body}
 use Rattle.ocr_check.proofs.Stops.{stops_same}
-use Rattle.ocr_check.proofs.scope.Scope.+statement.Goals as goal
+use Rattle.ocr_check.proofs.names.Names.+statement.Goals as goal
 
 pub block-returns-clause-ok : goal.block-returns-clause-ok
 block-returns-clause-ok t c =
-    let k : Kept = kept_in c.args.self.now in
-    let m : Kept = kept_in c.statements.new.self in
+    let k : Declarations = declarations_in c.args.self.now in
+    let m : Declarations = declarations_in c.statements.new.self in
     let inside : List (Bor (List ℕ)) = c.statements.new.self.declared.items in
     let count : c.len-before.result ≡ length k.declared = c.len-before.ensures ∙ length-texts c.args.self.now.declared in
     let front : texts c.truncate.new.self.items ≡ k.declared =
@@ -22,8 +22,8 @@ block-returns-clause-ok t c =
 
 pub statement-returns-in_ok-block-in-If-clause-ok : goal.statement-returns-in_ok-block-in-If-clause-ok
 statement-returns-in_ok-block-in-If-clause-ok t c =
-    let k : Kept = kept_in c.args.self.now in
-    let m : Kept = kept_in c.block.new.self in
+    let k : Declarations = declarations_in c.args.self.now in
+    let m : Declarations = declarations_in c.block.new.self in
     let first : leaving k (statements_outcome (known_in c.args.self.now) (statements_of c.in-If.yes.items) k) ≡ Passed m =
     ap (λ (xs : List Stmt). leaving k (statements_outcome (known_in c.args.self.now) (statements_of xs) k)) (sym c.deref.ensures.value) ∙ c.in_ok-block-in-If.ensures.ok in
     let whole : statement_outcome (known_in c.args.self.now) (statement_of c.args.stmt.now) k
@@ -34,8 +34,8 @@ statement-returns-in_ok-block-in-If-clause-ok t c =
 
 pub statement-returns-in_ok-block-in-If-clause-err : goal.statement-returns-in_ok-block-in-If-clause-err
 statement-returns-in_ok-block-in-If-clause-err t c =
-    let k : Kept = kept_in c.args.self.now in
-    let m : Kept = kept_in c.block.new.self in
+    let k : Declarations = declarations_in c.args.self.now in
+    let m : Declarations = declarations_in c.block.new.self in
     let first : leaving k (statements_outcome (known_in c.args.self.now) (statements_of c.in-If.yes.items) k) ≡ Passed m =
     ap (λ (xs : List Stmt). leaving k (statements_outcome (known_in c.args.self.now) (statements_of xs) k)) (sym c.deref.ensures.value) ∙ c.in_ok-block-in-If.ensures.ok in
     let last : Outcome = leaving m (statements_outcome (known_in c.block.new.self) (statements_of c.deref-in-If.result.now) m) in
@@ -47,7 +47,7 @@ statement-returns-in_ok-block-in-If-clause-err t c =
 
 pub statement-returns-in_ok-expression-in-While-clause-ok : goal.statement-returns-in_ok-expression-in-While-clause-ok
 statement-returns-in_ok-expression-in-While-clause-ok t c =
-    let k : Kept = kept_in c.args.self.now in
+    let k : Declarations = declarations_in c.args.self.now in
     let whole : statement_outcome (known_in c.args.self.now) (statement_of c.args.stmt.now) k ≡ leaving k (statements_outcome (known_in c.args.self.now) (statements_of c.deref-in-While.result.now) k) =
     while_body (known_in c.args.self.now) k c.args.stmt.now c.in-While.test c.in-While.body c.in-While.is c.in_ok-expression-in-While.ensures.ok
     ∙ ap (λ (xs : List Stmt). leaving k (statements_outcome (known_in c.args.self.now) (statements_of xs) k)) (sym c.deref-in-While.ensures.value) in
@@ -55,7 +55,7 @@ statement-returns-in_ok-expression-in-While-clause-ok t c =
 
 pub statement-returns-in_ok-expression-in-While-clause-err : goal.statement-returns-in_ok-expression-in-While-clause-err
 statement-returns-in_ok-expression-in-While-clause-err t c =
-    let k : Kept = kept_in c.args.self.now in
+    let k : Declarations = declarations_in c.args.self.now in
     let whole : statement_outcome (known_in c.args.self.now) (statement_of c.args.stmt.now) k ≡ leaving k (statements_outcome (known_in c.args.self.now) (statements_of c.deref-in-While.result.now) k) =
     while_body (known_in c.args.self.now) k c.args.stmt.now c.in-While.test c.in-While.body c.in-While.is c.in_ok-expression-in-While.ensures.ok
     ∙ ap (λ (xs : List Stmt). leaving k (statements_outcome (known_in c.args.self.now) (statements_of xs) k)) (sym c.deref-in-While.ensures.value) in

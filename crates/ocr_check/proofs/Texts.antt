@@ -2,7 +2,7 @@
 use Rattle.std.proofs.Common.{◌≡◌, ℕ, Bool, List, [], ◌∷◌, ◌++◌, take, ◌||◌, length, Vec, Global, vec_len, refl, sym, ap, ◌∙◌, Bor}
 use Rattle.std.specs.List.{list_any}
 use Rattle.std.proofs.lemmas.List.{take-map, length-map}
-use Rattle.ocr_check.specs.Scope.{texts}
+use Rattle.ocr_check.specs.Names.{texts}
 
 pub list_any_texts : (p : List ℕ → Bool) (xs : List (Bor (List ℕ))) → list_any p (texts xs) ≡ list_any (λ (x : Bor (List ℕ)). p x.now) xs
 list_any_texts p [] = refl

@@ -1,13 +1,13 @@
 use Rattle.std.proofs.Common.{◌≡◌, drop}
 use Rattle.ocr_check.specs.Checking.{statements_outcome}
-use Rattle.ocr_check.specs.Scope.{known_in, kept_in, IsSameFunction}
+use Rattle.ocr_check.specs.Names.{known_in, declarations_in, IsSameFunction}
 use Rattle.ocr_tree.specs.View.{statements_of}
-use Rattle.ocr_check.proofs.scope.Scope.+statement.Given as goal
+use Rattle.ocr_check.proofs.names.Names.+statement.Given as goal
 
 -- where the statements lead is where those that are left lead
 abbrev pub invariant-statements-loop-stmt : goal.invariant-statements-loop-stmt
 invariant-statements-loop-stmt l = record {
   same : IsSameFunction l.fn.self l.self;
-  goes_on : statements_outcome (known_in l.fn.self) (statements_of l.stmts) (kept_in l.fn.self)
-      ≡ statements_outcome (known_in l.fn.self) (statements_of (drop l.stmt-index l.stmts)) (kept_in l.self);
+  goes_on : statements_outcome (known_in l.fn.self) (statements_of l.stmts) (declarations_in l.fn.self)
+      ≡ statements_outcome (known_in l.fn.self) (statements_of (drop l.stmt-index l.stmts)) (declarations_in l.self);
 }

@@ -1,6 +1,6 @@
 // The rules of arguments, which `check` does not come to while their calls are not built.
-use crate::rules::CheckFault;
-use crate::scope::Scope;
+use crate::names::Names;
+use crate::rules::{CheckFault, CheckStop};
 use ocr_tree::{Expr, Invoke, Name};
 use std::alloc::{AllocError, Global};
 use std::collections::BTreeSet;
@@ -54,7 +54,7 @@ fn arguments_keep_their_rules(rt: HostRuntime) -> Result<(), Fail> {
     let alloc = rt.alloc();
     let mut names = BTreeSet::new(alloc);
     names.insert(b"known".as_slice())?;
-    let scope = Scope::new(alloc, &names, 1);
+    let walk = Names::new(alloc, &names, 1);
     let calls = vec![in alloc;
         (template_create(alloc, b"known")?, None),
         (template_create(alloc, b"unknown")?, Some(5)),
@@ -64,8 +64,8 @@ fn arguments_keep_their_rules(rt: HostRuntime) -> Result<(), Fail> {
         (edt_create(alloc, 0, 0, Some(name(alloc, b"o")?))?, Some(4)),
     ]?;
     for (call, rule) in &calls {
-        let fault = rule.map(|rule| CheckFault { rule, function: 1 });
-        assert_eq!(rt; scope.arguments(call).err(), fault);
+        let stop = rule.map(|rule| CheckStop::Fault(CheckFault { rule, function: 1 }));
+        assert_eq!(rt; walk.arguments(call).err(), stop);
     }
     Ok(())
 }
