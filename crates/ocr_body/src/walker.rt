@@ -1,5 +1,5 @@
 // The walker, which runs a body by one plain walk over its code.
-#![tactic(auto, using(crate::proofs::Operands::joined_number, crate::proofs::Operands::spend_stopped, crate::proofs::Stopped::eval_stopped, crate::proofs::Stopped::exec_stopped, crate::proofs::Stopped::says_more, crate::proofs::Stopped::stopped_by_body, crate::proofs::Stopped::stopped_by_memory, crate::proofs::Stopped::stopped_by_refusal, crate::proofs::Stopped::stopped_later, crate::proofs::Variables::first_of, crate::proofs::Variables::second_of))]
+#![tactic(auto, using(crate::proofs::Rulesets::walking))]
 
 ghost use Rattle.std.specs.Prelude.{◌≡◌, ◌&&◌, ◌≤◌, ◌<◌, [], true, IfOk, OnOk, OnErr, IfErr, IfSome, length, replicate};
 ghost use Rattle.ocr_body.specs.Behaviour.{Ends};
@@ -411,7 +411,7 @@ fn repeat<A: Api>(
     ensures err { OnErr result (IsCause A.Api api.old api.new local.new.stop) }
 {
     loop {
-        pay(local)?; // for the turn
+        pay(local)?; // one unit for each test of the condition
         let value = find(frame, test, local, api)?;
         if value == 0 {
             return Ok(Flow::Next);
