@@ -11,7 +11,8 @@ import sys
 
 TOP = pathlib.Path(__file__).resolve().parent.parent
 TESTS = TOP / "crates/ocr_tests_run/src/examples.rt"
-HEAD = """// The programs of examples/, each with what it writes and its status: bench/examples.py writes this table.
+HEAD = """// The programs of examples/, each with what it writes and its status, as bench/examples.py takes
+// them from there.
 
 /// A program's text, its output and its status.
 pub type Example = (&'static [u8], &'static [u8], u8);

@@ -19,10 +19,10 @@ use ocr_guid::Guid;
 use ocr_slots::Slots;
 use std::alloc::Global;
 
-/// The argument block.
+/// The number of the argument block.
 pub const ARGUMENTS: u64 = 1;
 
-/// The EDT of `mainEdt`.
+/// The number of the EDT of `mainEdt`.
 pub const MAIN_EDT: u64 = 2;
 
 /// The parts of what the opening makes: the face of the argument block, and the face and the core

@@ -17,7 +17,6 @@ ghost use Rattle.ocr_machine.specs.Messages.{sends, resumes, resumed_by};
 ghost use Rattle.ocr_machine.specs.Footprint.{footprint_of, is_in};
 
 use crate::entry::Entry;
-use crate::naming::number_of;
 use crate::part::{Core, Part, Stepped};
 use crate::taken::{find, replace};
 use ocr_acquire::{Mode, plan};
@@ -64,17 +63,17 @@ pub fn step(
             }
         }
         Entry::Acquire { edt, block } => {
-            acquire_step(alloc, limit, number_of(*edt), number_of(*block), &mut parts)?;
+            acquire_step(alloc, limit, edt.0, block.0, &mut parts)?;
         }
-        Entry::Start { edt } => start_core(alloc, limit, number_of(*edt), &mut parts)?,
+        Entry::Start { edt } => start_core(alloc, limit, edt.0, &mut parts)?,
         Entry::Free {
             edt,
             block,
             writes: _,
         } => {
-            resumed = free_step(alloc, limit, number_of(*edt), number_of(*block), &mut parts)?;
+            resumed = free_step(alloc, limit, edt.0, block.0, &mut parts)?;
         }
-        Entry::End { edt, returned: _ } => end_core(limit, number_of(*edt), &mut parts),
+        Entry::End { edt, returned: _ } => end_core(limit, edt.0, &mut parts),
         Entry::Deliver { .. } => unreachable!(),
         Entry::Wait { .. } => unreachable!(),
         Entry::StaleAcquire { .. } => unreachable!(),

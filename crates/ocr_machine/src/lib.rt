@@ -22,7 +22,7 @@ pub use entry::{Entry, Fault, Message, Stop, What};
 pub use journal::Journal;
 pub use laws::{going_laws, machine_laws, run_laws};
 pub use limits::{MOST_OBJECTS, SHARE};
-pub use naming::{footprint, number_of, weight};
+pub use naming::{footprint, weight};
 pub use part::{Core, Part, Stepped};
 pub use table::{Entered, Table};
 pub use writes::Writes;

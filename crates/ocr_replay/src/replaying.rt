@@ -19,7 +19,7 @@ use crate::stopping::{Front, has_room};
 use ocr_base::NoMemory;
 use ocr_body::Checked;
 use ocr_guid::Guid;
-use ocr_machine::{Entry, Part, Stop, Table, number_of, opening};
+use ocr_machine::{Entry, Part, Stop, Table, opening};
 use ocr_slots::Slots;
 use std::alloc::Global;
 
@@ -99,7 +99,7 @@ fn judge(
         (body_on (checked_tree program.now) (face_on table.now edt) (core_on table.now edt))
         edt entries.now start at) }
 {
-    let number = number_of(edt);
+    let number = edt.0;
     let deps = payloads_at(alloc, table, number)?;
     let function = function_at(table, number);
     let params = params_at(table, number);
@@ -170,7 +170,7 @@ fn go_on(
     requires within { place < length entries.now }
     requires no_stop { is_stop (entry_at entries.now place) ≡ false }
     requires room { length verdicts.old.items ≡ table.old.limit + 1 }
-    requires replaying { IsReplaying (setting_of (checked_tree program.now) args.now table.old.limit)
+    requires so_far { IsReplaying (setting_of (checked_tree program.now) args.now table.old.limit)
         entries.now place table.old.parts.items verdicts.old.items }
     ensures limit { table.new.limit ≡ table.old.limit }
     ensures room { length verdicts.new.items ≡ length verdicts.old.items }
@@ -221,7 +221,7 @@ fn ended_by(
     requires linked { IsLinked table.now.limit entries.now links.now }
     requires within { place < length entries.now }
     requires is { entry_at entries.now place ≡ Entry.Stop stop.now }
-    requires replaying { IsReplaying (setting_of (checked_tree program.now) args.now table.now.limit)
+    requires so_far { IsReplaying (setting_of (checked_tree program.now) args.now table.now.limit)
         entries.now place table.now.parts.items verdicts.now }
     ensures ok { IfOk result (λ _. IsRun
         (setting_of (checked_tree program.now) args.now table.now.limit) (history_of entries.now)) }

@@ -18,7 +18,7 @@ use ocr_base::NoMemory;
 use ocr_body::{Answer, Call, Checked};
 use ocr_guid::{Code, Guid};
 use ocr_machine::{
-    Core, Entry, MOST_OBJECTS, Part, SHARE, Stop, Table, Writes, number_of, opening, weight,
+    Core, Entry, MOST_OBJECTS, Part, SHARE, Stop, Table, Writes, opening, weight,
 };
 use std::alloc::Global;
 
@@ -77,7 +77,7 @@ impl<'a> Going<'a> {
             ≡ Part.Core core.now) }
         ensures none { IfNone result (is_edt (past self.now) edt ≡ false) }
     {
-        let Some(part) = self.table.core(number_of(edt)) else {
+        let Some(part) = self.table.core(edt.0) else {
             return None
         };
         core_in(part)

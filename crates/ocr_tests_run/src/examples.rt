@@ -1,4 +1,5 @@
-// The programs of examples/, each with what it writes and its status: bench/examples.py writes this table.
+// The programs of examples/, each with what it writes and its status, as bench/examples.py takes
+// them from there.
 
 /// A program's text, its output and its status.
 pub type Example = (&'static [u8], &'static [u8], u8);
@@ -37,12 +38,12 @@ const COLLATZ_OUT: &[u8] = b"111
 
 const COLLATZ_STATUS: u8 = 0;
 
-const EDTS: &[u8] =
-    b"# EDTs with parameters: each makes the next, and they run in the order in which they were made.
+const EDTS: &[u8] = b"# Each EDT makes the next one, and they run in the order of their making.
 fn count_down {
   print paramv[0];
   if paramv[0] {
-    ocrEdtCreate(paramv[1], EDT_PARAM_DEF, [paramv[0] - 1, paramv[1]], EDT_PARAM_DEF, [], EDT_PROP_NONE);
+    ocrEdtCreate(paramv[1], EDT_PARAM_DEF, [paramv[0] - 1, paramv[1]], EDT_PARAM_DEF, [],
+      EDT_PROP_NONE);
   }
 }
 fn mainEdt {
@@ -123,8 +124,7 @@ const PRINTS_OUT: &[u8] = b"1
 
 const PRINTS_STATUS: u8 = 0;
 
-const REFUSALS: &[u8] =
-    b"# A refused creation answers 0 and changes nothing; `code` says why: 22 is EINVAL, 2 is ENOENT.
+const REFUSALS: &[u8] = b"# A refused creation answers 0; `code` says why: 22 EINVAL, 2 ENOENT.
 fn one {
   print paramc;
 }

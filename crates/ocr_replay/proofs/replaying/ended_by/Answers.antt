@@ -11,5 +11,5 @@ returns-then-place-entries-clause-stop c =
     let s : Setting = setting_of (checked_tree c.args.program.now) c.args.args.now c.args.table.now.limit in
     let xs = c.args.entries.now in
     let is : Stop c.args.stop.now ≡ slice_index_or xs c.args.place (Stop c.args.stop.now) = stop_is xs c.args.place _ _ c.requires.within c.requires.is in
-    after_stop s xs c.args.place c.args.stop.now c.requires.replaying.run c.if-place-entries.true is
-    (by_stop s xs c.args.place c.args.table.now.parts.items c.args.verdicts.now c.args.stop.now c.requires.replaying (c.in-Ok-true.ensures.yes c.in-Ok-true.field-0-test))
+    after_stop s xs c.args.place c.args.stop.now c.requires.so_far.run c.if-place-entries.true is
+    (by_stop s xs c.args.place c.args.table.now.parts.items c.args.verdicts.now c.args.stop.now c.requires.so_far (c.in-Ok-true.ensures.yes c.in-Ok-true.field-0-test))
