@@ -1,8 +1,9 @@
 -- The strongest mode of a block, over slots and over a plan.
-use Rattle.std.proofs.Common.{◌≡◌, ◌⊎◌, ℕ, ◌<◌, ◌≤◌, List, [], ◌∷◌, Bool, true, false, inl, inr, refl, sym, arith, ap, ◌∙◌, subst, ◌==◌, nat_lt, if◌then◌else◌, max, eq-eqb, not, ◌&&◌}
+use Rattle.std.proofs.Common.{◌≡◌, ◌⊎◌, ℕ, ◌<◌, ◌≤◌, List, [], ◌∷◌, Bool, true, false, inl, inr, refl, sym, arith, ap, ◌∙◌, subst, ◌==◌, nat_lt, if◌then◌else◌, max, eq-eqb, not}
 use Rattle.std.specs.List.{Contains}
 use Rattle.std.proofs.lemmas.Bool.Decides.{eqb_tells}
 use Rattle.std.proofs.lemmas.Bool.{ltb-true, ltb-false, eqb-true}
+use Rattle.ocr_base.proofs.Booleans.{neither}
 use Rattle.ocr_acquire.specs.declared.Mode.{Mode}
 use Rattle.ocr_acquire.specs.declared.Mode.TheVariants as mode
 use Rattle.ocr_acquire.specs.Mode.{rank_of, is_null, mode_of, NumberLaw}
@@ -143,13 +144,8 @@ strongest_of-put block g m [] = refl
 strongest_of-put block g m (e ∷ rest) = put_by block g m e rest (nat_lt g e.0) (g == e.0) refl (strongest_of-put block g m rest)
 
 -- what a slot that asks for a block tells, and what one that asks for none
-both_false : (a b : Bool) → (not a && not b) ≡ true → (a ≡ false) × (b ≡ false)
-both_false false false h = (refl, refl)
-both_false false true h = cc
-both_false true b h = cc
-
 pub asks-tells : (slot : ℕ × Mode) → asks slot ≡ true → (0 < slot.0) × (is_null slot.1 ≡ false)
-asks-tells slot h = let b = both_false (slot.0 == 0) (is_null slot.1) h in
+asks-tells slot h = let b = neither (slot.0 == 0) (is_null slot.1) h in
     (elim (eqb_tells slot.0 0) [ inl z ↦ cc | inr z ↦ omega (arith, z.1) ], b.1)
 
 pub asks-from : (slot : ℕ × Mode) → 0 < slot.0 → is_null slot.1 ≡ false → asks slot ≡ true

@@ -1,4 +1,5 @@
--- The modes in which an EDT asks for a block: their numbers, their order, and which of them go together.
+-- The modes in which an EDT asks for a block: their numbers, their order, and which of them go
+-- together.
 use Rattle.std.specs.Prelude.{◌≡◌, ℕ, ◌+◌, List, [], ◌∷◌, Bool, true, false, ◌&&◌, ◌==◌, if◌then◌else◌, Option, Some, None}
 use Rattle.ocr_acquire.specs.declared.Mode.{Mode}
 use Rattle.ocr_acquire.specs.declared.Mode.TheVariants as mode
@@ -33,7 +34,8 @@ abbrev pub is_exclusive : Mode → Bool
 is_exclusive mode.Ew = true
 is_exclusive other = false
 
--- These may hold a block together: RW with RW and RO; RO with RW, RO and CONST; CONST with RO and CONST; EW with nobody.
+-- These may hold a block together: RW with RW and RO; RO with RW, RO and CONST; CONST with RO and
+-- CONST; EW with nobody.
 abbrev pub together : Mode → Mode → Bool
 together mode.Rw mode.Rw = true
 together mode.Rw mode.Ro = true
@@ -48,6 +50,12 @@ together one other = false
 abbrev pub fits_all : Mode → List (ℕ × Mode) → Bool
 fits_all m [] = true
 fits_all m (holder ∷ rest) = together m holder.1 && fits_all m rest
+
+-- the mode that goes with a number among holds: that of an EDT among those who hold a block, that
+-- of a block among what an EDT holds
+abbrev pub mode_in : ℕ → List (ℕ × Mode) → Option Mode
+mode_in number [] = None
+mode_in number (hold ∷ rest) = if hold.0 == number then Some hold.1 else mode_in number rest
 
 -- THE LAWS.
 -- each mode is the mode of its number, so that no two modes have one number

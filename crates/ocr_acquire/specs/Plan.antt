@@ -4,19 +4,22 @@ use Rattle.std.specs.List.{All, Contains}
 use Rattle.ocr_acquire.specs.declared.Mode.{Mode}
 use Rattle.ocr_acquire.specs.Mode.{rank_of, is_null}
 
--- A slot is its payload and its mode. A member of a plan is a block and the mode in which it is acquired.
+-- A slot is its payload and its mode. A member of a plan is a block and the mode in which it is
+-- acquired.
 
 -- the blocks rise, and the first of them is above `low`
 abbrev pub RisesFrom : ℕ → List (ℕ × Mode) → Type 0
 RisesFrom low [] = Unit {0}
 RisesFrom low (member ∷ rest) = (low < member.0) × RisesFrom member.0 rest
 
--- what an EDT may be given as its plan: each block once, in rising order, none of them NULL_GUID, none in mode NULL
+-- what an EDT may be given as its plan: each block once, in rising order, none of them NULL_GUID,
+-- none in mode NULL
 pub record IsWellFormed (plan : List (ℕ × Mode)) : Type 0 where
   pub rising : RisesFrom 0 plan
   pub used : All (λ member. is_null member.1 ≡ false) plan
 
--- a block is wanted in a mode: it is no NULL_GUID, and the mode is the strongest of its slots and not NULL
+-- a block is wanted in a mode: it is no NULL_GUID, and the mode is the strongest of its slots and
+-- not NULL
 pub record IsWanted (slots : List (ℕ × Mode)) (block : ℕ) (mode : Mode) : Type 0 where
   pub named : block ≢ 0
   pub used : is_null mode ≡ false
@@ -54,10 +57,12 @@ begins_with block (member ∷ _) = block == member.0
 -- of a sorted list the last entry of each block
 abbrev pub last_of_each : List (ℕ × Mode) → List (ℕ × Mode)
 last_of_each [] = []
-last_of_each (entry ∷ rest) = if begins_with entry.0 rest then last_of_each rest else entry ∷ last_of_each rest
+last_of_each (entry ∷ rest) =
+    if begins_with entry.0 rest then last_of_each rest else entry ∷ last_of_each rest
 
 -- THE LAWS.
--- the slots have a plan, it is the only one, an EDT may be given it, and it is no longer than the slots
+-- the slots have a plan, it is the only one, an EDT may be given it, and it is no longer than the
+-- slots
 abbrev pub PlanLaw : Type 0
 PlanLaw = (slots : List (ℕ × Mode)) → IsPlan slots (plan_of slots)
 

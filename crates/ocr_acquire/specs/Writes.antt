@@ -1,4 +1,5 @@
--- Words that are written into: which words, each with its last value, and what they make of the words before.
+-- Words that are written into: which words, each with its last value, and what they make of the
+-- words before.
 use Rattle.std.specs.Prelude.{◌≡◌, ◌<◌, ◌≤◌, ℕ, ◌+◌, List, [], ◌∷◌, ◌==◌, nat_lt, if◌then◌else◌, Option, Some, length, slice_index, slice_set, unwrap_or}
 use Rattle.std.specs.Map.{lookup}
 
@@ -12,7 +13,8 @@ RisesFrom low (write ∷ rest) = (low ≤ write.0) × RisesFrom (write.0 + 1) re
 abbrev pub IsRising : List (ℕ × ℕ) → Type 0
 IsRising writes = RisesFrom 0 writes
 
--- rising writes, with a value put in a word: it takes its word's place, or the place that is its own
+-- rising writes, with a value put in a word: it takes its word's place, or the place that is its
+-- own
 abbrev pub put : ℕ → ℕ → List (ℕ × ℕ) → List (ℕ × ℕ)
 put word value [] = (word, value) ∷ []
 put word value (write ∷ rest) =
@@ -34,7 +36,8 @@ written (write ∷ rest) words = written rest (slice_set words write.0 write.1)
 abbrev pub PutLaw : Type 0
 PutLaw = (word value : ℕ) (writes : List (ℕ × ℕ))
     → (IsRising writes → IsRising (put word value writes))
-    × ((k : ℕ) → value_at k (put word value writes) ≡ (if word == k then Some value else value_at k writes))
+    × ((k : ℕ) → value_at k (put word value writes)
+    ≡ (if word == k then Some value else value_at k writes))
 
 -- Rising writes leave in each word their value for it, or what it was, and no word is added.
 abbrev pub WrittenLaw : Type 0

@@ -27,6 +27,7 @@ impl Count {
         Count(0)
     }
 
+    /// What was counted.
     pub fn number(self) -> u64
         ensures { result ≡ self }
     {

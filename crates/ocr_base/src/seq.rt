@@ -5,8 +5,8 @@ ghost use Rattle.std.specs.Prelude.{◌≡◌, [], ◌∷◌, ◌++◌, length, 
 use std::alloc::{AllocError, Global};
 use std::marker::Model;
 
-/// A list, which contracts see as the list of its items: two of them are equal where their items are,
-/// whatever memory they take. It is made from a `Vec` and gives it back without taking memory.
+/// A list, which contracts see as the list of its items: two of them are equal where their items
+/// are, whatever memory they take. It is made from a `Vec` and gives it back without taking memory.
 #[derive(Clone, Drop)]
 pub struct Seq<T> {
     items: Vec<T>,
@@ -44,18 +44,21 @@ impl<T> Seq<T> {
         self.items
     }
 
+    /// How many items there are.
     pub fn len(&self) -> usize
         ensures { result ≡ length self.now }
     {
         self.items.len()
     }
 
+    /// Whether there is no item.
     pub fn is_empty(&self) -> bool
         ensures { IsTrue result ↔ (self.now ≡ []) }
     {
         self.items.is_empty()
     }
 
+    /// The items in their order.
     pub fn as_slice(&self) -> &[T]
         ensures { result.now ≡ self.now }
     {

@@ -1,5 +1,5 @@
 -- Channels: what is told of the calls that one accepted, and the steps of its state.
-use Rattle.std.specs.Prelude.{◌≡◌, ◌≤◌, ℕ, ◌+◌, List, [], ◌∷◌, ◌++◌, length, drop, map, Bool, true, false, ◌&&◌, not, nat_lt, ◌==◌, if◌then◌else◌, Option, Some, None}
+use Rattle.std.specs.Prelude.{◌≡◌, ◌≤◌, ℕ, ◌+◌, List, [], ◌∷◌, ◌++◌, length, drop, Bool, true, false, ◌&&◌, not, nat_lt, ◌==◌, if◌then◌else◌, Option, Some, None}
 use Rattle.std.specs.List.{slice_get, zip}
 use Rattle.ocr_guid.specs.declared.Code.{Code}
 use Rattle.ocr_guid.specs.declared.Code.TheVariants as code
@@ -8,70 +8,53 @@ use Rattle.ocr_guid.specs.declared.target.Satisfied.{Satisfied}
 use Rattle.ocr_guid.specs.declared.target.Satisfied.TheVariants as answer
 use Rattle.ocr_guid.specs.declared.target.Linked.{Linked}
 use Rattle.ocr_guid.specs.declared.target.Linked.TheVariants as link
-
--- THE CALLS. A call that a channel accepted. Lists of calls have the newest first.
-pub data ChannelCall : Type 0 where
-  Satisfaction : (payload : ℕ) → ChannelCall
-  Link : (target : Target) → ChannelCall
-  Destruction : ChannelCall
+use Rattle.ocr_guid.specs.Target.{EventCall, Satisfaction, Link, Destruction, links, was_destroyed, refusal_of, on_destroy, sent_by_firing, sent_by_linking}
 
 -- the payloads of the satisfactions in their order
-abbrev pub satisfactions : List ChannelCall → List ℕ
+abbrev pub satisfactions : List EventCall → List ℕ
 satisfactions [] = []
-satisfactions (Satisfaction p ∷ past) = satisfactions past ++ p ∷ []
+satisfactions (Satisfaction slot p ∷ past) = satisfactions past ++ p ∷ []
 satisfactions (Link t ∷ past) = satisfactions past
 satisfactions (Destruction ∷ past) = satisfactions past
 
--- the targets of the links in their order
-abbrev pub links : List ChannelCall → List Target
-links [] = []
-links (Satisfaction p ∷ past) = links past
-links (Link t ∷ past) = links past ++ t ∷ []
-links (Destruction ∷ past) = links past
-
-abbrev pub was_destroyed : List ChannelCall → Bool
-was_destroyed [] = false
-was_destroyed (Satisfaction p ∷ past) = was_destroyed past
-was_destroyed (Link t ∷ past) = was_destroyed past
-was_destroyed (Destruction ∷ past) = true
-
 -- the k-th satisfaction goes to the k-th link
-abbrev pub matches : List ChannelCall → List (ℕ × Target)
+abbrev pub matches : List EventCall → List (ℕ × Target)
 matches calls = zip (satisfactions calls) (links calls)
 
 -- the satisfactions that no link has matched yet
-abbrev pub unmatched_satisfactions : List ChannelCall → List ℕ
+abbrev pub unmatched_satisfactions : List EventCall → List ℕ
 unmatched_satisfactions calls = drop (length (links calls)) (satisfactions calls)
 
 -- the links that no satisfaction has matched yet
-abbrev pub unmatched_links : List ChannelCall → List Target
+abbrev pub unmatched_links : List EventCall → List Target
 unmatched_links calls = drop (length (satisfactions calls)) (links calls)
 
 -- one satisfaction more would leave more than this many unmatched
-abbrev pub has_room : ℕ → List ChannelCall → Bool
+abbrev pub has_room : ℕ → List EventCall → Bool
 has_room most calls = nat_lt (length (satisfactions calls)) (length (links calls) + most)
 
 -- the code that refuses a further satisfaction
-abbrev pub refusal_after : ℕ → Bool → List ChannelCall → ℕ → Option Code
+abbrev pub refusal_after : ℕ → Bool → List EventCall → ℕ → Option Code
 refusal_after most takes calls p =
-    if was_destroyed calls then Some code.Stale
-    else if not (p == 0) && not takes then Some code.Einval
-    else if has_room most calls then None
-    else Some code.Ebusy
+    refusal_of (was_destroyed calls) takes p (if has_room most calls then None else Some code.Ebusy)
 
--- the answer to a further satisfaction that is not refused: it goes to the link of its own number, or waits for it
-abbrev pub firing_after : List ChannelCall → Satisfied
-firing_after calls = elim (slice_get (links calls) (length (satisfactions calls))) as (λ _. Satisfied) [
-  | Some t ↦ answer.Fired (t ∷ [])
-  | None ↦ answer.Kept
-]
+-- the answer to a further satisfaction that is not refused: it goes to the link of its own number,
+-- or waits for it
+abbrev pub firing_after : List EventCall → Satisfied
+firing_after calls =
+    elim (slice_get (links calls) (length (satisfactions calls))) as (λ _. Satisfied) [
+      | Some t ↦ answer.Fired (t ∷ [])
+      | None ↦ answer.Kept
+    ]
 
--- the answer to a further link that is not refused: it gets the satisfaction of its own number, or waits for it
-abbrev pub linking_after : List ChannelCall → Linked
-linking_after calls = elim (slice_get (satisfactions calls) (length (links calls))) as (λ _. Linked) [
-  | Some p ↦ link.Now p
-  | None ↦ link.Kept
-]
+-- the answer to a further link that is not refused: it gets the satisfaction of its own number, or
+-- waits for it
+abbrev pub linking_after : List EventCall → Linked
+linking_after calls =
+    elim (slice_get (satisfactions calls) (length (links calls))) as (λ _. Linked) [
+      | Some p ↦ link.Now p
+      | None ↦ link.Kept
+    ]
 
 -- THE STATE.
 pub record State : Type 0 where
@@ -81,7 +64,7 @@ pub record State : Type 0 where
   pub payloads : List ℕ
   pub targets : List Target
 
-abbrev pub state_of : ℕ → Bool → List ChannelCall → State
+abbrev pub state_of : ℕ → Bool → List EventCall → State
 state_of most takes calls = record {
   max_gen = most;
   takes_arg = takes;
@@ -91,24 +74,12 @@ state_of most takes calls = record {
 }
 
 -- THE STEPS.
--- the payload is a block, and the channel takes none
-abbrev pub is_unwanted : State → ℕ → Bool
-is_unwanted s p = not (p == 0) && not s.takes_arg
-
--- neither the channel's destruction nor the payload refuses a satisfaction
-abbrev pub is_welcome : State → ℕ → Bool
-is_welcome s p = not s.destroyed && not (is_unwanted s p)
-
 -- no target waits, and the channel keeps as many payloads as it may
 abbrev pub is_full : State → Bool
 is_full s = (length s.targets == 0) && not (nat_lt (length s.payloads) s.max_gen)
 
 abbrev pub refusal : State → ℕ → Option Code
-refusal s p =
-    if s.destroyed then Some code.Stale
-    else if is_unwanted s p then Some code.Einval
-    else if is_full s then Some code.Ebusy
-    else None
+refusal s p = refusal_of s.destroyed s.takes_arg p (if is_full s then Some code.Ebusy else None)
 
 abbrev pub with_queues : State → List ℕ → List Target → State
 with_queues s payloads targets = record {
@@ -125,8 +96,8 @@ on_satisfy s p = elim (refusal s p) as (λ _. Satisfied) [
   | None ↦ elim (slice_get s.targets 0) as (λ _. Satisfied) [ Some t ↦ answer.Fired (t ∷ []) | None ↦ answer.Kept ]
 ]
 
-abbrev pub satisfied : State → ℕ → State
-satisfied s p = elim (refusal s p) as (λ _. State) [
+abbrev pub after_satisfy : State → ℕ → State
+after_satisfy s p = elim (refusal s p) as (λ _. State) [
   | Some c ↦ s
   | None ↦ elim (slice_get s.targets 0) as (λ _. State) [
     | Some t ↦ with_queues s s.payloads (drop 1 s.targets)
@@ -139,40 +110,46 @@ on_link s =
     if s.destroyed then link.Refused code.Stale
     else elim (slice_get s.payloads 0) as (λ _. Linked) [ Some p ↦ link.Now p | None ↦ link.Kept ]
 
-abbrev pub linked : State → Target → State
-linked s t =
+abbrev pub after_link : State → Target → State
+after_link s t =
     if s.destroyed then s
     else elim (slice_get s.payloads 0) as (λ _. State) [
       | Some p ↦ with_queues s (drop 1 s.payloads) s.targets
       | None ↦ with_queues s s.payloads (s.targets ++ t ∷ [])
     ]
 
-abbrev pub on_destroy : State → Code
-on_destroy s = if s.destroyed then code.Stale else code.Done
-
-abbrev pub doomed : State → State
-doomed s = if s.destroyed then s
-    else record { max_gen = s.max_gen; takes_arg = s.takes_arg; destroyed = true; payloads = []; targets = [] }
+abbrev pub after_destroy : State → State
+after_destroy s = if s.destroyed then s
+    else record {
+      max_gen = s.max_gen;
+      takes_arg = s.takes_arg;
+      destroyed = true;
+      payloads = [];
+      targets = [];
+    }
 
 -- THE LAWS. After an accepted call the state is the step of the state before it.
 abbrev pub RefusalLaw : Type 0
-RefusalLaw = (most : ℕ) (takes : Bool) (calls : List ChannelCall) (p : ℕ) → 1 ≤ most
+RefusalLaw = (most : ℕ) (takes : Bool) (calls : List EventCall) (p : ℕ) → 1 ≤ most
     → refusal (state_of most takes calls) p ≡ refusal_after most takes calls p
 
 abbrev pub SatisfyLaw : Type 0
-SatisfyLaw = (most : ℕ) (takes : Bool) (calls : List ChannelCall) (p : ℕ) → 1 ≤ most → refusal_after most takes calls p ≡ None
-    → (state_of most takes (Satisfaction p ∷ calls) ≡ satisfied (state_of most takes calls) p)
+SatisfyLaw = (most : ℕ) (takes : Bool) (calls : List EventCall) (slot p : ℕ) → 1 ≤ most
+    → refusal_after most takes calls p ≡ None
+    → (state_of most takes (Satisfaction slot p ∷ calls)
+    ≡ after_satisfy (state_of most takes calls) p)
     × (on_satisfy (state_of most takes calls) p ≡ firing_after calls)
 
 abbrev pub LinkLaw : Type 0
-LinkLaw = (most : ℕ) (takes : Bool) (calls : List ChannelCall) (t : Target) → was_destroyed calls ≡ false
-    → (state_of most takes (Link t ∷ calls) ≡ linked (state_of most takes calls) t)
+LinkLaw =
+    (most : ℕ) (takes : Bool) (calls : List EventCall) (t : Target) → was_destroyed calls ≡ false
+    → (state_of most takes (Link t ∷ calls) ≡ after_link (state_of most takes calls) t)
     × (on_link (state_of most takes calls) ≡ linking_after calls)
 
 abbrev pub DestroyLaw : Type 0
-DestroyLaw = (most : ℕ) (takes : Bool) (calls : List ChannelCall) → was_destroyed calls ≡ false
-    → (state_of most takes (Destruction ∷ calls) ≡ doomed (state_of most takes calls))
-    × (on_destroy (state_of most takes calls) ≡ code.Done)
+DestroyLaw = (most : ℕ) (takes : Bool) (calls : List EventCall) → was_destroyed calls ≡ false
+    → (state_of most takes (Destruction ∷ calls) ≡ after_destroy (state_of most takes calls))
+    × (on_destroy (state_of most takes calls).destroyed ≡ code.Done)
 
 -- a destroyed channel stays destroyed, keeps nothing and refuses all, whatever comes
 pub record IsDead (s : State) : Type 0 where
@@ -183,42 +160,35 @@ pub record IsDead (s : State) : Type 0 where
   pub no_link : on_link s ≡ link.Refused code.Stale
 
 abbrev pub DestroyedLaw : Type 0
-DestroyedLaw = (most : ℕ) (takes : Bool) (later calls : List ChannelCall) → was_destroyed calls ≡ true
+DestroyedLaw = (most : ℕ) (takes : Bool) (later calls : List EventCall) → was_destroyed calls ≡ true
     → IsDead (state_of most takes (later ++ calls))
 
 -- each call was accepted at its place
-abbrev pub IsAccepted : ℕ → Bool → List ChannelCall → Type 0
+abbrev pub IsAccepted : ℕ → Bool → List EventCall → Type 0
 IsAccepted most takes [] = Unit {0}
-IsAccepted most takes (Satisfaction p ∷ past) = IsAccepted most takes past × (refusal_after most takes past p ≡ None)
+IsAccepted most takes (Satisfaction slot p ∷ past) =
+    IsAccepted most takes past × (refusal_after most takes past p ≡ None)
 IsAccepted most takes (Link t ∷ past) = IsAccepted most takes past × (was_destroyed past ≡ false)
-IsAccepted most takes (Destruction ∷ past) = IsAccepted most takes past × (was_destroyed past ≡ false)
-
--- what an answer to a satisfaction sends
-abbrev pub sent_by_firing : ℕ → Satisfied → List (ℕ × Target)
-sent_by_firing p (answer.Fired targets) = map (λ (t : Target). (p, t)) targets
-sent_by_firing p answer.Kept = []
-sent_by_firing p answer.Ignored = []
-sent_by_firing p (answer.Refused c) = []
-
--- what an answer to a link sends
-abbrev pub sent_by_linking : Target → Linked → List (ℕ × Target)
-sent_by_linking t (link.Now p) = (p, t) ∷ []
-sent_by_linking t link.Kept = []
-sent_by_linking t (link.Refused c) = []
+IsAccepted most takes (Destruction ∷ past) =
+    IsAccepted most takes past × (was_destroyed past ≡ false)
 
 -- what the answers to all the calls sent, in the order of the calls
-abbrev pub sent : ℕ → Bool → List ChannelCall → List (ℕ × Target)
-sent most takes [] = []
-sent most takes (Satisfaction p ∷ past) = sent most takes past ++ sent_by_firing p (on_satisfy (state_of most takes past) p)
-sent most takes (Link t ∷ past) = sent most takes past ++ sent_by_linking t (on_link (state_of most takes past))
-sent most takes (Destruction ∷ past) = sent most takes past
+abbrev pub sent_in_all : ℕ → Bool → List EventCall → List (ℕ × Target)
+sent_in_all most takes [] = []
+sent_in_all most takes (Satisfaction slot p ∷ past) =
+    sent_in_all most takes past ++ sent_by_firing p (on_satisfy (state_of most takes past) p)
+sent_in_all most takes (Link t ∷ past) =
+    sent_in_all most takes past ++ sent_by_linking t (on_link (state_of most takes past))
+sent_in_all most takes (Destruction ∷ past) = sent_in_all most takes past
 
--- a channel sends the payload of the k-th satisfaction to the target of the k-th link, and nothing else
+-- a channel sends the payload of the k-th satisfaction to the target of the k-th link, and nothing
+-- else
 abbrev pub MatchLaw : Type 0
-MatchLaw = (most : ℕ) (takes : Bool) (calls : List ChannelCall) → 1 ≤ most → IsAccepted most takes calls
-    → sent most takes calls ≡ matches calls
+MatchLaw =
+    (most : ℕ) (takes : Bool) (calls : List EventCall) → 1 ≤ most → IsAccepted most takes calls
+    → sent_in_all most takes calls ≡ matches calls
 
 -- it never leaves more satisfactions unmatched than it may
 abbrev pub RoomLaw : Type 0
-RoomLaw = (most : ℕ) (takes : Bool) (calls : List ChannelCall) → IsAccepted most takes calls
+RoomLaw = (most : ℕ) (takes : Bool) (calls : List EventCall) → IsAccepted most takes calls
     → length (satisfactions calls) ≤ length (links calls) + most

@@ -1,15 +1,16 @@
 -- The laws of loans and blocks, for the crates above.
-use Rattle.std.proofs.Common.{◌≡◌, ◌≢◌, ℕ, List, [], ◌∷◌, ◌++◌, Bool, true, false, ◌==◌, if◌then◌else◌, Option, Some, None, length, slice_index, unwrap_or, arith, refl, rules, ◌∙◌, ap}
+use Rattle.std.proofs.Common.{◌≡◌, ℕ, List, [], ◌∷◌, ◌++◌, Bool, true, false, ◌==◌, if◌then◌else◌, Option, Some, length, slice_index, unwrap_or, arith, refl, sym, ◌∙◌, ap}
 use Rattle.std.proofs.lemmas.Bool.{and_parts}
+use Rattle.std.proofs.lemmas.Option.{none-some}
 use Rattle.std.proofs.lemmas.List.{length-set, length-replicate}
 use Rattle.ocr_acquire.specs.declared.Mode.TheVariants as mode
 use Rattle.ocr_datablock.specs.Lent as loan
 use Rattle.ocr_datablock.specs.Lent.{Loan, LoanCall, Listing, loan_of, writes_of, last_stored, words_in, StoredLaw, ListingLaw, WritesLaw, WordLaw}
-use Rattle.ocr_acquire.specs.Writes.{value_at, written, IsRising}
-use Rattle.ocr_acquire.specs.Mode.{is_exclusive}
-use Rattle.ocr_datablock.specs.Block.{BlockCall, Ask, Release, Doom, Store, Lend, TakeBack, left_by, is_destroyed, contents, borrower_of, holders_of, queue_of, line_of, is_empty, gone, GoTogether, StandOnce, AskLaw, ReleaseLaw, DoomLaw, StoreLaw, LendLaw, TakeBackLaw, WordsLaw, HoldersLaw, OnceLaw, WaitingLaw, QueueLaw, GoneLaw, LoanLaw}
+use Rattle.ocr_acquire.specs.Writes.{value_at, IsRising}
+use Rattle.ocr_datablock.specs.Block.{BlockCall, Ask, Release, Doom, Store, Lend, TakeBack, line_without, is_destroyed, contents, borrower_of, holders_of, queue_of, line_of, is_empty, is_line_gone, GoTogether}
 use Rattle.ocr_acquire.proofs.Writes.{rises_put, value_put, length_written, word_written}
 use Rattle.ocr_datablock.proofs.Lines.{line_splits, together_joined, together_passed, together_left, IsStuck, stuck_at, stuck_joined, stuck_passed, gone_joined, gone_passed, gone_queue, once_joined, once_left, once_passed, writer_alone, alone_joined, alone_doomed, holds_alone, other_borrower}
+use Rattle.ocr_datablock.specs.Steps.{StandOnce, AskLaw, ReleaseLaw, DoomLaw, StoreLaw, LendLaw, TakeBackLaw, WordsLaw, HoldersLaw, OnceLaw, WaitingLaw, QueueLaw, GoneLaw, LoanLaw}
 
 -- LOANS.
 pub stored_law : StoredLaw
@@ -74,8 +75,8 @@ first_together creator false = (refl, tt)
 pub holders_law : HoldersLaw
 holders_law creator [] = first_together creator (creator == 0)
 holders_law creator (Ask t m ∷ past) = together_joined (is_destroyed past) (line_of creator past) t m (holders_law creator past)
-holders_law creator (Release t ∷ past) = together_passed (is_destroyed past) (left_by t (line_of creator past)) (together_left t (line_of creator past) (holders_law creator past))
-holders_law creator (Doom t ∷ past) = together_passed true (left_by t (line_of creator past)) (together_left t (line_of creator past) (holders_law creator past))
+holders_law creator (Release t ∷ past) = together_passed (is_destroyed past) (line_without t (line_of creator past)) (together_left t (line_of creator past) (holders_law creator past))
+holders_law creator (Doom t ∷ past) = together_passed true (line_without t (line_of creator past)) (together_left t (line_of creator past) (holders_law creator past))
 holders_law creator (Store word value ∷ past) = holders_law creator past
 holders_law creator (Lend t ∷ past) = holders_law creator past
 holders_law creator (TakeBack t writes ∷ past) = holders_law creator past
@@ -88,8 +89,8 @@ pub once_law : OnceLaw
 once_law n creator [] allowed = first_once creator (creator == 0)
 once_law n creator (Ask t m ∷ past) allowed =
     once_joined (is_destroyed past) (line_of creator past) t m allowed.1.0 allowed.1.1 (once_law n creator past allowed.0)
-once_law n creator (Release t ∷ past) allowed = once_passed (is_destroyed past) (left_by t (line_of creator past)) (once_left t (line_of creator past) (once_law n creator past allowed.0))
-once_law n creator (Doom t ∷ past) allowed = once_passed true (left_by t (line_of creator past)) (once_left t (line_of creator past) (once_law n creator past allowed.0))
+once_law n creator (Release t ∷ past) allowed = once_passed (is_destroyed past) (line_without t (line_of creator past)) (once_left t (line_of creator past) (once_law n creator past allowed.0))
+once_law n creator (Doom t ∷ past) allowed = once_passed true (line_without t (line_of creator past)) (once_left t (line_of creator past) (once_law n creator past allowed.0))
 once_law n creator (Store word value ∷ past) allowed = once_law n creator past allowed.0
 once_law n creator (Lend t ∷ past) allowed = once_law n creator past allowed.0
 once_law n creator (TakeBack t writes ∷ past) allowed = once_law n creator past allowed.0
@@ -97,8 +98,8 @@ once_law n creator (TakeBack t writes ∷ past) allowed = once_law n creator pas
 stuck : (creator : ℕ) (calls : List BlockCall) → IsStuck (is_destroyed calls) (holders_of creator calls) (queue_of creator calls)
 stuck creator [] = tt
 stuck creator (Ask t m ∷ past) = stuck_joined (is_destroyed past) (line_of creator past) t m (stuck creator past)
-stuck creator (Release t ∷ past) = stuck_passed (is_destroyed past) (left_by t (line_of creator past))
-stuck creator (Doom t ∷ past) = stuck_passed true (left_by t (line_of creator past))
+stuck creator (Release t ∷ past) = stuck_passed (is_destroyed past) (line_without t (line_of creator past))
+stuck creator (Doom t ∷ past) = stuck_passed true (line_without t (line_of creator past))
 stuck creator (Store word value ∷ past) = stuck creator past
 stuck creator (Lend t ∷ past) = stuck creator past
 stuck creator (TakeBack t writes ∷ past) = stuck creator past
@@ -109,8 +110,8 @@ waiting_law creator calls one rest is = stuck_at (is_destroyed calls) (holders_o
 pub queue_law : QueueLaw
 queue_law destroyed line = line_splits destroyed line
 
-pub stays_gone : (creator : ℕ) (calls : List BlockCall) → gone (is_destroyed calls) (line_of creator calls) ≡ true
-    → (call : BlockCall) → gone (is_destroyed (call ∷ calls)) (line_of creator (call ∷ calls)) ≡ true
+pub stays_gone : (creator : ℕ) (calls : List BlockCall) → is_line_gone (is_destroyed calls) (line_of creator calls) ≡ true
+    → (call : BlockCall) → is_line_gone (is_destroyed (call ∷ calls)) (line_of creator (call ∷ calls)) ≡ true
 stays_gone creator calls is (Ask t m) = gone_joined (is_destroyed calls) (line_of creator calls) t m is
 stays_gone creator calls is (Release t) =
     let parts = and_parts (is_destroyed calls) (is_empty (holders_of creator calls)) is in
@@ -125,9 +126,6 @@ stays_gone creator calls is (TakeBack t writes) = is
 pub gone_law : GoneLaw
 gone_law creator calls is = (gone_queue (is_destroyed calls) (holders_of creator calls) (queue_of creator calls) (stuck creator calls) is, stays_gone creator calls is)
 
-none_is_some : (t : ℕ) (o : Option ℕ) → o ≡ None → o ≡ Some t → ⊥
-none_is_some t o none some = cc
-
 pub loan_law : LoanLaw
 loan_law n creator [] t allowed is = cc
 loan_law n creator (Ask u m ∷ past) t allowed is =
@@ -140,7 +138,7 @@ loan_law n creator (Release u ∷ past) t allowed is =
 loan_law n creator (Doom u ∷ past) t allowed is =
     let before = loan_law n creator past t allowed.0 is in
     (alone_doomed (line_of creator past) t u before.0 (other_borrower t u (borrower_of past) is allowed.1.1), before.1)
-loan_law n creator (Store word value ∷ past) t allowed is = absurd (none_is_some t (borrower_of past) allowed.1.1 is)
+loan_law n creator (Store word value ∷ past) t allowed is = absurd (none-some t (sym allowed.1.1 ∙ is))
 loan_law n creator (Lend u ∷ past) t allowed is =
     let same : u ≡ t = cc in
     let alone = writer_alone u (holders_of creator past) (holders_law creator past) allowed.1.0 in

@@ -6,8 +6,9 @@ use Rattle.std.proofs.lemmas.Bool.Decides.{nat_tests}
 use Rattle.std.proofs.lemmas.List.{append-nil}
 use Rattle.ocr_acquire.specs.declared.Mode.{Mode}
 use Rattle.ocr_acquire.specs.declared.Mode.TheVariants as mode
-use Rattle.ocr_acquire.specs.Mode.{together, fits_all}
-use Rattle.ocr_datablock.specs.Block.{Line, is_empty, names, mode_in, without, front_that_fits, rest_that_waits, gone, can_grant, joined, left_by, leavers, passed_on, GoTogether, IsLentTo, StandOnce}
+use Rattle.ocr_acquire.specs.Mode.{together, fits_all, mode_in}
+use Rattle.ocr_datablock.specs.Block.{Line, is_empty, names, without, front_that_fits, rest_that_waits, is_line_gone, can_grant, line_after_ask, line_without, leavers, line_after_grants, GoTogether, IsLentTo}
+use Rattle.ocr_datablock.specs.Steps.{StandOnce}
 
 -- THE ORDER OF THE QUEUE.
 pub queue_splits : (holders queue : List (ℕ × Mode)) → queue ≡ front_that_fits holders queue ++ rest_that_waits holders queue
@@ -17,7 +18,7 @@ queue_splits holders (one ∷ rest) = elim (fits_all one.1 holders) as (λ b. on
   | false ↦ refl
 ]
 
-pub line_splits : (destroyed : Bool) (line : Line) → line.queue ≡ leavers destroyed line ++ (passed_on destroyed line).queue
+pub line_splits : (destroyed : Bool) (line : Line) → line.queue ≡ leavers destroyed line ++ (line_after_grants destroyed line).queue
 line_splits false line = queue_splits line.holders line.queue
 line_splits true line = elim (is_empty line.holders) as (λ b. line.queue ≡ (if b then line.queue else []) ++ (if b then record { holders = line.holders; queue = [] } else line).queue) [
   | true ↦ sym (append-nil line.queue)
@@ -28,8 +29,8 @@ names-append : (first second : List (ℕ × Mode)) → names (first ++ second) �
 names-append [] second = refl
 names-append (one ∷ rest) second = ap (λ (tail : List ℕ). one.0 ∷ tail) (names-append rest second)
 
-pub names_split : (destroyed : Bool) (line : Line) → names line.queue ≡ names (leavers destroyed line) ++ names (passed_on destroyed line).queue
-names_split destroyed line = ap names (line_splits destroyed line) ∙ names-append (leavers destroyed line) (passed_on destroyed line).queue
+pub names_split : (destroyed : Bool) (line : Line) → names line.queue ≡ names (leavers destroyed line) ++ names (line_after_grants destroyed line).queue
+names_split destroyed line = ap names (line_splits destroyed line) ∙ names-append (leavers destroyed line) (line_after_grants destroyed line).queue
 
 -- WHO HOLDS A BLOCK GOES TOGETHER.
 together_flips : (one other : Mode) → together one other ≡ together other one
@@ -84,20 +85,20 @@ together_without t (first ∷ rest) all =
     (λ _. together_without t rest all.1)
     (λ _. (fits_without first.1 t rest all.0, together_without t rest all.1))
 
-pub together_joined : (destroyed : Bool) (line : Line) (t : ℕ) (m : Mode) → GoTogether line.holders → GoTogether (joined destroyed line t m).holders
+pub together_joined : (destroyed : Bool) (line : Line) (t : ℕ) (m : Mode) → GoTogether line.holders → GoTogether (line_after_ask destroyed line t m).holders
 together_joined destroyed line t m all =
-    cond_both (gone destroyed line) line _ (λ (after : Line). GoTogether after.holders)
+    cond_both (is_line_gone destroyed line) line _ (λ (after : Line). GoTogether after.holders)
     (λ _. all)
     (λ _. cond_both (can_grant destroyed line m) (record { holders = line.holders ++ (t, m) ∷ []; queue = line.queue }) (record { holders = line.holders; queue = line.queue ++ (t, m) ∷ [] }) (λ (after : Line). GoTogether after.holders)
     (λ can. together_push line.holders (t, m) all (and_parts _ _ (and_parts _ _ can).1).1)
     (λ _. all))
 
-pub together_passed : (destroyed : Bool) (line : Line) → GoTogether line.holders → GoTogether (passed_on destroyed line).holders
+pub together_passed : (destroyed : Bool) (line : Line) → GoTogether line.holders → GoTogether (line_after_grants destroyed line).holders
 together_passed false line all = together_front line.holders line.queue all
 together_passed true line all =
     cond_both (is_empty line.holders) (record { holders = line.holders; queue = [] }) line (λ (after : Line). GoTogether after.holders) (λ _. all) (λ _. all)
 
-pub together_left : (t : ℕ) (line : Line) → GoTogether line.holders → GoTogether (left_by t line).holders
+pub together_left : (t : ℕ) (line : Line) → GoTogether line.holders → GoTogether (line_without t line).holders
 together_left t line all = together_without t line.holders all
 
 -- WHO WAITS HAS A REASON.
@@ -125,7 +126,7 @@ stuck_held : (holders queue : List (ℕ × Mode)) → is_empty holders ≡ false
 stuck_held holders [] is = tt
 stuck_held holders (one ∷ rest) is = (is, λ h. cc)
 
-pub stuck_passed : (destroyed : Bool) (line : Line) → IsStuck destroyed (passed_on destroyed line).holders (passed_on destroyed line).queue
+pub stuck_passed : (destroyed : Bool) (line : Line) → IsStuck destroyed (line_after_grants destroyed line).holders (line_after_grants destroyed line).queue
 stuck_passed false line = stuck_rest line.holders line.queue
 stuck_passed true line = elim (is_empty line.holders) as (λ b. is_empty line.holders ≡ b → IsStuck true (if b then record { holders = line.holders; queue = [] } else line).holders (if b then record { holders = line.holders; queue = [] } else line).queue) [
   | true ↦ λ _. tt
@@ -143,9 +144,9 @@ stuck_granted destroyed holders [] more is = tt
 stuck_granted destroyed holders (one ∷ rest) more is = cc
 
 pub stuck_joined : (destroyed : Bool) (line : Line) (t : ℕ) (m : Mode) → IsStuck destroyed line.holders line.queue
-    → IsStuck destroyed (joined destroyed line t m).holders (joined destroyed line t m).queue
+    → IsStuck destroyed (line_after_ask destroyed line t m).holders (line_after_ask destroyed line t m).queue
 stuck_joined destroyed line t m stuck =
-    cond_both (gone destroyed line) line _ (λ (after : Line). IsStuck destroyed after.holders after.queue)
+    cond_both (is_line_gone destroyed line) line _ (λ (after : Line). IsStuck destroyed after.holders after.queue)
     (λ _. stuck)
     (λ held. cond_both (can_grant destroyed line m) (record { holders = line.holders ++ (t, m) ∷ []; queue = line.queue }) (record { holders = line.holders; queue = line.queue ++ (t, m) ∷ [] }) (λ (after : Line). IsStuck destroyed after.holders after.queue)
     (λ can. stuck_granted destroyed line.holders line.queue (line.holders ++ (t, m) ∷ []) (and_parts _ _ (and_parts _ _ can).1).0)
@@ -160,10 +161,10 @@ empty_without : (t : ℕ) (list : List (ℕ × Mode)) → is_empty list ≡ true
 empty_without t [] is = refl
 empty_without t (one ∷ rest) is = cc
 
-pub gone_joined : (destroyed : Bool) (line : Line) (t : ℕ) (m : Mode) → gone destroyed line ≡ true → gone destroyed (joined destroyed line t m) ≡ true
+pub gone_joined : (destroyed : Bool) (line : Line) (t : ℕ) (m : Mode) → is_line_gone destroyed line ≡ true → is_line_gone destroyed (line_after_ask destroyed line t m) ≡ true
 gone_joined destroyed line t m is = rw is is
 
-pub gone_passed : (t : ℕ) (line : Line) → is_empty line.holders ≡ true → gone true (passed_on true (left_by t line)) ≡ true
+pub gone_passed : (t : ℕ) (line : Line) → is_empty line.holders ≡ true → is_line_gone true (line_after_grants true (line_without t line)) ≡ true
 gone_passed t line is = let still : is_empty (without t line.holders) ≡ true = empty_without t line.holders is in rw still still
 
 pub gone_queue : (destroyed : Bool) (holders queue : List (ℕ × Mode)) → IsStuck destroyed holders queue → (destroyed && is_empty holders) ≡ true → queue ≡ []
@@ -197,10 +198,10 @@ once_without t (first ∷ rest) others once =
     (λ _. once_without t rest others once.1)
     (λ _. (none_without t first.0 rest others once.0, once_without t rest others once.1))
 
-pub once_left : (t : ℕ) (line : Line) → StandOnce (line.holders ++ line.queue) → StandOnce ((left_by t line).holders ++ (left_by t line).queue)
+pub once_left : (t : ℕ) (line : Line) → StandOnce (line.holders ++ line.queue) → StandOnce ((line_without t line).holders ++ (line_without t line).queue)
 once_left t line once = once_without t line.holders line.queue once
 
-pub once_passed : (destroyed : Bool) (line : Line) → StandOnce (line.holders ++ line.queue) → StandOnce ((passed_on destroyed line).holders ++ (passed_on destroyed line).queue)
+pub once_passed : (destroyed : Bool) (line : Line) → StandOnce (line.holders ++ line.queue) → StandOnce ((line_after_grants destroyed line).holders ++ (line_after_grants destroyed line).queue)
 once_passed false line once =
     subst StandOnce (ap (λ (tail : List (ℕ × Mode)). line.holders ++ tail) (queue_splits line.holders line.queue)
     ∙ sym (append_assoc line.holders (front_that_fits line.holders line.queue) (rest_that_waits line.holders line.queue))) once
@@ -215,9 +216,9 @@ once_granted holders [] t m is once none =
 once_granted holders (one ∷ rest) t m is once none = cc
 
 pub once_joined : (destroyed : Bool) (line : Line) (t : ℕ) (m : Mode) → mode_in t line.holders ≡ None → mode_in t line.queue ≡ None
-    → StandOnce (line.holders ++ line.queue) → StandOnce ((joined destroyed line t m).holders ++ (joined destroyed line t m).queue)
+    → StandOnce (line.holders ++ line.queue) → StandOnce ((line_after_ask destroyed line t m).holders ++ (line_after_ask destroyed line t m).queue)
 once_joined destroyed line t m holds waits once =
-    cond_both (gone destroyed line) line _ (λ (after : Line). StandOnce (after.holders ++ after.queue))
+    cond_both (is_line_gone destroyed line) line _ (λ (after : Line). StandOnce (after.holders ++ after.queue))
     (λ _. once)
     (λ held. cond_both (can_grant destroyed line m) (record { holders = line.holders ++ (t, m) ∷ []; queue = line.queue }) (record { holders = line.holders; queue = line.queue ++ (t, m) ∷ [] }) (λ (after : Line). StandOnce (after.holders ++ after.queue))
     (λ can. once_granted line.holders line.queue t m (and_parts _ _ (and_parts _ _ can).1).0 once holds)
@@ -253,9 +254,9 @@ writer_alone t (first ∷ rest) all is =
       | false ↦ λ apart later. absurd (no_writer t first.1 rest all.0 later)
     ] refl is
 
-pub alone_joined : (destroyed : Bool) (line : Line) (u t : ℕ) (m : Mode) → line.holders ≡ (u, mode.Ew) ∷ [] → (joined destroyed line t m).holders ≡ (u, mode.Ew) ∷ []
+pub alone_joined : (destroyed : Bool) (line : Line) (u t : ℕ) (m : Mode) → line.holders ≡ (u, mode.Ew) ∷ [] → (line_after_ask destroyed line t m).holders ≡ (u, mode.Ew) ∷ []
 alone_joined destroyed line u t m alone =
-    cond_both (gone destroyed line) line _ (λ (after : Line). after.holders ≡ (u, mode.Ew) ∷ [])
+    cond_both (is_line_gone destroyed line) line _ (λ (after : Line). after.holders ≡ (u, mode.Ew) ∷ [])
     (λ _. alone)
     (λ held. cond_both (can_grant destroyed line m) (record { holders = line.holders ++ (t, m) ∷ []; queue = line.queue }) (record { holders = line.holders; queue = line.queue ++ (t, m) ∷ [] }) (λ (after : Line). after.holders ≡ (u, mode.Ew) ∷ [])
     (λ can.
@@ -266,7 +267,7 @@ alone_joined destroyed line u t m alone =
     cc)
     (λ refused. alone))
 
-pub alone_doomed : (line : Line) (u t : ℕ) → line.holders ≡ (u, mode.Ew) ∷ [] → (u == t) ≡ false → (passed_on true (left_by t line)).holders ≡ (u, mode.Ew) ∷ []
+pub alone_doomed : (line : Line) (u t : ℕ) → line.holders ≡ (u, mode.Ew) ∷ [] → (u == t) ≡ false → (line_after_grants true (line_without t line)).holders ≡ (u, mode.Ew) ∷ []
 alone_doomed line u t alone apart =
     let kept : without t line.holders ≡ (u, mode.Ew) ∷ [] = rw (alone, apart) refl in
     rw kept refl
@@ -298,7 +299,7 @@ front_beside_writer : (u : ℕ) (queue : List (ℕ × Mode)) → front_that_fits
 front_beside_writer u [] = refl
 front_beside_writer u (one ∷ rest) = rw (never_with_writer one.1) refl
 
-alone_passed : (destroyed : Bool) (line : Line) (u t : ℕ) → line.holders ≡ (u, mode.Ew) ∷ [] → (u == t) ≡ false → (passed_on destroyed (left_by t line)).holders ≡ (u, mode.Ew) ∷ []
+alone_passed : (destroyed : Bool) (line : Line) (u t : ℕ) → line.holders ≡ (u, mode.Ew) ∷ [] → (u == t) ≡ false → (line_after_grants destroyed (line_without t line)).holders ≡ (u, mode.Ew) ∷ []
 alone_passed true line u t alone apart = alone_doomed line u t alone apart
 alone_passed false line u t alone apart =
     let kept : without t line.holders ≡ (u, mode.Ew) ∷ [] = rw (alone, apart) refl in
@@ -307,7 +308,7 @@ alone_passed false line u t alone apart =
 -- another than the borrower gives the block up
 pub lent_passed : (borrower : Option ℕ) (destroyed : Bool) (line : Line) (t : ℕ) → borrower ≢ Some t
     → GoTogether line.holders → IsLentTo borrower line.holders
-    → GoTogether (passed_on destroyed (left_by t line)).holders × IsLentTo borrower (passed_on destroyed (left_by t line)).holders
-lent_passed None destroyed line t apart all lent = (together_passed destroyed (left_by t line) (together_left t line all), tt)
+    → GoTogether (line_after_grants destroyed (line_without t line)).holders × IsLentTo borrower (line_after_grants destroyed (line_without t line)).holders
+lent_passed None destroyed line t apart all lent = (together_passed destroyed (line_without t line) (together_left t line all), tt)
 lent_passed (Some u) destroyed line t apart all lent =
-    (together_passed destroyed (left_by t line) (together_left t line all), alone_passed destroyed line u t lent (other_borrower u t (Some u) refl apart))
+    (together_passed destroyed (line_without t line) (together_left t line all), alone_passed destroyed line u t lent (other_borrower u t (Some u) refl apart))

@@ -1,10 +1,11 @@
 // A data block: its words, who holds it, and who waits for it.
 ghost use Rattle.std.specs.Prelude.{◌≡◌, ◌≢◌, ◌<◌, ◌≤◌, ◌↔◌, List, [], ◌∷◌, ◌++◌, length, take, drop, slice_index, Some, None, true, false, is_some, IfOk, IfSome, OnErr};
 ghost use Rattle.ocr_acquire.specs.declared.Mode.TheVariants.{Const, Ew};
-ghost use Rattle.ocr_acquire.specs.Mode.{is_exclusive, is_null};
+ghost use Rattle.ocr_acquire.specs.Mode.{is_exclusive, is_null, mode_in};
 ghost use Rattle.ocr_datablock.specs.declared.datablock.Asked.TheVariants as asked;
 ghost use Rattle.ocr_datablock.specs.Lent.{words_in};
-ghost use Rattle.ocr_datablock.specs.Block.{state_of, GoTogether, IsLentTo, names, mode_in, without, front_that_fits, rest_that_waits, leavers, passed_on, left_by, line, is_gone, is_grantable, on_ask, on_release, on_doom, with_line, asked_by, released, doomed, stored, lent_out, loan_from, taken_back, AskLaw, ReleaseLaw, DoomLaw, StoreLaw, LendLaw, TakeBackLaw, WordsLaw, HoldersLaw, OnceLaw, WaitingLaw, QueueLaw, GoneLaw, LoanLaw};
+ghost use Rattle.ocr_datablock.specs.Block.{state_of, GoTogether, IsLentTo, names, without, front_that_fits, rest_that_waits, leavers, line_after_grants, line_without, line, is_gone, is_grantable};
+ghost use Rattle.ocr_datablock.specs.Steps.{on_ask, on_release, on_doom, with_line, after_ask, after_release, after_doom, after_store, after_lend, loan_from, after_take_back, AskLaw, ReleaseLaw, DoomLaw, StoreLaw, LendLaw, TakeBackLaw, WordsLaw, HoldersLaw, OnceLaw, WaitingLaw, QueueLaw, GoneLaw, LoanLaw};
 
 use crate::loan::Lent;
 use ocr_acquire::{Mode, fits};
@@ -12,6 +13,9 @@ use ocr_base::NoMemory;
 use ocr_guid::Guid;
 use std::alloc::Global;
 use std::marker::Model;
+
+/// How many words a block has at most.
+pub const MOST_WORDS: u32 = 65_536;
 
 /// What a block answers to an EDT that asks for it.
 #[derive(Clone, Copy, PartialEq, Eq, Debug)]
@@ -40,6 +44,7 @@ pub struct Block {
 
 impl Model for Block {
     ghost use Rattle.std.specs.Prelude.{◌≡◌, ◌≤◌, length, None};
+    ghost use Rattle.ocr_datablock.specs.declared.datablock.TheConstants.{MOST_WORDS};
     ghost use Rattle.ocr_datablock.specs.Block.{State, GoTogether, IsLentTo};
 
     ghost Value = { State };
@@ -53,15 +58,17 @@ impl Model for Block {
       destroyed = b.destroyed;
     } };
 
-    ghost invariant = { λ b. (b.size ≤ 65536) × (b.borrower ≡ None → length b.words.items ≡ b.size)
+    ghost invariant = { λ b. (b.size ≤ MOST_WORDS)
+        × (b.borrower ≡ None → length b.words.items ≡ b.size)
         × GoTogether b.holders.items × IsLentTo b.borrower b.holders.items };
 }
 
 impl Block {
-    /// A block of zeros, which its creator holds in `Rw`, or nobody where the creator is `Guid::NULL`.
+    /// A block of zeros, which its creator holds in `Rw`, or nobody where the creator is
+    /// `Guid::NULL`.
     pub fn new(alloc: Global, words: u32, creator: Guid) -> Result<Block, NoMemory>
         requires some { 1 ≤ words }
-        requires not_too_many { words ≤ 65536 }
+        requires not_too_many { words ≤ MOST_WORDS }
         ensures { IfOk result (λ block. block ≡ state_of words creator []) }
     {
         let zeros = Vec::from_elem(alloc, 0, words as usize)?;
@@ -104,7 +111,8 @@ impl Block {
     /// Where it is not `Ew`, the words are not on loan.
     pub fn mode_of(&self, edt: Guid) -> Option<Mode>
         ensures value { result ≡ mode_in edt self.now.holders }
-        ensures not_lent { IfSome result (λ mode. is_exclusive mode ≡ false → self.now.borrower ≡ None) }
+        ensures not_lent { IfSome result (λ mode. is_exclusive mode ≡ false
+            → self.now.borrower ≡ None) }
     {
         find_mode(&self.holders, edt)
     }
@@ -116,7 +124,8 @@ impl Block {
         find_mode(&self.queue, edt).is_some()
     }
 
-    /// The EDT that has the words on loan, which holds the block in `Ew`, alone; None where nobody has them.
+    /// The EDT that has the words on loan, which holds the block in `Ew`, alone; None where nobody
+    /// has them.
     pub fn borrower(&self) -> Option<Guid>
         ensures value { result ≡ self.now.borrower }
         ensures alone { IsLentTo result self.now.holders }
@@ -139,8 +148,9 @@ impl Block {
         requires some_mode { is_null mode ≡ false }
         ensures answer { IfOk result (λ answer. answer ≡ on_ask self.old mode) }
         ensures gone { IfOk result (λ answer. (answer ≡ asked.Gone) ↔ (is_gone self.old ≡ true)) }
-        ensures granted { IfOk result (λ answer. (answer ≡ asked.Granted) ↔ (is_grantable self.old mode ≡ true)) }
-        ensures state { IfOk result (λ _. self.new ≡ asked_by self.old edt mode) }
+        ensures granted { IfOk result (λ answer. (answer ≡ asked.Granted)
+            ↔ (is_grantable self.old mode ≡ true)) }
+        ensures state { IfOk result (λ _. self.new ≡ after_ask self.old edt mode) }
         ensures err { OnErr result (self.new ≡ self.old) }
     {
         if self.is_gone() {
@@ -154,27 +164,31 @@ impl Block {
         Ok(Asked::Queued)
     }
 
-    /// Ends a hold. Answers who is granted the block by that, in the order of the queue; where the block is gone now,
-    /// all who waited for it. After an error the block is as before.
+    /// Ends a hold. Answers who is granted the block by that, in the order of the queue; where the
+    /// block is gone now, all who waited for it. After an error the block is as before.
     pub fn release(&mut self, alloc: Global, edt: Guid) -> Result<Vec<Guid>, NoMemory>
         requires holder { is_some (mode_in edt self.old.holders) ≡ true }
         requires nothing_lent { self.old.borrower ≢ Some edt }
         ensures answer { IfOk result (λ resumed. resumed.items ≡ on_release self.old edt) }
-        ensures state { IfOk result (λ _. self.new ≡ released self.old edt) }
-        ensures rest_waits { IfOk result (λ resumed. names self.old.queue ≡ resumed.items ++ names self.new.queue) }
+        ensures state { IfOk result (λ _. self.new ≡ after_release self.old edt) }
+        ensures rest_waits { IfOk result (λ resumed. names self.old.queue
+            ≡ resumed.items ++ names self.new.queue) }
         ensures err { OnErr result (self.new ≡ self.old) }
     {
         self.end_hold(alloc, edt, self.destroyed)
     }
 
-    /// Destroys the block: nobody more is granted, and who holds it goes on. Ends the hold of this EDT, if it has one.
-    /// Answers all who waited, where the block is gone by that, and else nobody. After an error the block is as before.
+    /// Destroys the block: nobody more is granted, and who holds it goes on. Ends the hold of this
+    /// EDT, if it has one.
+    /// Answers all who waited, where the block is gone by that, and else nobody. After an error the
+    /// block is as before.
     pub fn doom(&mut self, alloc: Global, edt: Guid) -> Result<Vec<Guid>, NoMemory>
         requires not_destroyed { self.old.destroyed ≡ false }
         requires nothing_lent { self.old.borrower ≢ Some edt }
         ensures answer { IfOk result (λ resumed. resumed.items ≡ on_doom self.old edt) }
-        ensures state { IfOk result (λ _. self.new ≡ doomed self.old edt) }
-        ensures rest_waits { IfOk result (λ resumed. names self.old.queue ≡ resumed.items ++ names self.new.queue) }
+        ensures state { IfOk result (λ _. self.new ≡ after_doom self.old edt) }
+        ensures rest_waits { IfOk result (λ resumed. names self.old.queue
+            ≡ resumed.items ++ names self.new.queue) }
         ensures err { OnErr result (self.new ≡ self.old) }
     {
         self.end_hold(alloc, edt, true)
@@ -183,10 +197,13 @@ impl Block {
     fn end_hold(&mut self, alloc: Global, edt: Guid, destroyed: bool) -> Result<Vec<Guid>, NoMemory>
         requires { self.old.borrower ≢ Some edt }
         ensures answer { IfOk result
-            (λ resumed. resumed.items ≡ names (leavers destroyed (left_by edt (line self.old)))) }
+            (λ resumed. resumed.items
+            ≡ names (leavers destroyed (line_without edt (line self.old)))) }
         ensures state { IfOk result
-            (λ _. self.new ≡ with_line self.old destroyed (passed_on destroyed (left_by edt (line self.old)))) }
-        ensures rest_waits { IfOk result (λ resumed. names self.old.queue ≡ resumed.items ++ names self.new.queue) }
+            (λ _. self.new
+            ≡ with_line self.old destroyed (line_after_grants destroyed (line_without edt (line self.old)))) }
+        ensures rest_waits { IfOk result (λ resumed. names self.old.queue
+            ≡ resumed.items ++ names self.new.queue) }
         ensures err { OnErr result (self.new ≡ self.old) }
     {
         let mut holders = copy_without(alloc, &self.holders, edt)?;
@@ -211,17 +228,18 @@ impl Block {
     pub fn store(&mut self, word: u32, value: u64)
         requires exists { word < self.old.size }
         requires nothing_lent { self.old.borrower ≡ None }
-        ensures { self.new ≡ stored self.old word value }
+        ensures { self.new ≡ after_store self.old word value }
     {
         self.words[word as usize] = value;
     }
 
-    /// Lends the words themselves to an EDT that holds the block in `Ew`. The block has none until they come back.
+    /// Lends the words themselves to an EDT that holds the block in `Ew`. The block has none until
+    /// they come back.
     pub fn lend(&mut self, edt: Guid) -> Lent
         requires writer { mode_in edt self.old.holders ≡ Some Ew }
         requires nothing_lent { self.old.borrower ≡ None }
         ensures loan { result ≡ loan_from self.old Ew }
-        ensures state { self.new ≡ lent_out self.old edt }
+        ensures state { self.new ≡ after_lend self.old edt }
     {
         let none = Vec::new(*self.words.allocator());
         let words = std::mem::replace(&mut self.words, none);
@@ -240,12 +258,13 @@ impl Block {
         Ok(Lent::new(Mode::Const, words))
     }
 
-    /// Takes a loan back. The words of the block are those of a loan in `Ew`; a loan in `Const` changes nothing.
+    /// Takes a loan back. The words of the block are those of a loan in `Ew`; a loan in `Const`
+    /// changes nothing.
     #[tactic(auto, using(ocr_acquire::proofs::Writes::length_written))]
     pub fn take_back(&mut self, edt: Guid, lent: Lent)
         requires lent_to { lent.mode ≡ Ew → self.old.borrower ≡ Some edt }
         requires same_size { lent.mode ≡ Ew → length lent.began ≡ self.old.size }
-        ensures state { self.new ≡ taken_back self.old lent }
+        ensures state { self.new ≡ after_take_back self.old lent }
         ensures words { lent.mode ≡ Ew → self.new.words ≡ words_in lent }
         ensures copy { lent.mode ≡ Const → self.new ≡ self.old }
     {
@@ -308,11 +327,20 @@ fn pass_on(
     queue: &[(Guid, Mode)],
 ) -> Result<usize, NoMemory>
     ensures holders { IfOk result (λ _.
-        holders.new.items ≡ (passed_on destroyed (record { holders = holders.old.items; queue = queue.now })).holders) }
+        holders.new.items ≡ (line_after_grants destroyed (record {
+          holders = holders.old.items;
+          queue = queue.now;
+        })).holders) }
     ensures front { IfOk result (λ count.
-        take count queue.now ≡ leavers destroyed (record { holders = holders.old.items; queue = queue.now })) }
+        take count queue.now ≡ leavers destroyed (record {
+          holders = holders.old.items;
+          queue = queue.now;
+        })) }
     ensures rest { IfOk result (λ count.
-        drop count queue.now ≡ (passed_on destroyed (record { holders = holders.old.items; queue = queue.now })).queue) }
+        drop count queue.now ≡ (line_after_grants destroyed (record {
+          holders = holders.old.items;
+          queue = queue.now;
+        })).queue) }
     ensures within { IfOk result (λ count. count ≤ length queue.now) }
 {
     if !destroyed {
@@ -329,8 +357,10 @@ fn pass_on(
 fn grant(holders: &mut Vec<(Guid, Mode)>, queue: &[(Guid, Mode)]) -> Result<usize, NoMemory>
     ensures holders { IfOk result (λ _.
         holders.new.items ≡ holders.old.items ++ front_that_fits holders.old.items queue.now) }
-    ensures front { IfOk result (λ count. take count queue.now ≡ front_that_fits holders.old.items queue.now) }
-    ensures rest { IfOk result (λ count. drop count queue.now ≡ rest_that_waits holders.old.items queue.now) }
+    ensures front { IfOk result (λ count. take count queue.now
+        ≡ front_that_fits holders.old.items queue.now) }
+    ensures rest { IfOk result (λ count. drop count queue.now
+        ≡ rest_that_waits holders.old.items queue.now) }
     ensures within { IfOk result (λ count. count ≤ length queue.now) }
 {
     for i in 0..queue.len() {

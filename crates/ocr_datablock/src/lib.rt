@@ -4,7 +4,7 @@
 pub mod datablock;
 pub mod loan;
 
-pub use datablock::{Asked, Block};
+pub use datablock::{Asked, Block, MOST_WORDS};
 pub use loan::Lent;
 
 #[cfg(test)]

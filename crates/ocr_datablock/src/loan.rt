@@ -2,9 +2,10 @@
 ghost use Rattle.std.specs.Prelude.{◌≡◌, ◌<◌, ◌≤◌, [], length, slice_index, true, IfOk, OnErr};
 ghost use Rattle.std.specs.List.{All};
 ghost use Rattle.ocr_acquire.specs.declared.Mode.TheVariants.{Ew};
-ghost use Rattle.ocr_datablock.specs.Lent.{StoredLaw, ListingLaw, WritesLaw, WordLaw, loan_of, words_in, stored, with_list};
+ghost use Rattle.ocr_datablock.specs.Lent.{StoredLaw, ListingLaw, WritesLaw, WordLaw, loan_of, words_in, after_store, after_list_writes};
 ghost use Rattle.ocr_acquire.specs.Writes.{IsRising, put, written};
 
+use crate::datablock::MOST_WORDS;
 use ocr_acquire::Mode;
 use ocr_base::NoMemory;
 use std::alloc::Global;
@@ -20,7 +21,8 @@ pub struct Lent {
     began: Vec<u64>,
     // the last value of each word that was stored
     values: BTreeMap<u32, u64>,
-    // has as many members as there are such words; where `is_listed`, it lists them with their values
+    // has as many members as there are such words; where `is_listed`, it lists them with their
+    // values
     list: Vec<(u32, u64)>,
     is_listed: bool,
 }
@@ -28,6 +30,7 @@ pub struct Lent {
 impl Model for Lent {
     ghost use Rattle.std.specs.Prelude.{◌≡◌, ◌<◌, ◌≤◌, length, true};
     ghost use Rattle.std.specs.List.{All};
+    ghost use Rattle.ocr_datablock.specs.declared.datablock.TheConstants.{MOST_WORDS};
     ghost use Rattle.ocr_acquire.specs.Writes.{IsRising};
     ghost use Rattle.ocr_datablock.specs.Lent.{Loan};
 
@@ -40,7 +43,7 @@ impl Model for Lent {
       listed = l.is_listed;
     } };
 
-    ghost invariant = { λ l. (length l.began.items ≤ 65536) × IsRising l.values.entries
+    ghost invariant = { λ l. (length l.began.items ≤ MOST_WORDS) × IsRising l.values.entries
         × All (λ write. write.0 < length l.began.items) l.values.entries
         × (length l.list.items ≡ length l.values.entries)
         × (l.is_listed ≡ true → l.list.items ≡ l.values.entries) };
@@ -48,7 +51,7 @@ impl Model for Lent {
 
 impl Lent {
     pub(crate) fn new(mode: Mode, began: Vec<u64>) -> Lent
-        requires { length began.items ≤ 65536 }
+        requires { length began.items ≤ MOST_WORDS }
         ensures { result ≡ loan_of mode began.items [] }
     {
         let alloc = *began.allocator();
@@ -91,7 +94,7 @@ impl Lent {
     pub fn store(&mut self, _alloc: Global, word: u32, value: u64) -> Result<(), NoMemory>
         requires exists { word < length self.old.began }
         requires writer { self.old.mode ≡ Ew }
-        ensures state { IfOk result (λ _. self.new ≡ stored self.old word value) }
+        ensures state { IfOk result (λ _. self.new ≡ after_store self.old word value) }
         ensures err { OnErr result (self.new ≡ self.old) }
     {
         put_value(&mut self.values, &mut self.list, word, value)?;
@@ -101,7 +104,7 @@ impl Lent {
 
     /// Lists the words that were stored, so that `writes` can give them. It takes no memory.
     pub fn list_writes(&mut self)
-        ensures { self.new ≡ with_list self.old }
+        ensures { self.new ≡ after_list_writes self.old }
     {
         if !self.is_listed {
             fill(&mut self.list, &self.values);

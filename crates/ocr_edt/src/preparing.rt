@@ -1,7 +1,8 @@
 // The phases before an EDT starts.
 ghost use Rattle.std.specs.Prelude.{◌≡◌, ◌<◌, IsSome, Some, None, length, true};
 ghost use Rattle.ocr_acquire.specs.Plan.{IsWellFormed};
-ghost use Rattle.ocr_edt.specs.Phases.{next_of, readied, advanced, started, marked_at};
+ghost use Rattle.ocr_edt.specs.Phases.{next_of};
+ghost use Rattle.ocr_edt.specs.Steps.{after_ready, after_acquired, after_start, marked_at};
 
 use crate::Identity;
 use crate::executing::Running;
@@ -38,6 +39,7 @@ impl Filling {
         Filling { identity }
     }
 
+    /// What the EDT keeps through all its phases.
     pub fn identity(&self) -> Identity
         ensures { result ≡ self.now }
     {
@@ -47,7 +49,7 @@ impl Filling {
     /// Every slot is set: the EDT goes on to acquire the blocks of its plan.
     pub fn ready(self, plan: SmallVec<(Guid, Mode), 8>) -> Acquiring
         requires { IsWellFormed plan.items }
-        ensures { result ≡ readied self plan.items }
+        ensures { result ≡ after_ready self plan.items }
     {
         let Filling { identity } = self;
         Acquiring {
@@ -68,7 +70,8 @@ pub struct Acquiring {
 }
 
 impl Model for Acquiring {
-    ghost use Rattle.ocr_edt.specs.Phases.{Progress, progress_in, IsUnderWay};
+    ghost use Rattle.ocr_edt.specs.Phases.{Progress};
+    ghost use Rattle.ocr_edt.specs.Steps.{progress_in, IsUnderWay};
 
     ghost Value = { Progress };
 
@@ -78,6 +81,7 @@ impl Model for Acquiring {
 }
 
 impl Acquiring {
+    /// What the EDT keeps through all its phases.
     pub fn identity(&self) -> Identity
         ensures { result ≡ self.now.identity }
     {
@@ -98,7 +102,7 @@ impl Acquiring {
     /// The next block was acquired, or it was found stale.
     pub fn acquired(self, stale: bool) -> Acquiring
         requires { IsSome (next_of self) }
-        ensures { result ≡ advanced self stale }
+        ensures { result ≡ after_acquired self stale }
     {
         let Acquiring {
             identity,
@@ -123,7 +127,7 @@ impl Acquiring {
     /// The whole plan is done: the EDT runs, and holds what was acquired.
     pub fn start(self) -> Running
         requires { next_of self ≡ None }
-        ensures { result ≡ started self }
+        ensures { result ≡ after_start self }
     {
         let Acquiring {
             identity,
@@ -175,6 +179,7 @@ impl Model for Waiting {
 }
 
 impl Waiting {
+    /// What the EDT keeps through all its phases.
     pub fn identity(&self) -> Identity
         ensures { result ≡ self.now.identity }
     {

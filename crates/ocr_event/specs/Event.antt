@@ -1,5 +1,6 @@
--- Events of the kinds ONCE, IDEM and STICKY: what is told of the calls that one accepted, and the steps of its state.
-use Rattle.std.specs.Prelude.{◌≡◌, ℕ, List, [], ◌∷◌, ◌++◌, map, Bool, true, false, ◌||◌, ◌&&◌, not, ◌==◌, if◌then◌else◌, Option, Some, None, is_some}
+-- Events of the kinds ONCE, IDEM and STICKY: what is told of the calls that one accepted, and the
+-- steps of its state.
+use Rattle.std.specs.Prelude.{◌≡◌, ℕ, List, [], ◌∷◌, ◌++◌, map, Bool, true, false, ◌||◌, ◌&&◌, if◌then◌else◌, Option, Some, None, is_some}
 use Rattle.ocr_guid.specs.declared.Code.{Code}
 use Rattle.ocr_guid.specs.declared.Code.TheVariants as code
 use Rattle.ocr_guid.specs.declared.target.Target.{Target}
@@ -7,20 +8,17 @@ use Rattle.ocr_guid.specs.declared.target.Satisfied.{Satisfied}
 use Rattle.ocr_guid.specs.declared.target.Satisfied.TheVariants as answer
 use Rattle.ocr_guid.specs.declared.target.Linked.{Linked}
 use Rattle.ocr_guid.specs.declared.target.Linked.TheVariants as link
+use Rattle.ocr_guid.specs.Target.{EventCall, Satisfaction, Link, Destruction, links, was_destroyed, refusal_of, on_destroy, sent_by_firing, sent_by_linking}
 use Rattle.ocr_event.specs.declared.EventKind.{EventKind}
 use Rattle.ocr_event.specs.declared.EventKind.TheVariants as kind
 
--- THE CALLS. A call that an event accepted; a satisfaction that an IDEM event passes over is accepted too.
--- Lists of calls have the newest first.
-pub data EventCall : Type 0 where
-  Satisfaction : (payload : ℕ) → EventCall
-  Link : (target : Target) → EventCall
-  Destruction : EventCall
+-- A satisfaction that an IDEM event passes over is accepted too, and so stands among the calls.
 
 -- the payload of the first satisfaction
 abbrev pub first_payload : List EventCall → Option ℕ
 first_payload [] = None
-first_payload (Satisfaction p ∷ past) = elim (first_payload past) as (λ _. Option ℕ) [ None ↦ Some p | Some q ↦ Some q ]
+first_payload (Satisfaction slot p ∷ past) =
+    elim (first_payload past) as (λ _. Option ℕ) [ None ↦ Some p | Some q ↦ Some q ]
 first_payload (Link t ∷ past) = first_payload past
 first_payload (Destruction ∷ past) = first_payload past
 
@@ -31,37 +29,21 @@ has_fired calls = is_some (first_payload calls)
 -- the targets that were linked before the event fired, in the order of their links
 abbrev pub waiters : List EventCall → List Target
 waiters [] = []
-waiters (Satisfaction p ∷ past) = waiters past
+waiters (Satisfaction slot p ∷ past) = waiters past
 waiters (Link t ∷ past) = if has_fired past then waiters past else waiters past ++ t ∷ []
 waiters (Destruction ∷ past) = waiters past
 
--- the targets of all links in their order
-abbrev pub links : List EventCall → List Target
-links [] = []
-links (Satisfaction p ∷ past) = links past
-links (Link t ∷ past) = links past ++ t ∷ []
-links (Destruction ∷ past) = links past
-
-abbrev pub was_destroyed : List EventCall → Bool
-was_destroyed [] = false
-was_destroyed (Satisfaction p ∷ past) = was_destroyed past
-was_destroyed (Link t ∷ past) = was_destroyed past
-was_destroyed (Destruction ∷ past) = true
-
 abbrev pub is_once : EventKind → Bool
 is_once kind.Once = true
-is_once kind.Idem = false
-is_once kind.Sticky = false
+is_once other = false
 
 abbrev pub is_idem : EventKind → Bool
-is_idem kind.Once = false
 is_idem kind.Idem = true
-is_idem kind.Sticky = false
+is_idem other = false
 
 abbrev pub is_sticky : EventKind → Bool
-is_sticky kind.Once = false
-is_sticky kind.Idem = false
 is_sticky kind.Sticky = true
+is_sticky other = false
 
 -- an event is destroyed by a call, and a ONCE event also by firing
 abbrev pub is_destroyed : EventKind → List EventCall → Bool
@@ -70,10 +52,8 @@ is_destroyed k calls = was_destroyed calls || (is_once k && has_fired calls)
 -- the code that refuses a further satisfaction
 abbrev pub refusal_after : EventKind → Bool → List EventCall → ℕ → Option Code
 refusal_after k takes calls p =
-    if is_destroyed k calls then Some code.Stale
-    else if not (p == 0) && not takes then Some code.Einval
-    else if is_sticky k && has_fired calls then Some code.Eperm
-    else None
+    refusal_of (is_destroyed k calls) takes p (if is_sticky k
+    && has_fired calls then Some code.Eperm else None)
 
 -- the answer to a further satisfaction that is not refused: the first one fires to all that wait
 abbrev pub firing_after : List EventCall → Satisfied
@@ -81,7 +61,8 @@ firing_after calls = if has_fired calls then answer.Ignored else answer.Fired (w
 
 -- the answer to a further link that is not refused: a fired event gives the payload that fired it
 abbrev pub linking_after : List EventCall → Linked
-linking_after calls = elim (first_payload calls) as (λ _. Linked) [ None ↦ link.Kept | Some p ↦ link.Now p ]
+linking_after calls =
+    elim (first_payload calls) as (λ _. Linked) [ None ↦ link.Kept | Some p ↦ link.Now p ]
 
 -- THE STATE.
 pub record State : Type 0 where
@@ -101,14 +82,6 @@ state_of k takes calls = record {
 }
 
 -- THE STEPS.
--- the payload is a block, and the event takes none
-abbrev pub is_unwanted : State → ℕ → Bool
-is_unwanted s p = not (p == 0) && not s.takes_arg
-
--- neither the event's destruction nor the payload refuses a satisfaction
-abbrev pub is_welcome : State → ℕ → Bool
-is_welcome s p = not s.destroyed && not (is_unwanted s p)
-
 abbrev pub is_fired_sticky : State → Bool
 is_fired_sticky s = is_sticky s.kind && is_some s.first
 
@@ -117,10 +90,7 @@ is_fired_idem s = is_idem s.kind && is_some s.first
 
 abbrev pub refusal : State → ℕ → Option Code
 refusal s p =
-    if s.destroyed then Some code.Stale
-    else if is_unwanted s p then Some code.Einval
-    else if is_fired_sticky s then Some code.Eperm
-    else None
+    refusal_of s.destroyed s.takes_arg p (if is_fired_sticky s then Some code.Eperm else None)
 
 abbrev pub on_satisfy : State → ℕ → Satisfied
 on_satisfy s p = elim (refusal s p) as (λ _. Satisfied) [
@@ -128,29 +98,45 @@ on_satisfy s p = elim (refusal s p) as (λ _. Satisfied) [
   | None ↦ if is_fired_idem s then answer.Ignored else answer.Fired s.targets
 ]
 
-abbrev pub fired : State → ℕ → State
-fired s p = record { kind = s.kind; takes_arg = s.takes_arg; destroyed = s.destroyed || is_once s.kind; first = Some p; targets = [] }
+abbrev pub after_firing : State → ℕ → State
+after_firing s p = record {
+  kind = s.kind;
+  takes_arg = s.takes_arg;
+  destroyed = s.destroyed || is_once s.kind;
+  first = Some p;
+  targets = [];
+}
 
-abbrev pub satisfied : State → ℕ → State
-satisfied s p = elim (refusal s p) as (λ _. State) [
+abbrev pub after_satisfy : State → ℕ → State
+after_satisfy s p = elim (refusal s p) as (λ _. State) [
   | Some c ↦ s
-  | None ↦ if is_fired_idem s then s else fired s p
+  | None ↦ if is_fired_idem s then s else after_firing s p
 ]
 
 abbrev pub on_link : State → Linked
-on_link s = if s.destroyed then link.Refused code.Stale else elim s.first as (λ _. Linked) [ None ↦ link.Kept | Some p ↦ link.Now p ]
+on_link s = if s.destroyed then link.Refused code.Stale
+    else elim s.first as (λ _. Linked) [ None ↦ link.Kept | Some p ↦ link.Now p ]
 
-abbrev pub linked : State → Target → State
-linked s t =
+abbrev pub after_link : State → Target → State
+after_link s t =
     if s.destroyed then s
     else if is_some s.first then s
-    else record { kind = s.kind; takes_arg = s.takes_arg; destroyed = s.destroyed; first = s.first; targets = s.targets ++ t ∷ [] }
+    else record {
+      kind = s.kind;
+      takes_arg = s.takes_arg;
+      destroyed = s.destroyed;
+      first = s.first;
+      targets = s.targets ++ t ∷ [];
+    }
 
-abbrev pub on_destroy : State → Code
-on_destroy s = if s.destroyed then code.Stale else code.Done
-
-abbrev pub doomed : State → State
-doomed s = if s.destroyed then s else record { kind = s.kind; takes_arg = s.takes_arg; destroyed = true; first = s.first; targets = [] }
+abbrev pub after_destroy : State → State
+after_destroy s = if s.destroyed then s else record {
+  kind = s.kind;
+  takes_arg = s.takes_arg;
+  destroyed = true;
+  first = s.first;
+  targets = [];
+}
 
 -- THE LAWS. After an accepted call the state is the step of the state before it.
 abbrev pub RefusalLaw : Type 0
@@ -158,19 +144,21 @@ RefusalLaw = (k : EventKind) (takes : Bool) (calls : List EventCall) (p : ℕ)
     → refusal (state_of k takes calls) p ≡ refusal_after k takes calls p
 
 abbrev pub SatisfyLaw : Type 0
-SatisfyLaw = (k : EventKind) (takes : Bool) (calls : List EventCall) (p : ℕ) → refusal_after k takes calls p ≡ None
-    → (state_of k takes (Satisfaction p ∷ calls) ≡ satisfied (state_of k takes calls) p)
+SatisfyLaw = (k : EventKind) (takes : Bool) (calls : List EventCall) (slot p : ℕ)
+    → refusal_after k takes calls p ≡ None
+    → (state_of k takes (Satisfaction slot p ∷ calls) ≡ after_satisfy (state_of k takes calls) p)
     × (on_satisfy (state_of k takes calls) p ≡ firing_after calls)
 
 abbrev pub LinkLaw : Type 0
-LinkLaw = (k : EventKind) (takes : Bool) (calls : List EventCall) (t : Target) → is_destroyed k calls ≡ false
-    → (state_of k takes (Link t ∷ calls) ≡ linked (state_of k takes calls) t)
+LinkLaw = (k : EventKind) (takes : Bool) (calls : List EventCall) (t : Target)
+    → is_destroyed k calls ≡ false
+    → (state_of k takes (Link t ∷ calls) ≡ after_link (state_of k takes calls) t)
     × (on_link (state_of k takes calls) ≡ linking_after calls)
 
 abbrev pub DestroyLaw : Type 0
 DestroyLaw = (k : EventKind) (takes : Bool) (calls : List EventCall) → is_destroyed k calls ≡ false
-    → (state_of k takes (Destruction ∷ calls) ≡ doomed (state_of k takes calls))
-    × (on_destroy (state_of k takes calls) ≡ code.Done)
+    → (state_of k takes (Destruction ∷ calls) ≡ after_destroy (state_of k takes calls))
+    × (on_destroy (state_of k takes calls).destroyed ≡ code.Done)
 
 -- a destroyed event stays destroyed, keeps no target and refuses all, whatever comes
 pub record IsDead (s : State) : Type 0 where
@@ -180,37 +168,29 @@ pub record IsDead (s : State) : Type 0 where
   pub no_link : on_link s ≡ link.Refused code.Stale
 
 abbrev pub DestroyedLaw : Type 0
-DestroyedLaw = (k : EventKind) (takes : Bool) (later calls : List EventCall) → is_destroyed k calls ≡ true
+DestroyedLaw =
+    (k : EventKind) (takes : Bool) (later calls : List EventCall) → is_destroyed k calls ≡ true
     → IsDead (state_of k takes (later ++ calls))
 
 -- each call was accepted at its place
 abbrev pub IsAccepted : EventKind → Bool → List EventCall → Type 0
 IsAccepted k takes [] = Unit {0}
-IsAccepted k takes (Satisfaction p ∷ past) = IsAccepted k takes past × (refusal_after k takes past p ≡ None)
+IsAccepted k takes (Satisfaction slot p ∷ past) =
+    IsAccepted k takes past × (refusal_after k takes past p ≡ None)
 IsAccepted k takes (Link t ∷ past) = IsAccepted k takes past × (is_destroyed k past ≡ false)
 IsAccepted k takes (Destruction ∷ past) = IsAccepted k takes past × (is_destroyed k past ≡ false)
 
--- what an answer to a satisfaction sends
-abbrev pub sent_by_firing : ℕ → Satisfied → List (ℕ × Target)
-sent_by_firing p (answer.Fired targets) = map (λ (t : Target). (p, t)) targets
-sent_by_firing p answer.Kept = []
-sent_by_firing p answer.Ignored = []
-sent_by_firing p (answer.Refused c) = []
-
--- what an answer to a link sends
-abbrev pub sent_by_linking : Target → Linked → List (ℕ × Target)
-sent_by_linking t (link.Now p) = (p, t) ∷ []
-sent_by_linking t link.Kept = []
-sent_by_linking t (link.Refused c) = []
-
 -- what the answers to all the calls sent, in the order of the calls
-abbrev pub sent : EventKind → Bool → List EventCall → List (ℕ × Target)
-sent k takes [] = []
-sent k takes (Satisfaction p ∷ past) = sent k takes past ++ sent_by_firing p (on_satisfy (state_of k takes past) p)
-sent k takes (Link t ∷ past) = sent k takes past ++ sent_by_linking t (on_link (state_of k takes past))
-sent k takes (Destruction ∷ past) = sent k takes past
+abbrev pub sent_in_all : EventKind → Bool → List EventCall → List (ℕ × Target)
+sent_in_all k takes [] = []
+sent_in_all k takes (Satisfaction slot p ∷ past) =
+    sent_in_all k takes past ++ sent_by_firing p (on_satisfy (state_of k takes past) p)
+sent_in_all k takes (Link t ∷ past) =
+    sent_in_all k takes past ++ sent_by_linking t (on_link (state_of k takes past))
+sent_in_all k takes (Destruction ∷ past) = sent_in_all k takes past
 
--- the payload that fired the event for each target that was ever linked to it, and nothing before it fired
+-- the payload that fired the event for each target that was ever linked to it, and nothing before
+-- it fired
 abbrev pub deliveries : List EventCall → List (ℕ × Target)
 deliveries calls = elim (first_payload calls) as (λ _. List (ℕ × Target)) [
   | None ↦ []
@@ -219,4 +199,4 @@ deliveries calls = elim (first_payload calls) as (λ _. List (ℕ × Target)) [
 
 abbrev pub DeliveryLaw : Type 0
 DeliveryLaw = (k : EventKind) (takes : Bool) (calls : List EventCall) → IsAccepted k takes calls
-    → sent k takes calls ≡ deliveries calls
+    → sent_in_all k takes calls ≡ deliveries calls

@@ -2,11 +2,12 @@
 #![tactic(auto)]
 
 ghost use Rattle.std.specs.Prelude.{◌≡◌, ◌↔◌, ℕ, ◌&&◌, not, [], IfOk, OnErr, IsTrue, is_some};
-ghost use Rattle.ocr_event.specs.Event.{state_of, is_unwanted, is_welcome, is_fired_sticky, is_fired_idem, refusal, satisfied, on_satisfy, linked, on_link, doomed, on_destroy, RefusalLaw, SatisfyLaw, LinkLaw, DestroyLaw, DestroyedLaw, DeliveryLaw};
+ghost use Rattle.ocr_guid.specs.Target.{is_unwanted, is_welcome, on_destroy};
+ghost use Rattle.ocr_event.specs.Event.{state_of, is_fired_sticky, is_fired_idem, refusal, after_satisfy, on_satisfy, after_link, on_link, after_destroy, RefusalLaw, SatisfyLaw, LinkLaw, DestroyLaw, DestroyedLaw, DeliveryLaw};
 
+use ocr_base::{NoMemory, Seq};
 use ocr_guid::target::{Linked, Satisfied, Target};
 use ocr_guid::{Code, Guid};
-use ocr_base::{NoMemory, Seq};
 use std::alloc::Global;
 use std::marker::Model;
 
@@ -38,7 +39,13 @@ impl Model for Event {
 
     ghost Value = { State };
 
-    ghost view = { λ e. record { kind = e.kind; takes_arg = e.takes_arg; destroyed = e.destroyed; first = e.first; targets = e.targets.items } };
+    ghost view = { λ e. record {
+      kind = e.kind;
+      takes_arg = e.takes_arg;
+      destroyed = e.destroyed;
+      first = e.first;
+      targets = e.targets.items;
+    } };
 }
 
 impl Event {
@@ -55,22 +62,27 @@ impl Event {
         }
     }
 
-    /// Satisfies the event. The first satisfaction fires it: its targets are moved out to the caller.
-    /// A destroyed event is Stale, a block on an event that takes none is Einval, and a second satisfaction of a
+    /// Satisfies the event. The first satisfaction fires it: its targets are moved out to the
+    /// caller.
+    /// A destroyed event is Stale, a block on an event that takes none is Einval, and a second
+    /// satisfaction of a
     /// STICKY event is Eperm, in this order; an IDEM event passes it over.
     pub fn satisfy(&mut self, payload: Guid) -> Satisfied
         ensures answer { result ≡ on_satisfy self.old payload }
-        ensures state { self.new ≡ satisfied self.old payload }
+        ensures state { self.new ≡ after_satisfy self.old payload }
 
         ensures stale { (result ≡ Satisfied.Refused Code.Stale) ↔ IsTrue self.old.destroyed }
         ensures einval { (result ≡ Satisfied.Refused Code.Einval)
-            ↔ IsTrue (not self.old.destroyed && is_unwanted self.old payload) }
+            ↔ IsTrue (not self.old.destroyed && is_unwanted self.old.takes_arg payload) }
         ensures eperm { (result ≡ Satisfied.Refused Code.Eperm)
-            ↔ IsTrue (is_welcome self.old payload && is_fired_sticky self.old) }
+            ↔ IsTrue (is_welcome self.old.destroyed self.old.takes_arg payload
+            && is_fired_sticky self.old) }
         ensures ignored { (result ≡ Satisfied.Ignored)
-            ↔ IsTrue (is_welcome self.old payload && is_fired_idem self.old) }
+            ↔ IsTrue (is_welcome self.old.destroyed self.old.takes_arg payload
+            && is_fired_idem self.old) }
         ensures fired { (result ≡ Satisfied.Fired self.old.targets)
-            ↔ IsTrue (is_welcome self.old payload && not (is_fired_sticky self.old) && not (is_fired_idem self.old)) }
+            ↔ IsTrue (is_welcome self.old.destroyed self.old.takes_arg payload
+            && not (is_fired_sticky self.old) && not (is_fired_idem self.old)) }
         ensures never_kept { ¬ (result ≡ Satisfied.Kept) }
         ensures refused { (code : Code) → result ≡ Satisfied.Refused code → self.new ≡ self.old }
     {
@@ -93,10 +105,11 @@ impl Event {
     /// A destroyed event is Stale.
     pub fn link(&mut self, alloc: Global, target: Target) -> Result<Linked, NoMemory>
         ensures answer { IfOk result (λ r. r ≡ on_link self.old) }
-        ensures state { IfOk result (λ _. self.new ≡ linked self.old target) }
+        ensures state { IfOk result (λ _. self.new ≡ after_link self.old target) }
         ensures err { OnErr result (self.new ≡ self.old) }
 
-        ensures stale { IfOk result (λ r. (r ≡ Linked.Refused Code.Stale) ↔ IsTrue self.old.destroyed) }
+        ensures stale { IfOk result (λ r. (r ≡ Linked.Refused Code.Stale)
+            ↔ IsTrue self.old.destroyed) }
         ensures kept { IfOk result (λ r. (r ≡ Linked.Kept)
             ↔ IsTrue (not self.old.destroyed && not (is_some self.old.first))) }
         ensures now { IfOk result (λ r. (payload : ℕ) → self.old.first ≡ Some payload
@@ -108,16 +121,14 @@ impl Event {
         if let Some(payload) = self.first {
             return Ok(Linked::Now(payload));
         }
-        if self.targets.push(target).is_err() {
-            return Err(NoMemory);
-        }
+        self.targets.push(target)?;
         Ok(Linked::Kept)
     }
 
     /// Destroys the event: what waits gets nothing. A destroyed event is Stale.
     pub fn destroy(&mut self) -> Code
-        ensures answer { result ≡ on_destroy self.old }
-        ensures state { self.new ≡ doomed self.old }
+        ensures answer { result ≡ on_destroy self.old.destroyed }
+        ensures state { self.new ≡ after_destroy self.old }
 
         ensures stale { (result ≡ Code.Stale) ↔ IsTrue self.old.destroyed }
         ensures done { (result ≡ Code.Done) ↔ IsTrue (not self.old.destroyed) }
@@ -151,10 +162,13 @@ impl Event {
 
         ensures stale { (result ≡ Some Code.Stale) ↔ IsTrue self.now.destroyed }
         ensures einval { (result ≡ Some Code.Einval)
-            ↔ IsTrue (not self.now.destroyed && is_unwanted self.now payload) }
+            ↔ IsTrue (not self.now.destroyed && is_unwanted self.now.takes_arg payload) }
         ensures eperm { (result ≡ Some Code.Eperm)
-            ↔ IsTrue (is_welcome self.now payload && is_fired_sticky self.now) }
-        ensures none { (result ≡ None) ↔ IsTrue (is_welcome self.now payload && not (is_fired_sticky self.now)) }
+            ↔ IsTrue (is_welcome self.now.destroyed self.now.takes_arg payload
+            && is_fired_sticky self.now) }
+        ensures none { (result ≡ None)
+            ↔ IsTrue (is_welcome self.now.destroyed self.now.takes_arg payload
+            && not (is_fired_sticky self.now)) }
     {
         if self.destroyed {
             Some(Code::Stale)

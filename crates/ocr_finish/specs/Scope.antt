@@ -8,33 +8,35 @@ pub data ScopeCall : Type 0 where
   Joining : ScopeCall
   Parting : ScopeCall
 
--- how many have joined: the finish EDT itself, with which the scope was made, and one more by each joining
-abbrev pub joined : List ScopeCall → ℕ
-joined [] = 1
-joined (Joining ∷ past) = joined past + 1
-joined (Parting ∷ past) = joined past
+-- how many have joined: the finish EDT itself, with which the scope was made, and one more by each
+-- joining
+abbrev pub arrivals : List ScopeCall → ℕ
+arrivals [] = 1
+arrivals (Joining ∷ past) = arrivals past + 1
+arrivals (Parting ∷ past) = arrivals past
 
--- how many have left
-abbrev pub left : List ScopeCall → ℕ
-left [] = 0
-left (Joining ∷ past) = left past
-left (Parting ∷ past) = left past + 1
+-- how many members have left
+abbrev pub departures : List ScopeCall → ℕ
+departures [] = 0
+departures (Joining ∷ past) = departures past
+departures (Parting ∷ past) = departures past + 1
 
 -- the members are those that joined and have not left
 abbrev pub members_of : List ScopeCall → ℕ
-members_of calls = joined calls - left calls
+members_of calls = arrivals calls - departures calls
 
 -- a scope is done where all that joined have left
 abbrev pub is_done : List ScopeCall → Bool
-is_done calls = left calls == joined calls
+is_done calls = departures calls == arrivals calls
 
 -- a list of calls that a scope can have: at each of them it had a member
 abbrev pub IsAccepted : List ScopeCall → Type 0
 IsAccepted [] = Unit {0}
-IsAccepted (Joining ∷ past) = IsAccepted past × (left past < joined past)
-IsAccepted (Parting ∷ past) = IsAccepted past × (left past < joined past)
+IsAccepted (Joining ∷ past) = IsAccepted past × (departures past < arrivals past)
+IsAccepted (Parting ∷ past) = IsAccepted past × (departures past < arrivals past)
 
--- THE STATE: the scope that this one leaves when it is done, the event that it then satisfies, and its members.
+-- THE STATE: the scope that this one leaves when it is done, the event that it then satisfies, and
+-- its members.
 pub record State : Type 0 where
   pub outer : ℕ
   pub event : ℕ
@@ -55,14 +57,15 @@ on_leave s = if s.members == 1 then Done else Alive
 
 -- THE LAWS. The state after an accepted call is the step from the state before it.
 abbrev pub JoinLaw : Type 0
-JoinLaw = (outer event : ℕ) (calls : List ScopeCall) → left calls < joined calls
+JoinLaw = (outer event : ℕ) (calls : List ScopeCall) → departures calls < arrivals calls
     → state_of outer event (Joining ∷ calls) ≡ after_join (state_of outer event calls)
 
 abbrev pub LeaveLaw : Type 0
-LeaveLaw = (outer event : ℕ) (calls : List ScopeCall) → left calls < joined calls
+LeaveLaw = (outer event : ℕ) (calls : List ScopeCall) → departures calls < arrivals calls
     → (state_of outer event (Parting ∷ calls) ≡ after_leave (state_of outer event calls))
     × (on_leave (state_of outer event calls) ≡ (if is_done (Parting ∷ calls) then Done else Alive))
 
 -- a scope has a member exactly where not all that joined have left; so it is never more than done
 abbrev pub MembersLaw : Type 0
-MembersLaw = (calls : List ScopeCall) → IsAccepted calls → left calls + members_of calls ≡ joined calls
+MembersLaw = (calls : List ScopeCall) → IsAccepted calls
+    → departures calls + members_of calls ≡ arrivals calls

@@ -19,8 +19,9 @@ pub enum Leaving {
     Done,
 }
 
-/// The scope of a finish EDT. Its members are the EDT itself, each EDT that a member makes, and for a finish EDT among
-/// these its scope in its place. The scope counts those that have joined and have not left.
+/// The scope of a finish EDT. Its members are the EDT itself, each EDT that a member makes, and for
+/// a finish EDT among these its scope in its place. The scope counts those that have joined and
+/// have not left.
 #[derive(Clone, PartialEq, Eq, Debug, Drop)]
 pub struct Scope {
     outer: Guid,
@@ -40,8 +41,8 @@ impl Model for Scope {
 }
 
 impl Scope {
-    /// The scope of a new finish EDT, its one member so far. When it is done it leaves the scope `outer`, and it
-    /// satisfies `event`; each is NULL_GUID where there is none.
+    /// The scope of a new finish EDT, its one member so far. When it is done it leaves the scope
+    /// `outer`, and it satisfies `event`; each is NULL_GUID where there is none.
     pub fn new(outer: Guid, event: Guid) -> Scope
         ensures { result ≡ state_of outer event [] }
     {
@@ -64,6 +65,13 @@ impl Scope {
         ensures { result ≡ self.now.event }
     {
         self.event
+    }
+
+    /// How many members it has: as many as have joined and have not left.
+    pub fn members(&self) -> u32
+        ensures { result ≡ self.now.members }
+    {
+        self.members
     }
 
     /// One member more. A scope that is done takes none.
@@ -109,6 +117,7 @@ mod tests {
         assert_eq!(rt; scope.outer(), Guid(4));
         assert_eq!(rt; scope.event(), Guid(9));
         scope.join();
+        assert_eq!(rt; scope.members(), 2);
         assert_eq!(rt; scope.leave(), Leaving::Alive);
         assert_eq!(rt; scope.leave(), Leaving::Done);
     }

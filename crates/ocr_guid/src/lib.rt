@@ -6,6 +6,8 @@ ghost use Rattle.ocr_guid.specs.Code.{number_of};
 
 pub mod target;
 
+use std::error::Error;
+use std::fmt;
 use std::marker::Model;
 
 /// The name of an object: a number from 1, in the order in which the names were drawn.
@@ -30,15 +32,26 @@ impl Guid {
 
     /// UNINITIALIZED_GUID.
     pub const UNINIT: Guid = Guid(u64::MAX);
+
+    /// The block with the arguments of the program, the first name that is drawn.
+    pub const ARGUMENTS: Guid = Guid(1);
+
+    /// The EDT of `mainEdt`, the second.
+    pub const MAIN_EDT: Guid = Guid(2);
 }
 
 /// What an object is.
 #[derive(Clone, Copy, PartialEq, Eq, Debug)]
 pub enum Kind {
+    /// An event-driven task.
     Edt,
+    /// An event of any kind.
     Event,
+    /// A data block.
     Block,
+    /// A template of EDTs.
     Template,
+    /// The scope of a finish EDT.
     Scope,
 }
 
@@ -58,6 +71,22 @@ pub enum Code {
     /// An object was destroyed.
     Stale,
 }
+
+impl fmt::Display for Code {
+    fn fmt<W: fmt::Write>(&self, f: &mut fmt::Formatter<W>) -> fmt::Result {
+        f.write_str(match self {
+            Code::Done => "done",
+            Code::Eperm => "EPERM",
+            Code::Enoent => "ENOENT",
+            Code::Ebusy => "EBUSY",
+            Code::Einval => "EINVAL",
+            Code::Stale => "STALE",
+        })
+    }
+}
+
+// A code other than `Done` is an error of a call.
+impl Error for Code {}
 
 impl Code {
     /// The number that a body sees: 0, 1, 2, 16, 22 or 200.

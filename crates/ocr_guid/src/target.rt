@@ -5,8 +5,11 @@ use ocr_base::Seq;
 /// What a satisfied event reaches: a slot of an EDT or of another event.
 #[derive(Clone, Copy, PartialEq, Eq, Debug)]
 pub struct Target {
+    /// The EDT, or the event.
     pub object: Guid,
+    /// Whether it is an EDT.
     pub is_edt: bool,
+    /// Its slot, from 0.
     pub slot: u32,
 }
 

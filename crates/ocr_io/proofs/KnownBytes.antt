@@ -1,6 +1,7 @@
 -- Known bytes, one call after another.
 use Rattle.std.proofs.Common.{◌≡◌, ◌≤◌, ◌+◌, ℕ, zero, suc, suc-add, List, [], ◌∷◌, ◌++◌, length, take, drop, Option, Some, None, Result, Ok, Err, refl, sym, ◌∙◌, ap, append_assoc, append-nil, drop-drop}
 use Rattle.std.proofs.lemmas.List.{take-append-drop, drop-take, take_at, length-take-le}
+use Rattle.std.proofs.Math.Seq.{take-nil}
 use Rattle.std.specs.Io.KnownBytes.{Appends, Consumes, Keeps, ReadConsumes, WriteAppends}
 
 pub keeps_all : (a : Option (List ℕ)) → Keeps a a
@@ -33,13 +34,9 @@ pub appends_nothing : (a : Option (List ℕ)) → Appends a a []
 appends_nothing None = tt
 appends_nothing (Some xs) = sym (append-nil xs)
 
-take_none : (n : ℕ) → take {A = ℕ} n [] ≡ []
-take_none zero = refl
-take_none (suc n) = refl
-
 take_short : (s n : ℕ) (p : List ℕ) → take s (take (s + n) p) ≡ take s p
 take_short zero n p = refl
-take_short (suc s) n [] = ap (λ (l : List ℕ). take (suc s) l) (take_none (suc s + n))
+take_short (suc s) n [] = ap (λ (l : List ℕ). take (suc s) l) (take-nil (suc s + n))
 take_short (suc s) n (x ∷ p) = rw suc-add (ap (λ (l : List ℕ). x ∷ l) (take_short s n p))
 
 take_on : (n s : ℕ) (p : List ℕ) → take s p ++ take n (drop s p) ≡ take (s + n) p

@@ -33,12 +33,13 @@ impl Model for MemorySink {
       faults = s.faults;
     } };
 
-    ghost invariant = { λ s. (s.start ≤ length s.room.items) × (vec_len s.room + s.free ≤ vec_capacity s.room) × (0 < s.most) };
+    ghost invariant = { λ s. (s.start ≤ length s.room.items)
+        × (vec_len s.room + s.free ≤ vec_capacity s.room) × (0 < s.most) };
 }
 
 impl MemorySink {
-    /// A sink that takes at most `most` bytes at a call, into the free capacity of `room`. Calls are
-    /// numbered from 0. A call fails where its number stands in `fails` or no capacity is free.
+    /// A sink that takes at most `most` bytes at a call, into the free capacity of `room`. Calls
+    /// are numbered from 0. A call fails where its number stands in `fails` or no capacity is free.
     pub fn new(room: Vec<u8>, most: usize, fails: Vec<u64>) -> Self
         requires { 0 < most }
         ensures { result ≡ record {
@@ -78,8 +79,8 @@ impl Sink for MemorySink {
 
     ghost failures = { λ s. s.faults };
 
-    /// Fails exactly at the calls that it was told and where no room is free, and else takes as many
-    /// bytes as the piece, the most of a call and the room allow.
+    /// Fails exactly at the calls that it was told and where no room is free, and else takes as
+    /// many bytes as the piece, the most of a call and the room allow.
     fn write(&mut self, piece: &[u8]) -> Result<usize, Failed>
         requires { 0 < length piece.now }
         ensures bound { IfOk result (λ n. (0 < n) × (n ≤ length piece.now)) }
@@ -88,7 +89,8 @@ impl Sink for MemorySink {
         ensures calm { OnOk result (self.new.faults ≡ self.old.faults) }
         ensures later { self.old.faults ≤ self.new.faults }
         ensures fails { IsErr result ↔ IsTrue (will_fail self.old) }
-        ensures count { IfOk result (λ n. n ≡ min (min self.old.free self.old.most) (length piece.now)) }
+        ensures count { IfOk result (λ n. n
+            ≡ min (min self.old.free self.old.most) (length piece.now)) }
         ensures state { self.new ≡ after_write self.old piece.now result }
     {
         let call = self.calls.number();

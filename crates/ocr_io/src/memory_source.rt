@@ -84,7 +84,8 @@ impl Source for MemorySource {
         ensures calm { OnOk result (self.new.faults ≡ self.old.faults) }
         ensures later { self.old.faults ≤ self.new.faults }
         ensures fails { IsErr result ↔ IsTrue (is_listed self.old.fails self.old.calls) }
-        ensures count { IfOk result (λ n. n ≡ min (min (length self.old.left) self.old.most) (length buf.old)) }
+        ensures count { IfOk result (λ n. n
+            ≡ min (min (length self.old.left) self.old.most) (length buf.old)) }
         ensures state { self.new ≡ after_read self.old result }
     {
         let call = self.calls.number();

@@ -86,8 +86,10 @@ pub fn read_all<S: Source>(alloc: Global, source: &mut S, most: usize) -> Result
     ensures stopped { IfErr result (λ stop. (stop ≡ ReadStop.TooBig → ⊥) → (n : ℕ) × (n ≤ most)
         × Took (S.left source.old) (S.left source.new) (S.given source.old) (S.given source.new) n) }
     ensures exactly { S.given source.old + (most + 1) < 2 ^ 64
-        → ((result ≡ Err ReadStop.TooBig) ↔ (S.given source.new ≡ S.given source.old + (most + 1))) }
-    ensures failed { IsErrOf result ReadStop.Failed → Rose (S.failures source.old) (S.failures source.new) }
+        → ((result ≡ Err ReadStop.TooBig)
+        ↔ (S.given source.new ≡ S.given source.old + (most + 1))) }
+    ensures failed { IsErrOf result ReadStop.Failed
+        → Rose (S.failures source.old) (S.failures source.new) }
     ensures calm { OnOk result (S.failures source.new ≡ S.failures source.old) }
     ensures later { S.failures source.old ≤ S.failures source.new }
 {

@@ -18,7 +18,8 @@ fn sink(alloc: Global, room: usize, most: usize, fails: &[u64]) -> Result<Memory
     Ok(MemorySink::new(room, most, fails.to_vec(alloc)?))
 }
 
-// Reads through the bound alone, and answers what was read, why it stopped and how many reads failed.
+// Reads through the bound alone, and answers what was read, why it stopped and how many reads
+// failed.
 fn read<S: Source>(rt: &HostRuntime, mut source: S, most: usize) -> (Result<Vec<u8>, ReadStop>, u64)
 where
     S: Drop,

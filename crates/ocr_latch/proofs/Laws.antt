@@ -1,6 +1,7 @@
 -- The laws of a latch's steps, for the crates above.
 use Rattle.std.proofs.Common.{◌≡◌, ℕ, List, [], ◌∷◌, ◌++◌, None, Bool, true, false, refl, rules}
-use Rattle.ocr_latch.specs.Latch.{LatchCall, Satisfaction, Link, Destruction, IsDead, state_of, is_destroyed, is_balanced, refusal_after, firing_after, sent_by_firing, deliveries, DeliveryLaw, RefusalLaw, SatisfyLaw, DropLaw, LinkLaw, DestroyLaw, DestroyedLaw}
+use Rattle.ocr_guid.specs.Target.{EventCall, Satisfaction, Link, Destruction, sent_by_firing}
+use Rattle.ocr_latch.specs.Latch.{IsDead, state_of, is_destroyed, is_balanced, refusal_after, firing_after, deliveries, DeliveryLaw, RefusalLaw, SatisfyLaw, DropLaw, LinkLaw, DestroyLaw, DestroyedLaw}
 
 pub refusal_law : RefusalLaw
 refusal_law takes calls p = refl
@@ -12,7 +13,7 @@ pub drop_law : DropLaw
 drop_law takes calls slot p fits = search rules
 
 -- a latch that has not fired is not balanced
-unbalanced : (calls : List LatchCall) → is_destroyed calls ≡ false → is_balanced calls ≡ false
+unbalanced : (calls : List EventCall) → is_destroyed calls ≡ false → is_balanced calls ≡ false
 unbalanced [] live = refl
 unbalanced (c ∷ past) live = search rules
 
@@ -23,17 +24,17 @@ pub destroy_law : DestroyLaw
 destroy_law takes calls fits = search rules
 
 -- a destroyed latch stays so at the next call
-destroyed_next : (c : LatchCall) (calls : List LatchCall) → is_destroyed calls ≡ true → is_destroyed (c ∷ calls) ≡ true
+destroyed_next : (c : EventCall) (calls : List EventCall) → is_destroyed calls ≡ true → is_destroyed (c ∷ calls) ≡ true
 destroyed_next (Satisfaction slot p) calls gone = search rules
 destroyed_next (Link t) calls gone = search rules
 destroyed_next Destruction calls gone = refl
 
 -- and at all that come later
-pub destroyed_later : (later calls : List LatchCall) → is_destroyed calls ≡ true → is_destroyed (later ++ calls) ≡ true
+pub destroyed_later : (later calls : List EventCall) → is_destroyed calls ≡ true → is_destroyed (later ++ calls) ≡ true
 destroyed_later [] calls gone = gone
 destroyed_later (c ∷ later) calls gone = destroyed_next c (later ++ calls) (destroyed_later later calls gone)
 
-dead : (takes : Bool) (calls : List LatchCall) → is_destroyed calls ≡ true → IsDead (state_of takes calls)
+dead : (takes : Bool) (calls : List EventCall) → is_destroyed calls ≡ true → IsDead (state_of takes calls)
 dead takes calls gone = record {
   destroyed = gone;
   no_target = search rules;
@@ -45,13 +46,13 @@ pub destroyed_law : DestroyedLaw
 destroyed_law takes later calls gone = dead takes (later ++ calls) (destroyed_later later calls gone)
 
 -- what is not refused finds the latch live
-accepted_live : (takes : Bool) (calls : List LatchCall) (p : ℕ) → refusal_after takes calls p ≡ None → is_destroyed calls ≡ false
+accepted_live : (takes : Bool) (calls : List EventCall) (p : ℕ) → refusal_after takes calls p ≡ None → is_destroyed calls ≡ false
 accepted_live takes calls p fits = search rules
 
-delivers_nothing : (calls : List LatchCall) → is_destroyed calls ≡ false → deliveries calls ≡ []
+delivers_nothing : (calls : List EventCall) → is_destroyed calls ≡ false → deliveries calls ≡ []
 delivers_nothing calls live = search rules
 
-delivers_firing : (calls : List LatchCall) (slot p : ℕ) → sent_by_firing (firing_after calls slot p) ≡ deliveries (Satisfaction slot p ∷ calls)
+delivers_firing : (calls : List EventCall) (slot p : ℕ) → sent_by_firing 0 (firing_after calls slot p) ≡ deliveries (Satisfaction slot p ∷ calls)
 delivers_firing calls slot p = search rules
 
 pub delivery_law : DeliveryLaw

@@ -7,62 +7,44 @@ use Rattle.ocr_guid.specs.declared.target.Satisfied.{Satisfied}
 use Rattle.ocr_guid.specs.declared.target.Satisfied.TheVariants as answer
 use Rattle.ocr_guid.specs.declared.target.Linked.{Linked}
 use Rattle.ocr_guid.specs.declared.target.Linked.TheVariants as link
-
--- THE CALLS. A call that a latch accepted. Lists of calls have the newest first.
-pub data LatchCall : Type 0 where
-  Satisfaction : (slot : ℕ) (payload : ℕ) → LatchCall
-  Link : (target : Target) → LatchCall
-  Destruction : LatchCall
+use Rattle.ocr_guid.specs.Target.{EventCall, Satisfaction, Link, Destruction, links, was_destroyed, refusal_of, on_destroy, sent_by_firing, sent_by_linking}
 
 -- how many satisfactions were on this slot: slot 0 decrements, slot 1 increments
-abbrev pub satisfactions_on : ℕ → List LatchCall → ℕ
+abbrev pub satisfactions_on : ℕ → List EventCall → ℕ
 satisfactions_on k [] = 0
-satisfactions_on k (Satisfaction slot p ∷ past) = if slot == k then satisfactions_on k past + 1 else satisfactions_on k past
+satisfactions_on k (Satisfaction slot p ∷ past) =
+    if slot == k then satisfactions_on k past + 1 else satisfactions_on k past
 satisfactions_on k (Link t ∷ past) = satisfactions_on k past
 satisfactions_on k (Destruction ∷ past) = satisfactions_on k past
 
-abbrev pub decrements : List LatchCall → ℕ
+abbrev pub decrements : List EventCall → ℕ
 decrements calls = satisfactions_on 0 calls
 
-abbrev pub increments : List LatchCall → ℕ
+abbrev pub increments : List EventCall → ℕ
 increments calls = satisfactions_on 1 calls
 
 -- the two numbers are equal and not zero
-abbrev pub is_balanced : List LatchCall → Bool
+abbrev pub is_balanced : List EventCall → Bool
 is_balanced calls = (decrements calls == increments calls) && not (decrements calls == 0)
 
 -- a latch fires at the first place after which it is balanced
-abbrev pub has_fired : List LatchCall → Bool
+abbrev pub has_fired : List EventCall → Bool
 has_fired [] = false
 has_fired (call ∷ past) = has_fired past || is_balanced (call ∷ past)
 
--- the targets of the links in their order
-abbrev pub links : List LatchCall → List Target
-links [] = []
-links (Satisfaction slot p ∷ past) = links past
-links (Link t ∷ past) = links past ++ t ∷ []
-links (Destruction ∷ past) = links past
-
-abbrev pub was_destroyed : List LatchCall → Bool
-was_destroyed [] = false
-was_destroyed (Satisfaction slot p ∷ past) = was_destroyed past
-was_destroyed (Link t ∷ past) = was_destroyed past
-was_destroyed (Destruction ∷ past) = true
-
 -- a latch is destroyed by a call or by firing
-abbrev pub is_destroyed : List LatchCall → Bool
+abbrev pub is_destroyed : List EventCall → Bool
 is_destroyed calls = was_destroyed calls || has_fired calls
 
 -- the code that refuses a further satisfaction
-abbrev pub refusal_after : Bool → List LatchCall → ℕ → Option Code
-refusal_after takes calls p =
-    if is_destroyed calls then Some code.Stale
-    else if not (p == 0) && not takes then Some code.Einval
-    else None
+abbrev pub refusal_after : Bool → List EventCall → ℕ → Option Code
+refusal_after takes calls p = refusal_of (is_destroyed calls) takes p None
 
--- the answer to a further satisfaction that is not refused: where it fires the latch, all that wait are reached
-abbrev pub firing_after : List LatchCall → ℕ → ℕ → Satisfied
-firing_after calls slot p = if has_fired (Satisfaction slot p ∷ calls) then answer.Fired (links calls) else answer.Kept
+-- the answer to a further satisfaction that is not refused: where it fires the latch, all that wait
+-- are reached
+abbrev pub firing_after : List EventCall → ℕ → ℕ → Satisfied
+firing_after calls slot p =
+    if has_fired (Satisfaction slot p ∷ calls) then answer.Fired (links calls) else answer.Kept
 
 -- THE STATE.
 pub record State : Type 0 where
@@ -72,7 +54,7 @@ pub record State : Type 0 where
   pub increments : ℕ
   pub targets : List Target
 
-abbrev pub state_of : Bool → List LatchCall → State
+abbrev pub state_of : Bool → List EventCall → State
 state_of takes calls = record {
   takes_arg = takes;
   destroyed = is_destroyed calls;
@@ -82,23 +64,12 @@ state_of takes calls = record {
 }
 
 -- THE STEPS.
--- the payload is a block, and the latch takes none
-abbrev pub is_unwanted : State → ℕ → Bool
-is_unwanted s p = not (p == 0) && not s.takes_arg
-
--- nothing refuses a satisfaction with this payload
-abbrev pub is_welcome : State → ℕ → Bool
-is_welcome s p = not s.destroyed && not (is_unwanted s p)
-
 abbrev pub refusal : State → ℕ → Option Code
-refusal s p =
-    if s.destroyed then Some code.Stale
-    else if is_unwanted s p then Some code.Einval
-    else None
+refusal s p = refusal_of s.destroyed s.takes_arg p None
 
 -- one more satisfaction on this slot
-abbrev pub counted : State → ℕ → State
-counted s slot = record {
+abbrev pub after_count : State → ℕ → State
+after_count s slot = record {
   takes_arg = s.takes_arg;
   destroyed = s.destroyed;
   decrements = if slot == 0 then s.decrements + 1 else s.decrements;
@@ -110,60 +81,71 @@ abbrev pub is_even : State → Bool
 is_even s = s.decrements == s.increments
 
 -- destroyed, with nothing that waits
-abbrev pub ended : State → State
-ended s = record { takes_arg = s.takes_arg; destroyed = true; decrements = s.decrements; increments = s.increments; targets = [] }
+abbrev pub after_end : State → State
+after_end s = record {
+  takes_arg = s.takes_arg;
+  destroyed = true;
+  decrements = s.decrements;
+  increments = s.increments;
+  targets = [];
+}
 
 abbrev pub on_satisfy : State → ℕ → ℕ → Satisfied
 on_satisfy s slot p = elim (refusal s p) as (λ _. Satisfied) [
   | Some c ↦ answer.Refused c
-  | None ↦ if is_even (counted s slot) then answer.Fired s.targets else answer.Kept
+  | None ↦ if is_even (after_count s slot) then answer.Fired s.targets else answer.Kept
 ]
 
-abbrev pub satisfied : State → ℕ → ℕ → State
-satisfied s slot p = elim (refusal s p) as (λ _. State) [
+abbrev pub after_satisfy : State → ℕ → ℕ → State
+after_satisfy s slot p = elim (refusal s p) as (λ _. State) [
   | Some c ↦ s
-  | None ↦ if is_even (counted s slot) then ended (counted s slot) else counted s slot
+  | None ↦ if is_even (after_count s slot) then after_end (after_count s slot)
+      else after_count s slot
 ]
 
 abbrev pub on_link : State → Linked
 on_link s = if s.destroyed then link.Refused code.Stale else link.Kept
 
-abbrev pub linked : State → Target → State
-linked s t =
+abbrev pub after_link : State → Target → State
+after_link s t =
     if s.destroyed then s
-    else record { takes_arg = s.takes_arg; destroyed = s.destroyed; decrements = s.decrements; increments = s.increments; targets = s.targets ++ t ∷ [] }
+    else record {
+      takes_arg = s.takes_arg;
+      destroyed = s.destroyed;
+      decrements = s.decrements;
+      increments = s.increments;
+      targets = s.targets ++ t ∷ [];
+    }
 
-abbrev pub on_destroy : State → Code
-on_destroy s = if s.destroyed then code.Stale else code.Done
-
-abbrev pub doomed : State → State
-doomed s = if s.destroyed then s else ended s
+abbrev pub after_destroy : State → State
+after_destroy s = if s.destroyed then s else after_end s
 
 -- THE LAWS. After an accepted call the state is the step of the state before it.
 abbrev pub RefusalLaw : Type 0
-RefusalLaw = (takes : Bool) (calls : List LatchCall) (p : ℕ)
+RefusalLaw = (takes : Bool) (calls : List EventCall) (p : ℕ)
     → refusal (state_of takes calls) p ≡ refusal_after takes calls p
 
 abbrev pub SatisfyLaw : Type 0
-SatisfyLaw = (takes : Bool) (calls : List LatchCall) (slot p : ℕ) → slot ≤ 1 → refusal_after takes calls p ≡ None
-    → (state_of takes (Satisfaction slot p ∷ calls) ≡ satisfied (state_of takes calls) slot p)
+SatisfyLaw = (takes : Bool) (calls : List EventCall) (slot p : ℕ) → slot ≤ 1
+    → refusal_after takes calls p ≡ None
+    → (state_of takes (Satisfaction slot p ∷ calls) ≡ after_satisfy (state_of takes calls) slot p)
     × (on_satisfy (state_of takes calls) slot p ≡ firing_after calls slot p)
 
 -- a latch carries NULL_GUID: a block that it accepts is dropped
 abbrev pub DropLaw : Type 0
-DropLaw = (takes : Bool) (calls : List LatchCall) (slot p : ℕ) → refusal_after takes calls p ≡ None
+DropLaw = (takes : Bool) (calls : List EventCall) (slot p : ℕ) → refusal_after takes calls p ≡ None
     → (state_of takes (Satisfaction slot p ∷ calls) ≡ state_of takes (Satisfaction slot 0 ∷ calls))
     × (on_satisfy (state_of takes calls) slot p ≡ on_satisfy (state_of takes calls) slot 0)
 
 abbrev pub LinkLaw : Type 0
-LinkLaw = (takes : Bool) (calls : List LatchCall) (t : Target) → is_destroyed calls ≡ false
-    → (state_of takes (Link t ∷ calls) ≡ linked (state_of takes calls) t)
+LinkLaw = (takes : Bool) (calls : List EventCall) (t : Target) → is_destroyed calls ≡ false
+    → (state_of takes (Link t ∷ calls) ≡ after_link (state_of takes calls) t)
     × (on_link (state_of takes calls) ≡ link.Kept)
 
 abbrev pub DestroyLaw : Type 0
-DestroyLaw = (takes : Bool) (calls : List LatchCall) → is_destroyed calls ≡ false
-    → (state_of takes (Destruction ∷ calls) ≡ doomed (state_of takes calls))
-    × (on_destroy (state_of takes calls) ≡ code.Done)
+DestroyLaw = (takes : Bool) (calls : List EventCall) → is_destroyed calls ≡ false
+    → (state_of takes (Destruction ∷ calls) ≡ after_destroy (state_of takes calls))
+    × (on_destroy (state_of takes calls).destroyed ≡ code.Done)
 
 -- a destroyed latch stays destroyed, keeps no target and refuses all, whatever comes
 pub record IsDead (s : State) : Type 0 where
@@ -173,39 +155,30 @@ pub record IsDead (s : State) : Type 0 where
   pub no_link : on_link s ≡ link.Refused code.Stale
 
 abbrev pub DestroyedLaw : Type 0
-DestroyedLaw = (takes : Bool) (later calls : List LatchCall) → is_destroyed calls ≡ true
+DestroyedLaw = (takes : Bool) (later calls : List EventCall) → is_destroyed calls ≡ true
     → IsDead (state_of takes (later ++ calls))
 
 -- each call was accepted at its place
-abbrev pub IsAccepted : Bool → List LatchCall → Type 0
+abbrev pub IsAccepted : Bool → List EventCall → Type 0
 IsAccepted takes [] = Unit {0}
-IsAccepted takes (Satisfaction slot p ∷ past) = IsAccepted takes past × (slot ≤ 1) × (refusal_after takes past p ≡ None)
+IsAccepted takes (Satisfaction slot p ∷ past) =
+    IsAccepted takes past × (slot ≤ 1) × (refusal_after takes past p ≡ None)
 IsAccepted takes (Link t ∷ past) = IsAccepted takes past × (is_destroyed past ≡ false)
 IsAccepted takes (Destruction ∷ past) = IsAccepted takes past × (is_destroyed past ≡ false)
 
--- what an answer to a satisfaction sends: NULL_GUID
-abbrev pub sent_by_firing : Satisfied → List (ℕ × Target)
-sent_by_firing (answer.Fired targets) = map (λ (t : Target). (0, t)) targets
-sent_by_firing answer.Kept = []
-sent_by_firing answer.Ignored = []
-sent_by_firing (answer.Refused c) = []
-
--- what an answer to a link sends
-abbrev pub sent_by_linking : Target → Linked → List (ℕ × Target)
-sent_by_linking t (link.Now p) = (p, t) ∷ []
-sent_by_linking t link.Kept = []
-sent_by_linking t (link.Refused c) = []
-
 -- what the answers to all the calls sent, in the order of the calls
-abbrev pub sent : Bool → List LatchCall → List (ℕ × Target)
-sent takes [] = []
-sent takes (Satisfaction slot p ∷ past) = sent takes past ++ sent_by_firing (on_satisfy (state_of takes past) slot p)
-sent takes (Link t ∷ past) = sent takes past ++ sent_by_linking t (on_link (state_of takes past))
-sent takes (Destruction ∷ past) = sent takes past
+abbrev pub sent_in_all : Bool → List EventCall → List (ℕ × Target)
+sent_in_all takes [] = []
+sent_in_all takes (Satisfaction slot p ∷ past) =
+    sent_in_all takes past ++ sent_by_firing 0 (on_satisfy (state_of takes past) slot p)
+sent_in_all takes (Link t ∷ past) =
+    sent_in_all takes past ++ sent_by_linking t (on_link (state_of takes past))
+sent_in_all takes (Destruction ∷ past) = sent_in_all takes past
 
 -- NULL_GUID for each target that was linked, once the latch has fired, and nothing before
-abbrev pub deliveries : List LatchCall → List (ℕ × Target)
+abbrev pub deliveries : List EventCall → List (ℕ × Target)
 deliveries calls = if has_fired calls then map (λ (t : Target). (0, t)) (links calls) else []
 
 abbrev pub DeliveryLaw : Type 0
-DeliveryLaw = (takes : Bool) (calls : List LatchCall) → IsAccepted takes calls → sent takes calls ≡ deliveries calls
+DeliveryLaw = (takes : Bool) (calls : List EventCall) → IsAccepted takes calls
+    → sent_in_all takes calls ≡ deliveries calls

@@ -2,16 +2,17 @@
 #![tactic(auto)]
 
 ghost use Rattle.std.specs.Prelude.{◌≡◌, ◌↔◌, ◌+◌, ◌-◌, ◌^◌, ◌<◌, ◌≤◌, ◌&&◌, not, [], IfOk, OnErr, IsTrue};
-ghost use Rattle.ocr_latch.specs.Latch.{state_of, is_unwanted, is_welcome, refusal, satisfied, on_satisfy, linked, on_link, doomed, on_destroy, RefusalLaw, SatisfyLaw, DropLaw, LinkLaw, DestroyLaw, DestroyedLaw, DeliveryLaw};
+ghost use Rattle.ocr_guid.specs.Target.{is_unwanted, is_welcome, on_destroy};
+ghost use Rattle.ocr_latch.specs.Latch.{state_of, refusal, after_satisfy, on_satisfy, after_link, on_link, after_destroy, RefusalLaw, SatisfyLaw, DropLaw, LinkLaw, DestroyLaw, DestroyedLaw, DeliveryLaw};
 
+use ocr_base::{NoMemory, Seq};
 use ocr_guid::target::{Linked, Satisfied, Target};
 use ocr_guid::{Code, Guid};
-use ocr_base::{NoMemory, Seq};
 use std::alloc::Global;
 use std::marker::Model;
 
-/// An event that fires when it was satisfied as often on its decrement slot as on its increment slot, and at least
-/// once on each. It carries NULL_GUID, and is destroyed by firing.
+/// An event that fires when it was satisfied as often on its decrement slot as on its increment
+/// slot, and at least once on each. It carries NULL_GUID, and is destroyed by firing.
 #[derive(Drop)]
 pub struct Latch {
     takes_arg: bool,
@@ -27,7 +28,13 @@ impl Model for Latch {
 
     ghost Value = { State };
 
-    ghost view = { λ l. record { takes_arg = l.takes_arg; destroyed = l.destroyed; decrements = l.decrements; increments = l.increments; targets = l.targets.items } };
+    ghost view = { λ l. record {
+      takes_arg = l.takes_arg;
+      destroyed = l.destroyed;
+      decrements = l.decrements;
+      increments = l.increments;
+      targets = l.targets.items;
+    } };
 }
 
 impl Latch {
@@ -50,23 +57,25 @@ impl Latch {
         }
     }
 
-    /// Satisfies the latch on its decrement or its increment slot. Where the two counts are equal afterwards it
-    /// fires: its targets are moved out to the caller, and it is destroyed.
+    /// Satisfies the latch on its decrement or its increment slot. Where the two counts are equal
+    /// afterwards it fires: its targets are moved out to the caller, and it is destroyed.
     /// A destroyed latch is Stale, and a block on a latch that takes none is Einval, in this order.
     pub fn satisfy(&mut self, slot: u32, payload: Guid) -> Satisfied
         requires slot { slot ≤ 1 }
         requires count { self.old.decrements + self.old.increments < 2 ^ 64 - 1 }
 
         ensures answer { result ≡ on_satisfy self.old slot payload }
-        ensures state { self.new ≡ satisfied self.old slot payload }
+        ensures state { self.new ≡ after_satisfy self.old slot payload }
 
         ensures stale { (result ≡ Satisfied.Refused Code.Stale) ↔ IsTrue self.old.destroyed }
         ensures einval { (result ≡ Satisfied.Refused Code.Einval)
-            ↔ IsTrue (not self.old.destroyed && is_unwanted self.old payload) }
+            ↔ IsTrue (not self.old.destroyed && is_unwanted self.old.takes_arg payload) }
         ensures fired { (result ≡ Satisfied.Fired self.old.targets)
-            ↔ (IsTrue (is_welcome self.old payload) × (self.new.decrements ≡ self.new.increments)) }
+            ↔ (IsTrue (is_welcome self.old.destroyed self.old.takes_arg payload)
+            × (self.new.decrements ≡ self.new.increments)) }
         ensures kept { (result ≡ Satisfied.Kept)
-            ↔ (IsTrue (is_welcome self.old payload) × ¬ (self.new.decrements ≡ self.new.increments)) }
+            ↔ (IsTrue (is_welcome self.old.destroyed self.old.takes_arg payload)
+            × ¬ (self.new.decrements ≡ self.new.increments)) }
         ensures refused { (code : Code) → result ≡ Satisfied.Refused code → self.new ≡ self.old }
     {
         if let Some(code) = self.refusal(payload) {
@@ -88,25 +97,24 @@ impl Latch {
     /// Links a target to the latch: it waits. A destroyed latch is Stale.
     pub fn link(&mut self, alloc: Global, target: Target) -> Result<Linked, NoMemory>
         ensures answer { IfOk result (λ r. r ≡ on_link self.old) }
-        ensures state { IfOk result (λ _. self.new ≡ linked self.old target) }
+        ensures state { IfOk result (λ _. self.new ≡ after_link self.old target) }
         ensures err { OnErr result (self.new ≡ self.old) }
 
-        ensures stale { IfOk result (λ r. (r ≡ Linked.Refused Code.Stale) ↔ IsTrue self.old.destroyed) }
+        ensures stale { IfOk result (λ r. (r ≡ Linked.Refused Code.Stale)
+            ↔ IsTrue self.old.destroyed) }
         ensures kept { IfOk result (λ r. (r ≡ Linked.Kept) ↔ IsTrue (not self.old.destroyed)) }
     {
         if self.destroyed {
             return Ok(Linked::Refused(Code::Stale));
         }
-        if self.targets.push(target).is_err() {
-            return Err(NoMemory);
-        }
+        self.targets.push(target)?;
         Ok(Linked::Kept)
     }
 
     /// Destroys the latch: what waits gets nothing. A destroyed latch is Stale.
     pub fn destroy(&mut self) -> Code
-        ensures answer { result ≡ on_destroy self.old }
-        ensures state { self.new ≡ doomed self.old }
+        ensures answer { result ≡ on_destroy self.old.destroyed }
+        ensures state { self.new ≡ after_destroy self.old }
 
         ensures stale { (result ≡ Code.Stale) ↔ IsTrue self.old.destroyed }
         ensures done { (result ≡ Code.Done) ↔ IsTrue (not self.old.destroyed) }
@@ -140,8 +148,9 @@ impl Latch {
 
         ensures stale { (result ≡ Some Code.Stale) ↔ IsTrue self.now.destroyed }
         ensures einval { (result ≡ Some Code.Einval)
-            ↔ IsTrue (not self.now.destroyed && is_unwanted self.now payload) }
-        ensures none { (result ≡ None) ↔ IsTrue (is_welcome self.now payload) }
+            ↔ IsTrue (not self.now.destroyed && is_unwanted self.now.takes_arg payload) }
+        ensures none { (result ≡ None)
+            ↔ IsTrue (is_welcome self.now.destroyed self.now.takes_arg payload) }
     {
         if self.destroyed {
             Some(Code::Stale)

@@ -5,11 +5,12 @@ use Rattle.ocr_acquire.specs.declared.Mode.TheVariants as mode
 use Rattle.ocr_acquire.specs.Plan as plan
 use Rattle.ocr_edt.specs.declared.Edt.{Edt}
 use Rattle.ocr_edt.specs.declared.Edt.TheVariants as phase
-use Rattle.ocr_edt.specs.Phases.{Progress, next_of, readied}
+use Rattle.ocr_edt.specs.Phases.{Progress, next_of}
 use Rattle.ocr_machine.specs.declared.part.Part.{Part}
 use Rattle.ocr_machine.specs.declared.part.Part.TheVariants as part
 use Rattle.ocr_machine.specs.Calls.{asks_in}
 use Rattle.ocr_machine.specs.Parts.{Parts}
+use Rattle.ocr_edt.specs.Steps.{after_ready}
 
 -- the plan of an EDT, which is made ready from its slots before it acquires or starts
 abbrev pub plan_in : Part → List (ℕ × Mode)
@@ -20,7 +21,7 @@ plan_in (part.Template t) = []
 plan_in (part.Core c) = []
 
 abbrev pub made_ready : List (ℕ × Mode) → Edt → Edt
-made_ready members (phase.Filling i) = phase.Acquiring (readied i members)
+made_ready members (phase.Filling i) = phase.Acquiring (after_ready i members)
 made_ready members (phase.Acquiring s) = phase.Acquiring s
 made_ready members (phase.Waiting s) = phase.Waiting s
 made_ready members (phase.Running s) = phase.Running s

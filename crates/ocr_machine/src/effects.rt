@@ -1,9 +1,8 @@
 // What an entry does to the parts that it names.
 ghost use Rattle.std.specs.Prelude.{◌≡◌, ◌≤◌, ◌+◌, ℕ, List, [], true, false, is_some, Some, IfOk};
 ghost use Rattle.ocr_acquire.specs.Plan.{IsWellFormed};
-ghost use Rattle.ocr_datablock.specs.Block.{asked_by, released};
 ghost use Rattle.ocr_edt.specs.declared.Edt.TheVariants as phase;
-ghost use Rattle.ocr_template.specs.Template.{meant};
+ghost use Rattle.ocr_template.specs.Template.{count_meant};
 ghost use Rattle.ocr_machine.specs.Parts.{Parts, identity_of};
 ghost use Rattle.ocr_machine.specs.Calls.{asks_in};
 ghost use Rattle.ocr_machine.specs.Codes.{code_of};
@@ -15,6 +14,7 @@ ghost use Rattle.ocr_machine.specs.New.{HasNew, HasFace, HasCore, is_template, m
 ghost use Rattle.ocr_guid.specs.declared.Code.TheVariants as code;
 ghost use Rattle.ocr_machine.specs.Messages.{sends, resumes, resumed_by};
 ghost use Rattle.ocr_machine.specs.Footprint.{footprint_of, is_in};
+ghost use Rattle.ocr_datablock.specs.Steps.{after_ask, after_release};
 
 use crate::entry::Entry;
 use crate::part::{Core, Part, Stepped};
@@ -179,7 +179,7 @@ fn create_edt(
 
 /// The count that a creation means.
 fn meant_count(own: u64, given: u64) -> u64
-    ensures { result ≡ meant own given }
+    ensures { result ≡ count_meant own given }
 {
     if given == EDT_PARAM_DEF { own } else { given }
 }
@@ -347,7 +347,7 @@ fn ask_at(
     requires granted { grants (face_in limit parts.old.items block) mode ≡ true }
     ensures parts { IfOk result (λ _. parts_in limit parts.new.items
         ≡ with_face (parts_in limit parts.old.items) block
-        (with_block (face_in limit parts.old.items block) (λ st. asked_by st edt mode))) }
+        (with_block (face_in limit parts.old.items block) (λ st. after_ask st edt mode))) }
     ensures keys { IfOk result (λ _. keys parts.new.items ≡ keys parts.old.items) }
 {
     match replace(parts, block, Part::Vacant) {
@@ -435,7 +435,7 @@ fn release_at(
     requires not_lent { is_lent (face_in limit parts.old.items block) ≡ false }
     ensures parts { IfOk result (λ _. parts_in limit parts.new.items
         ≡ with_face (parts_in limit parts.old.items) block
-        (with_block (face_in limit parts.old.items block) (λ st. released st edt))) }
+        (with_block (face_in limit parts.old.items block) (λ st. after_release st edt))) }
     ensures keys { IfOk result (λ _. keys parts.new.items ≡ keys parts.old.items) }
     ensures resumed { IfOk result (λ r. r.items
         ≡ resumed_by (face_in limit parts.old.items block) edt) }

@@ -1,12 +1,14 @@
 -- The laws of the slots' steps, for the crates above.
-use Rattle.std.proofs.Common.{◌≡◌, ◌<◌, ℕ, List, [], ◌∷◌, true, false, ◌==◌, not, Some, None, is_some, length, arith, rules, refl, sym}
+use Rattle.std.proofs.Common.{◌≡◌, ◌<◌, ℕ, List, [], ◌∷◌, false, ◌==◌, not, Some, None, is_some, length, arith, refl, sym}
 use Rattle.std.proofs.lemmas.Grind.{common_steps}
 use Rattle.std.proofs.Math.ListN.{set, replicate}
+use Rattle.ocr_base.proofs.Booleans.{same}
 use Rattle.ocr_guid.specs.declared.Code.TheVariants as code
 use Rattle.ocr_acquire.specs.declared.Mode.{Mode}
 use Rattle.ocr_slots.specs.declared.Slot.{Slot}
-use Rattle.ocr_slots.specs.Slots.{SlotCall, Linking, Setting, slot_of, state_of, slot_at, linked_at, on_link, LinkLaw, SetLaw, AnswerLaw, ReadLaw, SizeLaw, OpenLaw}
+use Rattle.ocr_slots.specs.Slots.{SlotCall, Linking, Setting, slot_of, state_of, slot_at, linked_at}
 use Rattle.ocr_slots.proofs.Values.{length-values, get_or-values, values-same, values-set, count_by-values}
+use Rattle.ocr_slots.specs.Steps.{on_link, LinkLaw, SetLaw, AnswerLaw, ReadLaw, SizeLaw, OpenLaw}
 
 abbrev fresh : Slot
 fresh = record { mode = None; payload = None }
@@ -37,9 +39,6 @@ unlinked : (s : List Slot) (slot : ℕ) → on_link s slot ≡ code.Done → lin
 unlinked s slot fits = grind (arith, common_steps)
 
 -- a call changes what is told of its slot, and of no other
-same : (k : ℕ) → (k == k) ≡ true
-same k = search rules
-
 linked_here : (depc : ℕ) (calls : List SlotCall) (slot : ℕ) (mode : Mode) → slot < depc
     → slot_of (Linking slot mode ∷ calls) slot ≡ record (slot_at (state_of depc calls) slot) { mode = Some mode }
 linked_here depc calls slot mode below = rw (read_law depc calls slot below, same slot) refl

@@ -2,25 +2,26 @@
 #![tactic(auto)]
 
 ghost use Rattle.std.specs.Prelude.{◌≡◌, ◌<◌, ◌≤◌, [], ◌↔◌, length, IsTrue, is_some, Some, None, IfOk, false};
-ghost use Rattle.ocr_slots.specs.Slots.{state_of, slot_at, linked_at, on_link, after_link, after_set, unset_in, LinkLaw, SetLaw, AnswerLaw, ReadLaw, SizeLaw, OpenLaw};
+ghost use Rattle.ocr_slots.specs.Slots.{state_of, slot_at, linked_at, unset_in};
+ghost use Rattle.ocr_slots.specs.Steps.{on_link, after_link, after_set, LinkLaw, SetLaw, AnswerLaw, ReadLaw, SizeLaw, OpenLaw};
 
 use ocr_acquire::Mode;
-use ocr_base::NoMemory;
+use ocr_base::{MOST_DEPENDENCES, NoMemory};
 use ocr_guid::{Code, Guid};
 use std::alloc::Global;
 use std::marker::Model;
 
-/// How many slots an EDT has at most.
-pub const MOST_SLOTS: u32 = 32;
-
 /// What is known of one slot: the mode in which it is linked, and the payload that it was set to.
 #[derive(Clone, Copy, PartialEq, Eq, Debug)]
 pub struct Slot {
+    /// None where it is not linked.
     pub mode: Option<Mode>,
+    /// None where it is not set.
     pub payload: Option<Guid>,
 }
 
-/// The slots of an EDT. Each takes one dependence, which links it in a mode, and is set once, to a payload.
+/// The slots of an EDT. Each takes one dependence, which links it in a mode, and is set once, to a
+/// payload.
 #[derive(Drop)]
 pub struct Slots {
     slots: Vec<Slot>,
@@ -30,33 +31,32 @@ pub struct Slots {
 impl Model for Slots {
     ghost use Rattle.std.specs.Prelude.{List, ◌≤◌, length};
     ghost use Rattle.ocr_slots.specs.declared.Slot.{Slot};
-    ghost use Rattle.ocr_slots.specs.declared.TheConstants.{MOST_SLOTS};
+    ghost use Rattle.ocr_base.specs.declared.limits.TheConstants.{MOST_DEPENDENCES};
 
     ghost Value = { List Slot };
 
     ghost view = { λ s. s.slots.items };
 
-    ghost invariant = { λ s. length s.slots.items ≤ MOST_SLOTS };
+    ghost invariant = { λ s. length s.slots.items ≤ MOST_DEPENDENCES };
 }
 
 impl Slots {
     /// So many slots, none of them linked or set.
     #[tactic(auto, using(crate::proofs::Laws::fresh_slots))]
     pub fn new(alloc: Global, depc: u32) -> Result<Slots, NoMemory>
-        requires { depc ≤ MOST_SLOTS }
+        requires { depc ≤ MOST_DEPENDENCES }
         ensures { IfOk result (λ slots. slots ≡ state_of depc []) }
     {
         let slot = Slot {
             mode: None,
             payload: None,
         };
-        match vec![in alloc; slot; depc as usize] {
-            Ok(slots) => Ok(Slots { slots }),
-            Err(_) => Err(NoMemory),
-        }
+        let slots = vec![in alloc; slot; depc as usize]?;
+        Ok(Slots { slots })
     }
 
-    /// Links a slot in a mode. EINVAL exactly where there is no such slot, EPERM exactly where it is linked.
+    /// Links a slot in a mode. EINVAL exactly where there is no such slot, EPERM exactly where it
+    /// is linked.
     pub fn link(&mut self, slot: u64, mode: Mode) -> Code
         ensures answer { result ≡ on_link self.old slot }
         ensures state { self.new ≡ after_link self.old slot mode }
@@ -87,7 +87,7 @@ impl Slots {
     /// How many slots there are.
     pub fn depc(&self) -> u32
         ensures number { result ≡ length self.now }
-        ensures most { result ≤ MOST_SLOTS }
+        ensures most { result ≤ MOST_DEPENDENCES }
     {
         self.slots.len() as u32
     }

@@ -2,12 +2,14 @@
 use Rattle.std.specs.Prelude.{◌≡◌, ◌<◌, ℕ, Bool, ◌||◌, ◌&&◌, not, ◌==◌, nat_lt, if◌then◌else◌, ◌⊎◌, Result, Ok, Err}
 use Rattle.ocr_guid.specs.declared.Code.{Code}
 use Rattle.ocr_guid.specs.declared.Code.TheVariants.{Einval}
-use Rattle.ocr_template.specs.declared.TheConstants.{EDT_PARAM_UNK, EDT_PARAM_DEF, MOST_PARAMETERS, MOST_DEPENDENCES}
+use Rattle.ocr_base.specs.declared.limits.TheConstants.{MOST_PARAMETERS, MOST_DEPENDENCES}
+use Rattle.ocr_template.specs.declared.TheConstants.{EDT_PARAM_UNK, EDT_PARAM_DEF}
 use Rattle.ocr_template.specs.declared.Template.{Template}
 
--- THE COUNT that a creation means: the template's own where it asks for the default, else the one that it gives.
-abbrev pub meant : (own given : ℕ) → ℕ
-meant own given = if given == EDT_PARAM_DEF then own else given
+-- THE COUNT that a creation means: the template's own where it asks for the default, else the one
+-- that it gives.
+abbrev pub count_meant : (own given : ℕ) → ℕ
+count_meant own given = if given == EDT_PARAM_DEF then own else given
 
 -- THE REFUSALS of a count, each in its own words.
 
@@ -21,7 +23,7 @@ Differs own given = (¬ given ≡ EDT_PARAM_DEF) × (¬ own ≡ EDT_PARAM_UNK) �
 
 -- more are meant than an EDT can have
 abbrev pub IsTooMany : (own given most : ℕ) → Type 0
-IsTooMany own given most = most < meant own given
+IsTooMany own given most = most < count_meant own given
 
 abbrev pub IsRefused : (own given most : ℕ) → Type 0
 IsRefused own given most = LacksDefault own given ⊎ Differs own given ⊎ IsTooMany own given most
@@ -31,9 +33,10 @@ abbrev pub is_refused : (own given most : ℕ) → Bool
 is_refused own given most =
     ((given == EDT_PARAM_DEF) && (own == EDT_PARAM_UNK))
     || (not (given == EDT_PARAM_DEF) && not (own == EDT_PARAM_UNK) && not (given == own))
-    || nat_lt most (meant own given)
+    || nat_lt most (count_meant own given)
 
 abbrev pub counts_of : Template → (paramc depc : ℕ) → Result (ℕ × ℕ) Code
 counts_of template paramc depc =
-    if is_refused template.paramc paramc MOST_PARAMETERS || is_refused template.depc depc MOST_DEPENDENCES then Err Einval
-    else Ok (meant template.paramc paramc, meant template.depc depc)
+    if is_refused template.paramc paramc MOST_PARAMETERS
+    || is_refused template.depc depc MOST_DEPENDENCES then Err Einval
+    else Ok (count_meant template.paramc paramc, count_meant template.depc depc)

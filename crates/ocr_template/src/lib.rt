@@ -2,8 +2,9 @@
 #![tactic(auto)]
 
 ghost use Rattle.std.specs.Prelude.{◌≡◌, ◌⊎◌, ◌↔◌, SomeIff, false};
-ghost use Rattle.ocr_template.specs.Template.{meant, IsRefused, is_refused, counts_of};
+ghost use Rattle.ocr_template.specs.Template.{count_meant, IsRefused, is_refused, counts_of};
 
+pub use ocr_base::{MOST_DEPENDENCES, MOST_PARAMETERS};
 use ocr_guid::Code;
 
 /// The count that a template leaves open.
@@ -12,25 +13,25 @@ pub const EDT_PARAM_UNK: u64 = 4_294_967_295;
 /// The count by which a creation asks for the template's own.
 pub const EDT_PARAM_DEF: u64 = 4_294_967_294;
 
-/// How many parameters an EDT has at most.
-pub const MOST_PARAMETERS: u32 = 16;
-
-/// How many dependences an EDT has at most.
-pub const MOST_DEPENDENCES: u32 = 32;
-
-/// What the EDTs that are made from it have in common: their function, and their counts of parameters and
-/// dependences, each open where it is `EDT_PARAM_UNK`. A template is destroyed where an accepted destruction names it.
+/// What the EDTs that are made from it have in common: their function, and their counts of
+/// parameters and dependences, each open where it is `EDT_PARAM_UNK`. A template is destroyed where
+/// an accepted destruction names it.
 #[derive(Clone, Copy, PartialEq, Eq, Debug)]
 pub struct Template {
+    /// The number of the function, from 0.
     pub function: u32,
+    /// The count of parameters, or `EDT_PARAM_UNK`.
     pub paramc: u64,
+    /// The count of dependences, or `EDT_PARAM_UNK`.
     pub depc: u64,
+    /// Whether it was destroyed.
     pub destroyed: bool,
 }
 
-/// How many parameters and dependences an EDT gets that is made from the template with these counts: each count is
-/// the template's where `EDT_PARAM_DEF` is given, else the given one. EINVAL exactly where the default is asked for a
-/// count that the template leaves open, a count is given that differs from the template's, or one is above its limit.
+/// How many parameters and dependences an EDT gets that is made from the template with these
+/// counts: each count is the template's where `EDT_PARAM_DEF` is given, else the given one. EINVAL
+/// exactly where the default is asked for a count that the template leaves open, a count is given
+/// that differs from the template's, or one is above its limit.
 pub fn counts(template: &Template, paramc: u64, depc: u64) -> Result<(u32, u32), Code>
     ensures answer { result ≡ counts_of template.now paramc depc }
     ensures refused { (result ≡ Err Code.Einval)
@@ -47,7 +48,7 @@ pub fn counts(template: &Template, paramc: u64, depc: u64) -> Result<(u32, u32),
 
 // One of the two counts, where it is not refused.
 fn count(own: u64, given: u64, most: u32) -> Option<u32>
-    ensures { SomeIff result (is_refused own given most ≡ false) (meant own given) }
+    ensures { SomeIff result (is_refused own given most ≡ false) (count_meant own given) }
 {
     let is_default = given == EDT_PARAM_DEF;
     let is_open = own == EDT_PARAM_UNK;

@@ -1,4 +1,3 @@
-use Rattle.std.proofs.Common.{◌≡◌}
 use Rattle.ocr_datablock.proofs.Lines.{writer_alone}
 use Rattle.ocr_datablock.proofs.datablock.Block.lend.Goals as goal
 

@@ -1,0 +1,7 @@
+// Limits that several crates speak of.
+
+/// How many parameters an EDT has at most.
+pub const MOST_PARAMETERS: u32 = 16;
+
+/// How many dependences an EDT has at most, and so how many slots.
+pub const MOST_DEPENDENCES: u32 = 32;
