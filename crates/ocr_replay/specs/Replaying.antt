@@ -1,5 +1,5 @@
 -- How far a replay has come, and where it stops.
-use Rattle.std.specs.Prelude.{◌≡◌, ℕ, ◌+◌, ◌<◌, ◌≤◌, List, [], length, take, Bool, true, false, not, ◌==◌, slice_index_or}
+use Rattle.std.specs.Prelude.{◌≡◌, ℕ, ◌+◌, ◌<◌, ◌≤◌, List, length, take, Bool, true, false, not, ◌==◌, slice_index_or}
 use Rattle.ocr_body.specs.Body.{Body}
 use Rattle.ocr_tree.specs.Tree.{FunctionTree}
 use Rattle.ocr_machine.specs.declared.entry.Entry.{Entry}
