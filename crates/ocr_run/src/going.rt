@@ -17,9 +17,7 @@ use crate::log::Log;
 use ocr_base::NoMemory;
 use ocr_body::{Answer, Call, Checked};
 use ocr_guid::{Code, Guid};
-use ocr_machine::{
-    Core, Entry, MOST_OBJECTS, Part, SHARE, Stop, Table, Writes, opening, weight,
-};
+use ocr_machine::{Core, Entry, MOST_OBJECTS, Part, SHARE, Stop, Table, Writes, opening, weight};
 use std::alloc::Global;
 
 /// The EDT of `mainEdt`.
