@@ -4,11 +4,11 @@ use Rattle.ocr_tree.specs.Tree.{While}
 use Rattle.ocr_body.specs.Behaviour.{Behaviour}
 use Rattle.ocr_body.specs.Body.{behaviour, says}
 use Rattle.ocr_body.specs.Code.{are_distinct, is_placed, are_args_placed, is_step_placed, are_placed, call_name, all_arguments, arguments_at, expression_at, statement_at, statements_in}
-use Rattle.ocr_body.specs.Local.{state_of, frame_of, numbers_of, given_of, output_at, Leaves}
+use Rattle.ocr_body.specs.Local.{state_of, frame_of, numbers_of, given_of, output_at, Flows, Leaves}
 use Rattle.ocr_body.specs.Meaning.{State, Value, Given}
 use Rattle.ocr_body.specs.Meaning as meaning
 use Rattle.ocr_base.specs.Count.{Rose}
-use Rattle.ocr_body.specs.Serving.{IsTrace, StoppedBy}
+use Rattle.ocr_body.specs.Serving.{IsTrace, HasValue, StoppedBy}
 use Rattle.ocr_body.specs.declared.api.Api.{Ghosts}
 use Rattle.ocr_body.specs.declared.call.BodyStop.{BodyStop}
 use Rattle.ocr_body.specs.declared.call.Call.{Call}
@@ -17,6 +17,7 @@ use Rattle.ocr_body.specs.declared.code.ExprCode.{ExprCode}
 use Rattle.ocr_body.specs.declared.code.Operation.{Operation}
 use Rattle.ocr_body.specs.declared.code.StmtCode.{StmtCode}
 use Rattle.ocr_body.specs.declared.given.Given as found
+use Rattle.ocr_body.specs.declared.local.Flow.{Flow}
 use Rattle.ocr_body.specs.declared.local.Frame as walker
 use Rattle.ocr_body.specs.declared.local.Local.{Local}
 use Rattle.ocr_body.specs.declared.plain.Found.{Found}
@@ -105,6 +106,18 @@ loop_part f test body l =
 abbrev pub ask_part : walker.Frame → Call → Option ℕ → Local → (Value → Behaviour)
 ask_part f call output l =
     meaning.coded_call call (output_at f.names.now output) (state_in f l)
+
+-- this expression was found to have this value, and left this state
+abbrev pub Yields : {A K : Type 0} → Ghosts A K → A → A → (Value → Behaviour) → ℕ → walker.Frame
+    → Local → Type 0
+Yields g before now part v f l =
+    HasValue (next_of g before) part v (state_in f l) (next_after g before now)
+
+-- these statements were done, and left this state, or ended the body, which returned what is kept
+abbrev pub Leads : {A K : Type 0} → Ghosts A K → A → A → ((State → Behaviour) → Behaviour) → Flow
+    → walker.Frame → Local → Type 0
+Leads g before now part flow f l =
+    Flows (next_of g before) part flow l.returned (state_in f l) (next_after g before now)
 
 -- an expression has this value with so much fuel, makes no call, and leaves so much
 abbrev pub IsFound : walker.Frame → ExprCode → Local → ℕ → Found → Type 0

@@ -6,11 +6,11 @@ ghost use Rattle.ocr_body.specs.Behaviour.{Ends};
 ghost use Rattle.ocr_body.specs.Body.{behaviour, says};
 ghost use Rattle.ocr_body.specs.Checked.{checked_tree};
 ghost use Rattle.ocr_body.specs.Code.{is_numbered};
-ghost use Rattle.ocr_body.specs.Local.{given_of, numbers_of, Flows};
+ghost use Rattle.ocr_body.specs.Local.{given_of, numbers_of};
 ghost use Rattle.ocr_body.specs.Meaning.{print_step};
 ghost use Rattle.ocr_base.specs.Count.{Rose};
-ghost use Rattle.ocr_body.specs.Serving.{IsTrace, Begins, BeginsValue, BeginsGiven, IsDone, HasValue, IsGiven, StoppedBy};
-ghost use Rattle.ocr_body.specs.Walker.{next_of, next_after, GoesOn, IsCause, Fits, StillFits, is_expr_in, are_args_in, is_stmt_in, are_stmts_in, state_in, expr_part, call_part, args_part, stmt_part, stmts_part, loop_part, ask_part};
+ghost use Rattle.ocr_body.specs.Serving.{IsTrace, Begins, BeginsValue, BeginsGiven, IsDone, IsGiven, StoppedBy};
+ghost use Rattle.ocr_body.specs.Walker.{next_of, next_after, GoesOn, IsCause, Yields, Leads, Fits, StillFits, is_expr_in, are_args_in, is_stmt_in, are_stmts_in, state_in, expr_part, call_part, args_part, stmt_part, stmts_part, loop_part, ask_part};
 
 use crate::api::Api;
 use crate::call::{BodyStop, Call};
@@ -39,9 +39,8 @@ fn eval<A: Api>(
         (expr_part frame.now expr.now local.old) }
     ensures goes_on { GoesOn A.Api api.old api.new }
     ensures still_fits { StillFits frame.now local.old local.new }
-    ensures ok { IfOk result (λ v. HasValue (next_of A.Api api.old)
-        (expr_part frame.now expr.now local.old) v
-        (state_in frame.now local.new) (next_after A.Api api.old api.new)) }
+    ensures ok { IfOk result (λ v. Yields A.Api api.old api.new
+        (expr_part frame.now expr.now local.old) v frame.now local.new) }
     ensures err { IfErr result (IsCause A.Api api.old api.new) }
 {
     if let ExprCode::Invoke(operation, args) = expr {
@@ -113,9 +112,8 @@ fn invoke<A: Api>(
         (call_part frame.now operation.now args.now local.old) }
     ensures goes_on { GoesOn A.Api api.old api.new }
     ensures still_fits { StillFits frame.now local.old local.new }
-    ensures ok { IfOk result (λ v. HasValue (next_of A.Api api.old)
-        (call_part frame.now operation.now args.now local.old) v
-        (state_in frame.now local.new) (next_after A.Api api.old api.new)) }
+    ensures ok { IfOk result (λ v. Yields A.Api api.old api.new
+        (call_part frame.now operation.now args.now local.old) v frame.now local.new) }
     ensures err { IfErr result (IsCause A.Api api.old api.new) }
 {
     spend(local)?;
@@ -189,9 +187,8 @@ fn argument<A: Api>(
         (expr_part frame.now expr.now local.old) }
     ensures goes_on { GoesOn A.Api api.old api.new }
     ensures still_fits { StillFits frame.now local.old local.new }
-    ensures ok { IfOk result (λ v. HasValue (next_of A.Api api.old)
-        (expr_part frame.now expr.now local.old) v
-        (state_in frame.now local.new) (next_after A.Api api.old api.new)) }
+    ensures ok { IfOk result (λ v. Yields A.Api api.old api.new
+        (expr_part frame.now expr.now local.old) v frame.now local.new) }
     ensures err { IfErr result (IsCause A.Api api.old api.new) }
 {
     let found = plain(frame, expr, local.fuel, local);
@@ -217,9 +214,8 @@ fn ask<A: Api>(
         (ask_part frame.now call.now output local.old) }
     ensures goes_on { GoesOn A.Api api.old api.new }
     ensures still_fits { StillFits frame.now local.old local.new }
-    ensures ok { IfOk result (λ v. HasValue (next_of A.Api api.old)
-        (ask_part frame.now call.now output local.old) v
-        (state_in frame.now local.new) (next_after A.Api api.old api.new)) }
+    ensures ok { IfOk result (λ v. Yields A.Api api.old api.new
+        (ask_part frame.now call.now output local.old) v frame.now local.new) }
     ensures err { IfErr result (IsCause A.Api api.old api.new) }
 {
     let answer = api.call(call)?;
@@ -261,9 +257,8 @@ fn slow<A: Api>(frame: &Frame, expr: &ExprCode, local: &mut Local, api: &mut A) 
         (expr_part frame.now expr.now local.old) }
     ensures goes_on { GoesOn A.Api api.old api.new }
     ensures still_fits { StillFits frame.now local.old local.new }
-    ensures ok { IfOk result (λ v. HasValue (next_of A.Api api.old)
-        (expr_part frame.now expr.now local.old) v
-        (state_in frame.now local.new) (next_after A.Api api.old api.new)) }
+    ensures ok { IfOk result (λ v. Yields A.Api api.old api.new
+        (expr_part frame.now expr.now local.old) v frame.now local.new) }
     ensures err { OnErr result (IsCause A.Api api.old api.new local.new.stop) }
 {
     match eval(frame, expr, local, api) {
@@ -289,9 +284,8 @@ fn perform<A: Api>(
         (call_part frame.now operation.now args.now local.old) }
     ensures goes_on { GoesOn A.Api api.old api.new }
     ensures still_fits { StillFits frame.now local.old local.new }
-    ensures ok { IfOk result (λ v. HasValue (next_of A.Api api.old)
-        (call_part frame.now operation.now args.now local.old) v
-        (state_in frame.now local.new) (next_after A.Api api.old api.new)) }
+    ensures ok { IfOk result (λ v. Yields A.Api api.old api.new
+        (call_part frame.now operation.now args.now local.old) v frame.now local.new) }
     ensures err { OnErr result (IsCause A.Api api.old api.new local.new.stop) }
 {
     match invoke(frame, operation, args, local, api) {
@@ -311,9 +305,8 @@ fn find<A: Api>(frame: &Frame, expr: &ExprCode, local: &mut Local, api: &mut A) 
         (expr_part frame.now expr.now local.old) }
     ensures goes_on { GoesOn A.Api api.old api.new }
     ensures still_fits { StillFits frame.now local.old local.new }
-    ensures ok { IfOk result (λ v. HasValue (next_of A.Api api.old)
-        (expr_part frame.now expr.now local.old) v
-        (state_in frame.now local.new) (next_after A.Api api.old api.new)) }
+    ensures ok { IfOk result (λ v. Yields A.Api api.old api.new
+        (expr_part frame.now expr.now local.old) v frame.now local.new) }
     ensures err { OnErr result (IsCause A.Api api.old api.new local.new.stop) }
 {
     if let ExprCode::WithNumber(op, place, number) = expr {
@@ -347,9 +340,8 @@ fn exec<A: Api>(
         (stmt_part frame.now step.now local.old) }
     ensures goes_on { GoesOn A.Api api.old api.new }
     ensures still_fits { StillFits frame.now local.old local.new }
-    ensures ok { IfOk result (λ flow. Flows (next_of A.Api api.old)
-        (stmt_part frame.now step.now local.old) flow local.new.returned
-        (state_in frame.now local.new) (next_after A.Api api.old api.new)) }
+    ensures ok { IfOk result (λ flow. Leads A.Api api.old api.new
+        (stmt_part frame.now step.now local.old) flow frame.now local.new) }
     ensures err { OnErr result (IsCause A.Api api.old api.new local.new.stop) }
 {
     match step {
@@ -405,9 +397,8 @@ fn repeat<A: Api>(
         (loop_part frame.now test.now steps.now local.old) }
     ensures goes_on { GoesOn A.Api api.old api.new }
     ensures still_fits { StillFits frame.now local.old local.new }
-    ensures ok { IfOk result (λ flow. Flows (next_of A.Api api.old)
-        (loop_part frame.now test.now steps.now local.old) flow local.new.returned
-        (state_in frame.now local.new) (next_after A.Api api.old api.new)) }
+    ensures ok { IfOk result (λ flow. Leads A.Api api.old api.new
+        (loop_part frame.now test.now steps.now local.old) flow frame.now local.new) }
     ensures err { OnErr result (IsCause A.Api api.old api.new local.new.stop) }
 {
     loop {
@@ -437,9 +428,8 @@ fn exec_all<A: Api>(
         (stmts_part frame.now steps.now local.old) }
     ensures goes_on { GoesOn A.Api api.old api.new }
     ensures still_fits { StillFits frame.now local.old local.new }
-    ensures ok { IfOk result (λ flow. Flows (next_of A.Api api.old)
-        (stmts_part frame.now steps.now local.old) flow local.new.returned
-        (state_in frame.now local.new) (next_after A.Api api.old api.new)) }
+    ensures ok { IfOk result (λ flow. Leads A.Api api.old api.new
+        (stmts_part frame.now steps.now local.old) flow frame.now local.new) }
     ensures err { OnErr result (IsCause A.Api api.old api.new local.new.stop) }
 {
     for step in steps {
