@@ -3,3 +3,4 @@ pub mod Passes
 pub mod Owners
 pub mod Wholes
 pub mod Columns
+pub mod Orders

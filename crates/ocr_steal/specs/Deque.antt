@@ -41,14 +41,16 @@ pub record IsState (gone items : List ℕ) (passes : List Account) : Type 0 wher
 abbrev pub Keeps : List ℕ → List Account → Type 0
 Keeps items passes = (gone : List ℕ) × IsState gone items passes
 
--- at one step the deque held these items, where the pass with this number knew this
+-- At one step the deque held these items, when the pass with this number knew this. Which states
+-- there may be at that step is what the rule says of it: all passes together account for the items.
 pub record IsFound (port : ℕ) (items : List ℕ) (v : Account) : Type 0 where
   pub gone : List ℕ
   pub passes : List Account
   pub state : IsState gone items passes
   pub knows : get_elem? passes port ≡ some v
 
--- xs were the first items of the deque at that step, and left it; the pass keeps them with their places
+-- xs were the first items of the deque at that step, and left it: the pass keeps them, each with its
+-- place among all that was pushed
 pub record TakesFirst (port : ℕ) (v : Account) (xs : List ℕ) (w : Account) : Type 0 where
   pub rest : List ℕ
   pub found : IsFound port (xs ++ rest) v

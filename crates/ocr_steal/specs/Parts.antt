@@ -65,7 +65,8 @@ module _ {P : Type 0} where
     pub index : worker_index own ≤ length (worker_view own).pushed
 
   -- the owner of the deque with this number
-  pub record OwnsItsDeque (number : ℕ) (own : Worker ℕ Global Account P) (passes : List Known) : Type 0 where
+  pub record OwnsItsDeque (number : ℕ) (own : Worker ℕ Global Account P)
+      (passes : List Known) : Type 0 where
     pub owner : IsOwner (length passes) own
     pub deque : get_elem? (deques_of_passes passes) number ≡ some (worker_deque own)
 

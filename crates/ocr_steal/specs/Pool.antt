@@ -42,4 +42,5 @@ AreFresh deques least hands =
 pub record AreAll (pool : Pool) (hands : List Hand) : Type 0 where
   pub many : length hands ≡ hands_in pool
   pub each : All (IsOf pool) hands
-  pub once : (number : ℕ) → number < hands_in pool → sum_by (λ h. count_if number h.number) hands ≡ 1
+  pub once : (number : ℕ) → number < hands_in pool
+      → sum_by (λ h. count_if number h.number) hands ≡ 1

@@ -13,3 +13,6 @@ pub use account::Account;
 pub use hand::{Hand, Steal};
 pub use pool::Pool;
 pub use remainder::gather;
+
+#[cfg(test)]
+mod tests;

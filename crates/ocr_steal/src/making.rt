@@ -52,11 +52,13 @@ fn deques(alloc: Global, count: u32, room: u32) -> Result<(Vec<Own>, Vec<Theirs>
 
 /// A pass of each deque.
 fn row_of(alloc: Global, owners: &mut Vec<Own>) -> Result<Vec<Known>, NoMemory>
-    requires { (made least : ℕ) × (made + 1 < all_parts) × All (IsNewOwner made least) owners.old.items }
+    requires { (made least : ℕ) × (made + 1 < all_parts)
+        × All (IsNewOwner made least) owners.old.items }
     ensures owners { OnOk result ((made least : ℕ) → All (IsNewOwner made least) owners.old.items
         → All (IsNewOwner (made + 1) least) owners.new.items) }
     ensures kept { vec_len owners.new ≡ vec_len owners.old }
-    ensures same { OnOk result (deques_of_owners owners.new.items ≡ deques_of_owners owners.old.items) }
+    ensures same { OnOk result
+        (deques_of_owners owners.new.items ≡ deques_of_owners owners.old.items) }
     ensures row { IfOk result (λ row. IsNewRow (deques_of_owners owners.old.items) row.items) }
 {
     let mut row = Vec::new(alloc);
@@ -72,7 +74,8 @@ fn rows_of(alloc: Global, owners: &mut Vec<Own>) -> Result<Vec<Vec<Known>>, NoMe
     ensures owners { OnOk result ((least : ℕ) → All (IsNewOwner 0 least) owners.old.items
         → All (IsNewOwner (vec_len owners.old) least) owners.new.items) }
     ensures kept { vec_len owners.new ≡ vec_len owners.old }
-    ensures same { OnOk result (deques_of_owners owners.new.items ≡ deques_of_owners owners.old.items) }
+    ensures same { OnOk result
+        (deques_of_owners owners.new.items ≡ deques_of_owners owners.old.items) }
     ensures many { IfOk result (λ rows. vec_len rows ≡ vec_len owners.old) }
     ensures rows { IfOk result
         (λ rows. All (λ row. IsNewRow (deques_of_owners owners.old.items) row.items) rows.items) }

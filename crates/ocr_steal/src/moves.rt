@@ -1,7 +1,7 @@
 // How a hand pushes, takes and steals.
 ghost use Rattle.std.specs.Prelude.{◌≡◌, ◌≢◌, ◌<◌, ◌≤◌, ◌++◌, [], ◌∷◌, length, OnOk, OnErr, IfNone, IfSome};
 ghost use Rattle.ocr_steal.specs.Deque.{IsFound, TakesFirst};
-ghost use Rattle.ocr_steal.specs.Hand.{own, knows, misses_of, missed, room, IsSame, HasNoMisses, IsMissed, OnSteal};
+ghost use Rattle.ocr_steal.specs.Hand.{own, knows, misses_of, missed, pool_of, room, IsSame, HasNoMisses, IsMissed, OnSteal};
 ghost use Rattle.ocr_steal.specs.Pool.{IsOf, hands_in};
 
 use crate::account::{Pushes, Steals, Takes};
@@ -77,7 +77,7 @@ impl Hand {
     /// How many steals from this victim got nothing since the hand last got an EDT, or since it was
     /// made; at most 2^64 - 1.
     pub fn misses(&self, victim: u32) -> u64
-        requires { victim < length (misses_of self.now) }
+        requires { victim < length (pool_of self.now) }
         ensures { result ≡ missed self.now victim }
     {
         self.misses[victim as usize]

@@ -17,8 +17,8 @@ use ocr_guid::Guid;
 use std::alloc::Global;
 use std::mem;
 
-/// What is left in the deques of all hands: what they took, what they stole and what is left is what
-/// they pushed, each EDT as often.
+/// What is left in the deques of all hands: what they took, what they stole and what is left is
+/// what they pushed, each EDT as often.
 pub fn gather(alloc: Global, pool: Pool, hands: Vec<Hand>) -> Result<Vec<Guid>, NoMemory>
     requires { AreAll pool hands.items }
     ensures { IfOk result (λ left. (f : ℕ → ℕ)
@@ -46,11 +46,13 @@ fn split(
 ) -> Result<(Vec<(u32, Own)>, Vec<Vec<Known>>), NoMemory>
     ensures many { IfOk result (λ parts. vec_len parts.1 ≡ vec_len hands) }
     ensures counted { IfOk result (λ parts. (k : ℕ)
-        → sum_by (λ o. count_if k o.0) parts.0.items ≡ sum_by (λ h. count_if k h.number) hands.items) }
+        → sum_by (λ o. count_if k o.0) parts.0.items
+        ≡ sum_by (λ h. count_if k h.number) hands.items) }
     ensures pushed { IfOk result (λ parts. (f : ℕ → ℕ)
         → owners_pushed f parts.0.items ≡ sum_by (pushed_weight f) hands.items) }
     ensures got { IfOk result (λ parts. (f : ℕ → ℕ)
-        → owners_took f parts.0.items + rows_weight f parts.1.items ≡ sum_by (got_weight f) hands.items) }
+        → owners_took f parts.0.items + rows_weight f parts.1.items
+        ≡ sum_by (got_weight f) hands.items) }
     ensures placed { IfOk result (λ parts. (names : List Name)
         → All (λ h. pool_of h ≡ names) hands.items → All (IsPlaced names) parts.0.items
         × All (λ row. IsFullRow names row.items) parts.1.items) }
