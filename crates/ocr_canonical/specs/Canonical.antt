@@ -27,13 +27,17 @@ abbrev mutual
   expression_text LastCode = codes "code"
   expression_text (Paramv e) = codes "paramv[" ++ expression_text e ++ codes "]"
   expression_text (Depv e) = codes "depv[" ++ expression_text e ++ codes "]"
-  expression_text (Unary op e) = sign_text op ++ operand_text unary_level (level_of e) (expression_text e)
+  expression_text (Unary op e) =
+      sign_text op ++ operand_text unary_level (level_of e) (expression_text e)
   expression_text (Binary op a b) =
-      operand_text (level op) (level_of a) (expression_text a) ++ codes " " ++ operator_text op ++ codes " "
+      operand_text (level op) (level_of a) (expression_text a) ++ codes " " ++ operator_text op
+      ++ codes " "
       ++ operand_text (level op + 1) (level_of b) (expression_text b)
-  expression_text (Invoked call arguments) = call_text call ++ codes "(" ++ arguments_text arguments ++ codes ")"
+  expression_text (Invoked call arguments) =
+      call_text call ++ codes "(" ++ arguments_text arguments ++ codes ")"
 
-  -- `, ` stands between two arguments; a name after others is the variable that the call sets, behind `&`
+  -- `, ` stands between two arguments; a name after others is the variable that the call sets,
+  -- behind `&`
   pub arguments_text : Arguments → List ℕ
   arguments_text empty = []
   arguments_text (value e rest) = expression_text e ++ further_text rest
@@ -56,11 +60,14 @@ deeper margin = margin ++ codes "  "
 
 abbrev mutual
   pub statement_text : List ℕ → Statement → List ℕ
-  statement_text margin (Let x e) = line margin (codes "let " ++ x ++ codes " = " ++ expression_text e ++ codes ";")
-  statement_text margin (Assign x e) = line margin (x ++ codes " = " ++ expression_text e ++ codes ";")
+  statement_text margin (Let x e) =
+      line margin (codes "let " ++ x ++ codes " = " ++ expression_text e ++ codes ";")
+  statement_text margin (Assign x e) =
+      line margin (x ++ codes " = " ++ expression_text e ++ codes ";")
   statement_text margin (Print e) = line margin (codes "print " ++ expression_text e ++ codes ";")
   statement_text margin (Return e) = line margin (codes "return " ++ expression_text e ++ codes ";")
-  statement_text margin (Do call arguments) = line margin (expression_text (Invoked call arguments) ++ codes ";")
+  statement_text margin (Do call arguments) =
+      line margin (expression_text (Invoked call arguments) ++ codes ";")
   statement_text margin (While e body) =
       line margin (codes "while " ++ expression_text e ++ codes " {")
       ++ statements_text (deeper margin) body
@@ -81,7 +88,8 @@ abbrev mutual
   statements_text margin (statement s rest) = statement_text margin s ++ statements_text margin rest
 
 abbrev pub function_text : FunctionTree → List ℕ
-function_text f = line [] (codes "fn " ++ f.name ++ codes " {") ++ statements_text (codes "  ") f.body ++ line [] (codes "}")
+function_text f = line [] (codes "fn " ++ f.name ++ codes " {")
+    ++ statements_text (codes "  ") f.body ++ line [] (codes "}")
 
 -- an empty line stands between two functions
 abbrev mutual

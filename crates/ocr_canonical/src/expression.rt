@@ -43,7 +43,8 @@ pub fn write(text: &mut Vec<u8>, bytes: &[u8]) -> Result<(), NoMemory>
 /// Writes an expression at the text's end.
 #[cycle(expression)]
 pub fn expression(alloc: Global, text: &mut Vec<u8>, expr: &Expr) -> Result<(), NoMemory>
-    ensures { OnOk result (text.new.items ≡ text.old.items ++ expression_text (expression_of expr.now)) }
+    ensures { OnOk result (text.new.items ≡ text.old.items
+        ++ expression_text (expression_of expr.now)) }
 {
     match expr {
         Expr::Number(value) => number(text, *value),
@@ -85,7 +86,8 @@ fn enclosed(
     closing: &[u8],
 ) -> Result<(), NoMemory>
     ensures { OnOk result (text.new.items
-        ≡ text.old.items ++ (opening.now ++ expression_text (expression_of expr.now) ++ closing.now)) }
+        ≡ text.old.items
+        ++ (opening.now ++ expression_text (expression_of expr.now) ++ closing.now)) }
 {
     write(text, opening)?;
     expression(alloc, text, expr)?;
@@ -96,7 +98,8 @@ fn enclosed(
 #[cycle(expression)]
 fn operand(alloc: Global, text: &mut Vec<u8>, expr: &Expr, least: u8) -> Result<(), NoMemory>
     ensures { let e = expression_of expr.now in
-        OnOk result (text.new.items ≡ text.old.items ++ operand_text least (canonical.level_of e) (expression_text e)) }
+        OnOk result (text.new.items ≡ text.old.items
+        ++ operand_text least (canonical.level_of e) (expression_text e)) }
 {
     if level_of(expr) < least {
         enclosed(alloc, text, b"(", expr, b")")
@@ -134,7 +137,8 @@ fn sign_at(place: usize) -> &'static [u8]
 // The arguments of a call. A name that is not the first is that of a variable, behind `&`.
 #[cycle(expression)]
 fn arguments(alloc: Global, text: &mut Vec<u8>, call: &Invoke) -> Result<(), NoMemory>
-    ensures { OnOk result (text.new.items ≡ text.old.items ++ arguments_text (arguments_of call.now)) }
+    ensures { OnOk result (text.new.items ≡ text.old.items
+        ++ arguments_text (arguments_of call.now)) }
 {
     let list = call.arguments(alloc)?;
     for place in 0..list.len() {

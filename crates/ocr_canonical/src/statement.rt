@@ -23,7 +23,8 @@ fn deeper(alloc: Global, margin: &[u8]) -> Result<Vec<u8>, NoMemory>
 // An assignment `x = e;`, up to the end of its line.
 fn assignment(alloc: Global, text: &mut Vec<u8>, name: &Name, value: &Expr) -> Result<(), NoMemory>
     ensures { let e = expression_text (expression_of value.now) in
-        OnOk result (text.new.items ≡ text.old.items ++ (name.now ++ codes " = " ++ e ++ codes ";\n")) }
+        OnOk result (text.new.items ≡ text.old.items
+        ++ (name.now ++ codes " = " ++ e ++ codes ";\n")) }
 {
     write(text, name.as_bytes())?;
     write(text, b" = ")?;
@@ -41,7 +42,8 @@ fn worded(
     end: &[u8],
 ) -> Result<(), NoMemory>
     ensures { let e = expression_text (expression_of value.now) in OnOk result (text.new.items
-        ≡ text.old.items ++ canonical.line margin.now (texts.word_text word ++ codes " " ++ e ++ end.now)) }
+        ≡ text.old.items
+        ++ canonical.line margin.now (texts.word_text word ++ codes " " ++ e ++ end.now)) }
 {
     write(text, margin)?;
     write(text, word_text(word))?;
@@ -53,7 +55,8 @@ fn worded(
 
 // A line `} else {`.
 fn else_line(text: &mut Vec<u8>, margin: &[u8]) -> Result<(), NoMemory>
-    ensures { OnOk result (text.new.items ≡ text.old.items ++ canonical.line margin.now (codes "} else {")) }
+    ensures { OnOk result (text.new.items ≡ text.old.items
+        ++ canonical.line margin.now (codes "} else {")) }
 {
     write(text, margin)?;
     write(text, b"} ")?;
@@ -73,7 +76,8 @@ fn line(text: &mut Vec<u8>, margin: &[u8], bytes: &[u8]) -> Result<(), NoMemory>
 // A statement, each of its lines behind the margin.
 #[cycle(statement)]
 fn statement(alloc: Global, text: &mut Vec<u8>, margin: &[u8], stmt: &Stmt) -> Result<(), NoMemory>
-    ensures { OnOk result (text.new.items ≡ text.old.items ++ statement_text margin.now (statement_of stmt.now)) }
+    ensures { OnOk result (text.new.items ≡ text.old.items
+        ++ statement_text margin.now (statement_of stmt.now)) }
 {
     match stmt {
         Stmt::Let { name, value } => {
@@ -115,7 +119,8 @@ fn statement(alloc: Global, text: &mut Vec<u8>, margin: &[u8], stmt: &Stmt) -> R
 #[cycle(statement)]
 fn block(alloc: Global, text: &mut Vec<u8>, margin: &[u8], stmts: &[Stmt]) -> Result<(), NoMemory>
     ensures { OnOk result (text.new.items
-        ≡ text.old.items ++ statements_text (canonical.deeper margin.now) (statements_of stmts.now)) }
+        ≡ text.old.items
+        ++ statements_text (canonical.deeper margin.now) (statements_of stmts.now)) }
 {
     let inner = deeper(alloc, margin)?;
     for stmt in stmts {
@@ -126,7 +131,8 @@ fn block(alloc: Global, text: &mut Vec<u8>, margin: &[u8], stmts: &[Stmt]) -> Re
 
 // A function.
 fn function(alloc: Global, text: &mut Vec<u8>, function: &Function) -> Result<(), NoMemory>
-    ensures { OnOk result (text.new.items ≡ text.old.items ++ function_text (function_of function.now)) }
+    ensures { OnOk result (text.new.items ≡ text.old.items
+        ++ function_text (function_of function.now)) }
 {
     write(text, word_text(Word::Fn))?;
     write(text, b" ")?;

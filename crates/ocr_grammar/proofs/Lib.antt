@@ -2,3 +2,4 @@ pub mod Digits
 pub mod Counted
 pub mod Spelling
 pub mod Sizes
+pub mod Rulesets

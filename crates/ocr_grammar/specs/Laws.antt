@@ -20,12 +20,15 @@ pub record IsCounted (ts rest : List Lexeme) : Type 0 where
   pub front : List Lexeme
   pub split : ts ≡ front ++ rest
   pub counted : (n d : ℕ)
-      → tally (record { tokens = Some n; depth = d }) front ≡ record { tokens = Some (n + length front); depth = d }
+      → tally (record { tokens = Some n; depth = d }) front
+      ≡ record { tokens = Some (n + length front); depth = d }
 
 -- The count is the number of tokens of the outermost expression.
 pub record CountLaw : Type 0 where
-  pub expression : (l : ℕ) (ts rest : List Lexeme) (e : Expression) → IsExpression l ts rest e → IsCounted ts rest
-  pub arguments : (ss : List Slot) (ts rest : List Lexeme) (args : Arguments) → AreArguments ss ts rest args → IsCounted ts rest
+  pub expression : (l : ℕ) (ts rest : List Lexeme) (e : Expression) → IsExpression l ts rest e
+      → IsCounted ts rest
+  pub arguments : (ss : List Slot) (ts rest : List Lexeme) (args : Arguments)
+      → AreArguments ss ts rest args → IsCounted ts rest
 
 -- What is written for a reserved name or an operator is read as that.
 pub record SpellingLaw : Type 0 where

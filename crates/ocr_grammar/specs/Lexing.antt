@@ -36,14 +36,15 @@ place_onto (Some l) place rest = place ∷ rest
 -- the first byte of each of these tokens
 abbrev pub places_of : List ℕ → List Token → List ℕ
 places_of bytes [] = []
-places_of bytes (token ∷ rest) = place_onto (lexeme_of bytes token) token.start (places_of bytes rest)
+places_of bytes (token ∷ rest) =
+    place_onto (lexeme_of bytes token) token.start (places_of bytes rest)
 
 -- the tree of a text with these tokens
 abbrev pub IsTreeOf : List ℕ → List Token → List FunctionTree → Type 0
 IsTreeOf bytes tokens program = IsTree (lexemes_of bytes tokens) program
 
--- The first fault of a text with these tokens is here: at the first byte of the token at fault, or at the text's length
--- where the text ends too early.
+-- The first fault of a text with these tokens is here: at the first byte of the token at fault, or
+-- at the text's length where the text ends too early.
 pub record IsSyntaxFault (bytes : List ℕ) (tokens : List Token) (place : ℕ) : Type 0 where
   pub before : ℕ
   pub fault : IsFault (lexemes_of bytes tokens) before

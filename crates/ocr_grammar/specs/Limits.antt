@@ -1,13 +1,14 @@
--- The limits: how many tokens an outermost expression has, and how deep blocks nest. Both are counted along the tokens.
--- An outermost expression begins after `print`, `return`, `if`, `while` or `=`, or with the name of a call that stands
--- alone, and ends before `;` or `{`.
+-- The limits: how many tokens an outermost expression has, and how deep blocks nest. Both are
+-- counted along the tokens. An outermost expression begins after `print`, `return`, `if`, `while`
+-- or `=`, or with the name of a call that stands alone, and ends before `;` or `{`.
 use Rattle.std.specs.Prelude.{◌≡◌, ◌+◌, ◌-◌, ℕ, List, [], ◌∷◌, Option, Some, None, Bool, true, false, ◌||◌, nat_lt}
 use Rattle.ocr_grammar.specs.declared.limits.TheConstants.{MOST_TOKENS, MOST_BLOCKS}
 use Rattle.ocr_grammar.specs.declared.lexeme.Lexeme.{Lexeme}
 use Rattle.ocr_grammar.specs.declared.lexeme.Lexeme.TheVariants as lexeme
 use Rattle.ocr_grammar.specs.declared.lexeme.Word.TheVariants as word
 
--- how many tokens of an outermost expression were read, where one is being read, and how many blocks are open
+-- how many tokens of an outermost expression were read, where one is being read, and how many
+-- blocks are open
 pub record Tally : Type 0 where
   pub tokens : Option ℕ
   pub depth : ℕ

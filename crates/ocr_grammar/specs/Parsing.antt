@@ -14,8 +14,8 @@ pub record IsTree (ts : List Lexeme) (program : List FunctionTree) : Type 0 wher
   pub whole : IsProgram ts program
   pub fits : Fits ts (length ts)
 
--- A program goes on after the first n tokens, and they fit the limits. After one more none goes on, or that one is one
--- too many; or there is no more, and these are no program.
+-- A program goes on after the first n tokens, and they fit the limits. After one more none goes on,
+-- or that one is one too many; or there is no more, and these are no program.
 pub record IsFault (ts : List Lexeme) (n : ℕ) : Type 0 where
   pub inside : n ≤ length ts
   pub goes_on : GoesOn (take n ts)

@@ -96,27 +96,34 @@ sign_text unary.Minus = codes "-"
 
 abbrev pub operators : List BinaryOp
 operators =
-    binary.Or ∷ binary.Xor ∷ binary.And ∷ binary.Eq ∷ binary.Ne ∷ binary.Lt ∷ binary.Le ∷ binary.Gt ∷ binary.Ge
+    binary.Or ∷ binary.Xor ∷ binary.And ∷ binary.Eq ∷ binary.Ne ∷ binary.Lt ∷ binary.Le
+    ∷ binary.Gt ∷ binary.Ge
     ∷ binary.Shl ∷ binary.Shr ∷ binary.Add ∷ binary.Sub ∷ binary.Mul ∷ binary.Div ∷ binary.Rem ∷ []
 
 abbrev pub words : List Word
 words =
-    word.Fn ∷ word.Let ∷ word.If ∷ word.Else ∷ word.While ∷ word.Print ∷ word.Return ∷ word.Paramc ∷ word.Paramv
+    word.Fn ∷ word.Let ∷ word.If ∷ word.Else ∷ word.While ∷ word.Print ∷ word.Return
+    ∷ word.Paramc ∷ word.Paramv
     ∷ word.Depc ∷ word.Depv ∷ word.Code ∷ []
 
 abbrev pub calls : List CallName
 calls =
-    name.DbCreate ∷ name.DbRelease ∷ name.DbDestroy ∷ name.EventCreate ∷ name.EventCreateParams ∷ name.EventDestroy
-    ∷ name.Satisfy ∷ name.SatisfySlot ∷ name.AddDependence ∷ name.TemplateCreate ∷ name.TemplateDestroy
+    name.DbCreate ∷ name.DbRelease ∷ name.DbDestroy ∷ name.EventCreate ∷ name.EventCreateParams
+    ∷ name.EventDestroy
+    ∷ name.Satisfy ∷ name.SatisfySlot ∷ name.AddDependence ∷ name.TemplateCreate
+    ∷ name.TemplateDestroy
     ∷ name.EdtCreate ∷ name.Shutdown ∷ name.Abort ∷ name.Load ∷ name.Store ∷ []
 
 abbrev pub constants : List of_constant.Constant
 constants =
     constant.NullGuid ∷ constant.UninitializedGuid ∷ constant.EdtParamUnk ∷ constant.EdtParamDef
     ∷ constant.EdtPropNone ∷ constant.EdtPropFinish ∷ constant.DbPropNone ∷ constant.DbPropNoAcquire
-    ∷ constant.EvtPropNone ∷ constant.EvtPropTakesArg ∷ constant.EventLatchDecrSlot ∷ constant.EventLatchIncrSlot
-    ∷ constant.DbModeNull ∷ constant.DbModeRo ∷ constant.DbModeConst ∷ constant.DbModeRw ∷ constant.DbModeEw
-    ∷ constant.EventOnce ∷ constant.EventIdem ∷ constant.EventSticky ∷ constant.EventLatch ∷ constant.EventChannel ∷ []
+    ∷ constant.EvtPropNone ∷ constant.EvtPropTakesArg ∷ constant.EventLatchDecrSlot
+    ∷ constant.EventLatchIncrSlot
+    ∷ constant.DbModeNull ∷ constant.DbModeRo ∷ constant.DbModeConst ∷ constant.DbModeRw
+    ∷ constant.DbModeEw
+    ∷ constant.EventOnce ∷ constant.EventIdem ∷ constant.EventSticky ∷ constant.EventLatch
+    ∷ constant.EventChannel ∷ []
 
 abbrev pub same : List ℕ → List ℕ → Bool
 same a b = pointwise nat_eq a b
@@ -130,7 +137,8 @@ call_of text = find (λ c. same (call_text c) text) calls
 abbrev pub constant_of : List ℕ → Option of_constant.Constant
 constant_of text = find (λ c. same (constant_text c) text) constants
 
-abbrev pub found_name : Option Word → Option CallName → Option of_constant.Constant → List ℕ → Lexeme
+abbrev pub found_name : Option Word → Option CallName → Option of_constant.Constant → List ℕ
+    → Lexeme
 found_name (Some w) c k text = lexeme.Word w
 found_name None (Some c) k text = lexeme.Call c
 found_name None None (Some k) text = lexeme.Constant k
@@ -143,9 +151,11 @@ named text = found_name (word_of text) (call_of text) (constant_of text) text
 -- the symbols that are no operators
 abbrev pub marks : List (List ℕ × Lexeme)
 marks =
-    (codes "!", lexeme.Not) ∷ (codes "~", lexeme.Invert) ∷ (codes "=", lexeme.Equals) ∷ (codes ",", lexeme.Comma)
+    (codes "!", lexeme.Not) ∷ (codes "~", lexeme.Invert) ∷ (codes "=", lexeme.Equals)
+    ∷ (codes ",", lexeme.Comma)
     ∷ (codes ";", lexeme.Semicolon) ∷ (codes "(", lexeme.OpenRound) ∷ (codes ")", lexeme.CloseRound)
-    ∷ (codes "[", lexeme.OpenSquare) ∷ (codes "]", lexeme.CloseSquare) ∷ (codes "{", lexeme.OpenBrace)
+    ∷ (codes "[", lexeme.OpenSquare) ∷ (codes "]", lexeme.CloseSquare)
+    ∷ (codes "{", lexeme.OpenBrace)
     ∷ (codes "}", lexeme.CloseBrace) ∷ []
 
 -- the symbols, each with what it is

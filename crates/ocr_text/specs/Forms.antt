@@ -28,7 +28,8 @@ is_single b = list_any (λ c. c == b) singles
 
 -- one of != <= == >= or one of << >>
 abbrev pub is_double : ℕ → ℕ → Bool
-is_double a b = (list_any (λ c. c == a) (codes "!<=>") && (b == 61)) || (list_any (λ c. c == a) (codes "<>") && (a == b))
+is_double a b = (list_any (λ c. c == a) (codes "!<=>") && (b == 61))
+    || (list_any (λ c. c == a) (codes "<>") && (a == b))
 
 abbrev pub is_symbol : List ℕ → Bool
 is_symbol [] = false

@@ -14,7 +14,8 @@ pub record BeginWith (bytes : List ℕ) (k : TokenKind) (piece : List ℕ) : Typ
 -- these are the kinds and texts of the tokens of these bytes
 abbrev pub AreTexts : List ℕ → List (TokenKind × List ℕ) → Type 0
 AreTexts bytes [] = bytes ≡ []
-AreTexts bytes (piece ∷ rest) = BeginWith bytes piece.0 piece.1 × AreTexts (drop (length piece.1) bytes) rest
+AreTexts bytes (piece ∷ rest) =
+    BeginWith bytes piece.0 piece.1 × AreTexts (drop (length piece.1) bytes) rest
 
 abbrev pub texts_of : List ℕ → List Token → List (TokenKind × List ℕ)
 texts_of bytes tokens = map (λ t. (t.kind, text_of bytes t)) tokens

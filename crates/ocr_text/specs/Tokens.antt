@@ -10,11 +10,13 @@ pub record IsLongest (bytes : List ℕ) (place : ℕ) (k : TokenKind) (end : ℕ
   pub some : place < end
   pub within : end ≤ length bytes
   pub form : IsTrue (is_form k (slice_range bytes place end))
-  pub longest : (other : TokenKind) (later : ℕ) → later ≤ length bytes → IsTrue (is_form other (slice_range bytes place later)) → later ≤ end
+  pub longest : (other : TokenKind) (later : ℕ) → later ≤ length bytes
+      → IsTrue (is_form other (slice_range bytes place later)) → later ≤ end
 
 -- no kind has a match at this place
 abbrev pub IsNoToken : List ℕ → ℕ → Type 0
-IsNoToken bytes place = (k : TokenKind) (end : ℕ) → IsTrue (is_form k (slice_range bytes place end)) → ⊥
+IsNoToken bytes place =
+    (k : TokenKind) (end : ℕ) → IsTrue (is_form k (slice_range bytes place end)) → ⊥
 
 abbrev pub text_of : List ℕ → Token → List ℕ
 text_of bytes token = slice_range bytes token.start token.end
@@ -30,7 +32,8 @@ pub record IsToken (bytes : List ℕ) (token : Token) : Type 0 where
 -- these tokens adjoin, from the first place to the last one
 abbrev pub Tile : List ℕ → ℕ → List Token → ℕ → Type 0
 Tile bytes first [] last = first ≡ last
-Tile bytes first (token ∷ rest) last = (token.start ≡ first) × IsToken bytes token × Tile bytes token.end rest last
+Tile bytes first (token ∷ rest) last =
+    (token.start ≡ first) × IsToken bytes token × Tile bytes token.end rest last
 
 -- the tokens of a text tile it
 abbrev pub AreTokens : List ℕ → List Token → Type 0

@@ -167,7 +167,8 @@ fn is_in_range(bytes: &[u8], token: Token) -> bool
 /// none, and names the first place where no token begins or a number is too large.
 pub fn tokens(alloc: Global, bytes: &[u8]) -> Result<Vec<Token>, TokensStop>
     ensures tokens { IfOk result (λ found. AreTokens bytes.now found.items) }
-    ensures fault { (fault : LexFault) → result ≡ Err (TokensStop.Fault fault) → IsFault bytes.now fault.place }
+    ensures fault { (fault : LexFault) → result ≡ Err (TokensStop.Fault fault)
+        → IsFault bytes.now fault.place }
 {
     let mut found = Vec::new(alloc);
     let mut place = 0;
