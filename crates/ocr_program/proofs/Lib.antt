@@ -7,5 +7,5 @@ pub mod Rows
 pub mod Heights
 pub mod Places
 pub mod One
-pub mod Calls
+pub mod CallLemmas
 pub mod Marks
