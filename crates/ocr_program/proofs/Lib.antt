@@ -3,7 +3,6 @@ pub mod Sound
 pub mod Exact
 pub mod Fitting
 pub mod Lists
-pub mod Rows
 pub mod Heights
 pub mod Places
 pub mod One

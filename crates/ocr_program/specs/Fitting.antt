@@ -24,11 +24,14 @@ fits ss args = false
 
 -- with what fits these slots behind them, the arguments fit the call
 abbrev pub LeadsTo : CallName → Arguments → List Slot → Type 0
-LeadsTo c done ss = (args : Arguments) → fits ss args ≡ true → fits (shape c) (with done args) ≡ true
+LeadsTo c done ss =
+    (args : Arguments) → fits ss args ≡ true → fits (shape c) (with done args) ≡ true
 
 -- the same for the flags, and for what may stand behind them
 abbrev pub LeadsToFlags : CallName → Arguments → Type 0
-LeadsToFlags c done = (e : Expression) (args : Arguments) → is_output args ≡ true → fits (shape c) (with done (value e args)) ≡ true
+LeadsToFlags c done =
+    (e : Expression) (args : Arguments) → is_output args ≡ true
+    → fits (shape c) (with done (value e args)) ≡ true
 
 abbrev pub LeadsToOutput : CallName → Arguments → Type 0
 LeadsToOutput c done = (x : List ℕ) → fits (shape c) (with done (named x empty)) ≡ true

@@ -1,5 +1,6 @@
--- The parser written again over plain trees: a state of what was read, and the step by one token. It is what the code is
--- compared with, and no part of what has to be trusted: no clause of `parse` reaches it.
+-- The parser written again over plain trees. It is no part of what has to be trusted: no clause of
+-- `parse` reaches it. The code is compared with it, and it with the grammar. A state says what was
+-- read, and a step takes one token.
 use Rattle.std.specs.Prelude.{ℕ, List, [], ◌∷◌, ◌++◌, Option, Some, None, if◌then◌else◌, nat_le}
 use Rattle.ocr_tree.specs.declared.tree.UnaryOp.{UnaryOp}
 use Rattle.ocr_tree.specs.declared.tree.UnaryOp.TheVariants as unary
@@ -61,7 +62,8 @@ pub record OpenBlock : Type 0 where
   pub statements : Statements
   pub kind : BlockKind
 
--- the place in a function: the functions before, its name, the blocks that enclose the one at hand, its statements so far
+-- the place in a function: the functions before, its name, the blocks around the one at hand, and
+-- its statements so far
 pub record Position : Type 0 where
   pub functions : List FunctionTree
   pub name : List ℕ
@@ -92,7 +94,12 @@ pub data State : Type 0 where
   AfterOperand : Position → Stack → Expression → State
 
 abbrev pub with_statement : Position → Statement → Position
-with_statement h s = record { functions = h.functions; name = h.name; enclosing = h.enclosing; statements = ended_by h.statements s }
+with_statement h s = record {
+  functions = h.functions;
+  name = h.name;
+  enclosing = h.enclosing;
+  statements = ended_by h.statements s;
+}
 
 -- an expression with what still waits for it
 pub record Held : Type 0 where
@@ -103,7 +110,8 @@ pub record Held : Type 0 where
 abbrev pub fold_of : ℕ → Stack → Expression → Held
 fold_of l (Bottom p) e = record { pending = Bottom p; value = e }
 fold_of l (Left a op k) e =
-    if nat_le l (level op) then fold_of l k (tree.Binary op a e) else record { pending = Left a op k; value = e }
+    if nat_le l (level op) then fold_of l k (tree.Binary op a e)
+    else record { pending = Left a op k; value = e }
 fold_of l (Prefix op k) e = fold_of l k (tree.Unary op e)
 fold_of l (Round k) e = record { pending = Round k; value = e }
 fold_of l (Index i k) e = record { pending = Index i k; value = e }
@@ -172,14 +180,17 @@ at_comma h c done ss k lexeme.Comma = Some (argument h c done ss k)
 at_comma h c done ss k other = None
 
 -- the token after an argument
-abbrev pub after_argument : Position → CallName → Arguments → List Slot → CallSite → Lexeme → Option State
+abbrev pub after_argument : Position → CallName → Arguments → List Slot → CallSite → Lexeme
+    → Option State
 after_argument h c done [] k t = at_end h c done k t
 after_argument h c done (s ∷ ss) k t = at_comma h c done (s ∷ ss) k t
 
 -- the token after a member of a list
-abbrev pub after_member : Position → CallName → Arguments → Arguments → List Slot → CallSite → Lexeme → Option State
+abbrev pub after_member : Position → CallName → Arguments → Arguments → List Slot → CallSite
+    → Lexeme → Option State
 after_member h c done es ss k lexeme.Comma = Some (Operand h (Member c done es ss k))
-after_member h c done es ss k lexeme.CloseSquare = Some (AfterArgument h c (with done (list es empty)) ss k)
+after_member h c done es ss k lexeme.CloseSquare =
+    Some (AfterArgument h c (with done (list es empty)) ss k)
 after_member h c done es ss k other = None
 
 -- the token after the flags of a call
@@ -193,7 +204,8 @@ abbrev pub at_operand_end : Position → Stack → Expression → Lexeme → Opt
 at_operand_end h (Round k) e lexeme.CloseRound = Some (AfterOperand h k e)
 at_operand_end h (Index i k) e lexeme.CloseSquare = Some (AfterOperand h k (element_of i e))
 at_operand_end h (Argument c done ss k) e t = after_argument h c (with done (value e empty)) ss k t
-at_operand_end h (Member c done es ss k) e t = after_member h c done (with es (value e empty)) ss k t
+at_operand_end h (Member c done es ss k) e t =
+    after_member h c done (with es (value e empty)) ss k t
 at_operand_end h (FlagsArgument c done k) e t = after_flags h c (with done (value e empty)) k t
 at_operand_end h (Bottom p) e t = at_expression_end h p e t
 at_operand_end h other e t = None
@@ -222,18 +234,31 @@ operand h k (lexeme.Call c) = Some (CallOpen h c (InExpression k))
 operand h k other = None
 
 -- the first token after the opening bracket of a list
-abbrev pub list_start : Position → CallName → Arguments → List Slot → CallSite → Lexeme → Option State
-list_start h c done ss k lexeme.CloseSquare = Some (AfterArgument h c (with done (list empty empty)) ss k)
+abbrev pub list_start : Position → CallName → Arguments → List Slot → CallSite → Lexeme
+    → Option State
+list_start h c done ss k lexeme.CloseSquare =
+    Some (AfterArgument h c (with done (list empty empty)) ss k)
 list_start h c done ss k other = operand h (Member c done empty ss k) other
 
 -- the statement that a block ends
-abbrev pub after_block : List FunctionTree → List ℕ → List OpenBlock → Statements → BlockKind → Statements → State
+abbrev pub after_block : List FunctionTree → List ℕ → List OpenBlock → Statements → BlockKind
+    → Statements → State
 after_block fs x outer before (WhileBody e) body =
-    AtStatement (record { functions = fs; name = x; enclosing = outer; statements = ended_by before (tree.While e body) })
+    AtStatement (record {
+      functions = fs;
+      name = x;
+      enclosing = outer;
+      statements = ended_by before (tree.While e body);
+    })
 after_block fs x outer before (IfBody e) body =
     MayElse (record { functions = fs; name = x; enclosing = outer; statements = before }) e body
 after_block fs x outer before (ElseBody e first) body =
-    AtStatement (record { functions = fs; name = x; enclosing = outer; statements = ended_by before (tree.If e first body) })
+    AtStatement (record {
+      functions = fs;
+      name = x;
+      enclosing = outer;
+      statements = ended_by before (tree.If e first body);
+    })
 
 abbrev pub at_block_end : List FunctionTree → List ℕ → List OpenBlock → Statements → State
 at_block_end fs x [] body = Functions (fs ++ record { name = x; body = body } ∷ [])
@@ -272,7 +297,8 @@ step (CallOpen h c k) lexeme.OpenRound = Some (argument h c empty (shape c) k)
 step (CallEnd h c done k) t = at_end h c done k t
 step (ListOpen h c done ss k) lexeme.OpenSquare = Some (ListStart h c done ss k)
 step (ListStart h c done ss k) t = list_start h c done ss k t
-step (NameAt h c done ss k) (lexeme.Name x) = Some (AfterArgument h c (with done (named x empty)) ss k)
+step (NameAt h c done ss k) (lexeme.Name x) =
+    Some (AfterArgument h c (with done (named x empty)) ss k)
 step (AfterArgument h c done ss k) t = after_argument h c done ss k t
 step (OutputAnd h c done k) (lexeme.Operator binary.And) = Some (OutputName h c done k)
 step (OutputName h c done k) (lexeme.Name x) = Some (CallEnd h c (with done (named x empty)) k)

@@ -78,7 +78,8 @@ abbrev mutual
   stack_of (stack.Prefix' op p k) = m.Prefix op (stack_of k)
   stack_of (stack.Round' p k) = m.Round (stack_of k)
   stack_of (stack.Index' i p k) = m.Index (indexed_of i) (stack_of k)
-  stack_of (stack.Argument c args k) = m.Argument c (args_of args.items) (slots_after c args.items) (site_of k)
+  stack_of (stack.Argument c args k) =
+      m.Argument c (args_of args.items) (slots_after c args.items) (site_of k)
   stack_of (stack.Member c args es k) =
       m.Member c (args_of args.items) (members_of es.items) (slots_after c args.items) (site_of k)
   stack_of (stack.FlagsArgument c args k) = m.FlagsArgument c (args_of args.items) (site_of k)
@@ -93,10 +94,14 @@ held_of k e = record { pending = stack_of k; value = expression_of e }
 abbrev pub block_kind_of : BlockKind → m.BlockKind
 block_kind_of (kind.WhileBody e) = m.WhileBody (expression_of e.value)
 block_kind_of (kind.IfBody e) = m.IfBody (expression_of e.value)
-block_kind_of (kind.ElseBody e first) = m.ElseBody (expression_of e.value) (statements_of first.items)
+block_kind_of (kind.ElseBody e first) =
+    m.ElseBody (expression_of e.value) (statements_of first.items)
 
 abbrev pub open_block_of : OpenBlock → m.OpenBlock
-open_block_of o = record { statements = statements_of o.statements.items; kind = block_kind_of o.kind }
+open_block_of o = record {
+  statements = statements_of o.statements.items;
+  kind = block_kind_of o.kind;
+}
 
 -- the last one is the nearest
 abbrev pub enclosing_onto : List OpenBlock → List m.OpenBlock → List m.OpenBlock
@@ -121,16 +126,22 @@ wanted_of h wanted.LetName = m.LetName h
 wanted_of h (wanted.LetEquals x) = m.LetEquals h x
 wanted_of h (wanted.AssignEquals x) = m.AssignEquals h x
 wanted_of h (wanted.AfterCall call) = m.AfterCall h (name_of call.value) (arguments_of call.value)
-wanted_of h (wanted.MayElse e first) = m.MayElse h (expression_of e.value) (statements_of first.items)
-wanted_of h (wanted.ElseOpen e first) = m.ElseOpen h (expression_of e.value) (statements_of first.items)
+wanted_of h (wanted.MayElse e first) =
+    m.MayElse h (expression_of e.value) (statements_of first.items)
+wanted_of h (wanted.ElseOpen e first) =
+    m.ElseOpen h (expression_of e.value) (statements_of first.items)
 wanted_of h (wanted.Operand k) = m.Operand h (stack_of k)
 wanted_of h (wanted.IndexOpen i k) = m.IndexOpen h (indexed_of i) (stack_of k)
 wanted_of h (wanted.CallOpen c k) = m.CallOpen h c (site_of k)
 wanted_of h (wanted.CallEnd c args k) = m.CallEnd h c (args_of args.items) (site_of k)
-wanted_of h (wanted.ListOpen c args k) = m.ListOpen h c (args_of args.items) (slots_after c args.items) (site_of k)
-wanted_of h (wanted.ListStart c args k) = m.ListStart h c (args_of args.items) (slots_after c args.items) (site_of k)
-wanted_of h (wanted.NameAt c args k) = m.NameAt h c (args_of args.items) (slots_after c args.items) (site_of k)
-wanted_of h (wanted.AfterArgument c args k) = m.AfterArgument h c (args_of args.items) (slots_left c args.items) (site_of k)
+wanted_of h (wanted.ListOpen c args k) =
+    m.ListOpen h c (args_of args.items) (slots_after c args.items) (site_of k)
+wanted_of h (wanted.ListStart c args k) =
+    m.ListStart h c (args_of args.items) (slots_after c args.items) (site_of k)
+wanted_of h (wanted.NameAt c args k) =
+    m.NameAt h c (args_of args.items) (slots_after c args.items) (site_of k)
+wanted_of h (wanted.AfterArgument c args k) =
+    m.AfterArgument h c (args_of args.items) (slots_left c args.items) (site_of k)
 wanted_of h (wanted.OutputAnd c args k) = m.OutputAnd h c (args_of args.items) (site_of k)
 wanted_of h (wanted.OutputName c args k) = m.OutputName h c (args_of args.items) (site_of k)
 wanted_of h (wanted.AfterOperand k e) = m.AfterOperand h (stack_of k) (expression_of e.value)

@@ -12,8 +12,8 @@ ghost use Rattle.ocr_program.specs.View.{IsPushed, args_of, slots_left, slots_af
 use crate::expressions::operand;
 use crate::invoking::invoke;
 use crate::states::{Arg, CallSite, Position, Stack, State, Wanted};
-use ocr_tree::{CallName, Expr, Name};
 use ocr_grammar::{Lexeme, Slot, shape};
+use ocr_tree::{CallName, Expr, Name};
 use std::alloc::{AllocError, Global};
 
 /// The slot that comes after so many arguments.

@@ -2,7 +2,6 @@
 ghost use Rattle.std.specs.Prelude.{◌≡◌, ◌∷◌, IfOk};
 ghost use Rattle.ocr_tree.specs.View.{expression_of, members_of};
 ghost use Rattle.ocr_tree.specs.Tree as tree;
-ghost use Rattle.ocr_grammar.specs.Grammar as grammar;
 ghost use Rattle.ocr_grammar.specs.declared.slots.Slot.TheVariants as slot;
 ghost use Rattle.ocr_program.specs.Joined.{with};
 ghost use Rattle.ocr_program.specs.Machine as machine;
@@ -12,32 +11,9 @@ ghost use Rattle.ocr_program.specs.View.{args_of, slots_after, stack_of, site_of
 use crate::calls::{after_argument, after_flags, after_member, with_member, with_value};
 use crate::statements::at_expression_end;
 use crate::states::{Arg, CallSite, Indexed, Position, Stack, State, Wanted};
+use ocr_grammar::{Lexeme, Word, level};
 use ocr_tree::{BinaryOp, CallName, Expr, UnaryOp};
-use ocr_grammar::{Lexeme, Word};
 use std::alloc::{AllocError, Global};
-
-fn level(op: BinaryOp) -> u32
-    ensures { result ≡ grammar.level op }
-{
-    match op {
-        BinaryOp::Or => 0,
-        BinaryOp::Xor => 1,
-        BinaryOp::And => 2,
-        BinaryOp::Eq => 3,
-        BinaryOp::Ne => 3,
-        BinaryOp::Lt => 4,
-        BinaryOp::Le => 4,
-        BinaryOp::Gt => 4,
-        BinaryOp::Ge => 4,
-        BinaryOp::Shl => 5,
-        BinaryOp::Shr => 5,
-        BinaryOp::Add => 6,
-        BinaryOp::Sub => 6,
-        BinaryOp::Mul => 7,
-        BinaryOp::Div => 7,
-        BinaryOp::Rem => 7,
-    }
-}
 
 /// The operator between two operands that a token is, if it is one.
 fn operator(lexeme: &Lexeme) -> Option<BinaryOp>
@@ -71,7 +47,7 @@ fn unary(alloc: Global, op: UnaryOp, operand: Box<Expr>) -> Result<Box<Expr>, Al
 /// Puts together what binds as close as this level.
 fn fold(
     alloc: Global,
-    low: u32,
+    low: u8,
     stack: Stack,
     operand: Box<Expr>,
 ) -> Result<(Stack, Box<Expr>), AllocError>
@@ -141,7 +117,8 @@ fn leaf(
     leaf: Expr,
 ) -> Result<Option<State>, AllocError>
     ensures { IfOk result (λ s. state_if_any s
-        ≡ Some (machine.AfterOperand (position_of position) (stack_of stack) (expression_of leaf))) }
+        ≡ Some (machine.AfterOperand (position_of position) (stack_of stack)
+        (expression_of leaf))) }
 {
     let operand = Box::new(alloc, leaf)?;
     Ok(Some(State::InFunction(position, Wanted::AfterOperand(stack, operand))))
@@ -187,11 +164,7 @@ fn prefix(
     Ok(Some(State::InFunction(position, Wanted::Operand(Stack::Prefix(op, below)))))
 }
 
-fn open_round(
-    alloc: Global,
-    position: Position,
-    stack: Stack,
-) -> Result<Option<State>, AllocError>
+fn open_round(alloc: Global, position: Position, stack: Stack) -> Result<Option<State>, AllocError>
     ensures { IfOk result (λ s. state_if_any s
         ≡ Some (machine.Operand (position_of position) (machine.Round (stack_of stack)))) }
 {
@@ -206,7 +179,8 @@ fn open_call(
     call: CallName,
 ) -> Result<Option<State>, AllocError>
     ensures { IfOk result (λ s. state_if_any s
-        ≡ Some (machine.CallOpen (position_of position) call (machine.InExpression (stack_of stack)))) }
+        ≡ Some (machine.CallOpen (position_of position) call
+        (machine.InExpression (stack_of stack)))) }
 {
     let site = CallSite::InExpression(Box::new(alloc, stack)?);
     Ok(Some(State::InFunction(position, Wanted::CallOpen(call, site))))
@@ -277,7 +251,8 @@ fn at_index_end(
     lexeme: &Lexeme,
 ) -> Result<Option<State>, AllocError>
     ensures { IfOk result (λ s. state_if_any s ≡ machine.at_operand_end (position_of position)
-        (machine.Index (indexed_of which) (stack_of below.value)) (expression_of operand.value) lexeme.now) }
+        (machine.Index (indexed_of which) (stack_of below.value)) (expression_of operand.value)
+        lexeme.now) }
 {
     match lexeme {
         Lexeme::CloseSquare => {
@@ -333,7 +308,8 @@ fn after_flags_value(
 ) -> Result<Option<State>, AllocError>
     requires { LeadsToFlags call (args_of args.items) }
     ensures { IfOk result (λ s. state_if_any s ≡ machine.after_flags (position_of position) call
-        (with (args_of args.items) (tree.value (expression_of operand.value) tree.empty)) (site_of site) lexeme.now) }
+        (with (args_of args.items) (tree.value (expression_of operand.value) tree.empty))
+        (site_of site) lexeme.now) }
 {
     let args = with_value(args, operand)?;
     after_flags(alloc, position, call, args, site, lexeme)
@@ -349,8 +325,8 @@ pub fn after_operand(
     lexeme: &Lexeme,
 ) -> Result<Option<State>, AllocError>
     requires { IsFitting (stack_of stack) }
-    ensures { IfOk result (λ s. state_if_any s ≡ machine.after (position_of position) (stack_of stack)
-        (expression_of operand.value) lexeme.now (machine.operator lexeme.now)) }
+    ensures { IfOk result (λ s. state_if_any s ≡ machine.after (position_of position)
+        (stack_of stack) (expression_of operand.value) lexeme.now (machine.operator lexeme.now)) }
 {
     match operator(lexeme) {
         Some(op) => {

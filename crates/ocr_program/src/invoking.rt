@@ -81,7 +81,8 @@ fn three(args: ParsedArguments) -> (Box<Expr>, Box<Expr>, Box<Expr>)
 }
 
 fn four(args: ParsedArguments) -> (Box<Expr>, Box<Expr>, Box<Expr>, Box<Expr>)
-    requires { fits (slot.Value ∷ slot.Value ∷ slot.Value ∷ slot.Value ∷ []) (in_order args) ≡ true }
+    requires { fits (slot.Value ∷ slot.Value ∷ slot.Value ∷ slot.Value ∷ [])
+        (in_order args) ≡ true }
     ensures { in_order args
         ≡ value (expression_of result.0.value) (value (expression_of result.1.value)
         (value (expression_of result.2.value) (value (expression_of result.3.value) empty))) }
@@ -179,7 +180,8 @@ fn new_edt(
     ensures { Invokes result CallName.EdtCreate
         (value (expression_of template.value) (value (expression_of params.0.value)
         (list (members_of params.1.items) (value (expression_of deps.0.value)
-        (list (members_of deps.1.items) (value (expression_of last.0.value) (output_of last.1))))))) }
+        (list (members_of deps.1.items) (value (expression_of last.0.value)
+        (output_of last.1))))))) }
 {
     Invoke::EdtCreate {
         template,
@@ -247,7 +249,9 @@ fn made(call: CallName, args: ParsedArguments) -> Invoke
         CallName::SatisfySlot => satisfy_slot(args),
         CallName::AddDependence => add_dependence(args),
         CallName::TemplateCreate => template_create(args),
-        CallName::TemplateDestroy => Invoke::TemplateDestroy { template: one(args) },
+        CallName::TemplateDestroy => Invoke::TemplateDestroy {
+            template: one(args),
+        },
         CallName::EdtCreate => edt_create(args),
         CallName::Shutdown => Invoke::Shutdown,
         CallName::Abort => Invoke::Abort { code: one(args) },

@@ -11,9 +11,9 @@ ghost use Rattle.ocr_program.specs.View.{state_of};
 use crate::limits::{Tally, is_over, tallied};
 use crate::states::State;
 use crate::steps::step;
-use ocr_tree::Program;
 use ocr_grammar::read_token;
 use ocr_text::Token;
+use ocr_tree::Program;
 use std::alloc::{AllocError, Global};
 use std::error::Error;
 use std::fmt;
@@ -118,13 +118,15 @@ fn read(alloc: Global, bytes: &[u8], tokens: &[Token]) -> Result<Parsed, AllocEr
 pub fn parse(alloc: Global, bytes: &[u8], tokens: &[Token]) -> Result<Program, ParseStop>
     requires { AreTokens bytes.now tokens.now }
     ensures tree { IfOk result (λ p. IsTreeOf bytes.now tokens.now (tree_of p)) }
-    ensures fault { (f : SyntaxFault) → result ≡ Err (ParseStop.Fault f) → IsSyntaxFault bytes.now tokens.now f.place }
+    ensures fault { (f : SyntaxFault) → result ≡ Err (ParseStop.Fault f)
+        → IsSyntaxFault bytes.now tokens.now f.place }
 
-    // The tree and the fault are one: what has a tree is refused for want of memory alone, and what has a fault
-    // is refused.
+    // The tree and the fault are one: what has a tree is refused for want of memory alone, and what
+    // has a fault is refused.
     ensures whole_tree { (program : List FunctionTree) → IsTreeOf bytes.now tokens.now program
         → IsTreeOrNoMemory result program }
-    ensures whole_fault { (place : ℕ) → IsSyntaxFault bytes.now tokens.now place → IsFaultOrNoMemory result place }
+    ensures whole_fault { (place : ℕ) → IsSyntaxFault bytes.now tokens.now place
+        → IsFaultOrNoMemory result place }
 {
     match read(alloc, bytes, tokens) {
         Ok(Parsed::Program(program)) => Ok(program),

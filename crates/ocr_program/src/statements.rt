@@ -6,9 +6,9 @@ ghost use Rattle.ocr_program.specs.Machine as machine;
 ghost use Rattle.ocr_program.specs.Marks.{is_else};
 ghost use Rattle.ocr_program.specs.View.{position_of, block_kind_of, purpose_of, state_of, state_if_any, after_block_end};
 
-use crate::states::{CallSite, Position, BlockKind, OpenBlock, Purpose, Stack, State, Wanted};
-use ocr_tree::{Expr, Function, Invoke, Stmt};
+use crate::states::{BlockKind, CallSite, OpenBlock, Position, Purpose, Stack, State, Wanted};
 use ocr_grammar::{Lexeme, Word};
+use ocr_tree::{Expr, Function, Invoke, Stmt};
 use std::alloc::{AllocError, Global};
 
 /// The place after one more statement.
@@ -24,7 +24,8 @@ fn with_statement(position: Position, stmt: Stmt) -> Result<Position, AllocError
 
 fn after_statement(position: Position, stmt: Stmt) -> Result<Option<State>, AllocError>
     ensures { IfOk result (λ s. state_if_any s
-        ≡ Some (machine.AtStatement (machine.with_statement (position_of position) (statement_of stmt)))) }
+        ≡ Some (machine.AtStatement
+        (machine.with_statement (position_of position) (statement_of stmt)))) }
 {
     Ok(Some(State::InFunction(with_statement(position, stmt)?, Wanted::Statement)))
 }
@@ -44,11 +45,7 @@ fn choice(test: Expr, yes: Vec<Stmt>, no: Vec<Stmt>) -> Stmt
 
 /// The state where a block begins.
 #[tactic(auto, using(crate::proofs::Lists::enclosing_more))]
-pub fn block_start(
-    alloc: Global,
-    position: Position,
-    kind: BlockKind,
-) -> Result<State, AllocError>
+pub fn block_start(alloc: Global, position: Position, kind: BlockKind) -> Result<State, AllocError>
     ensures { IfOk result
         (λ s. state_of s ≡ machine.block_start (position_of position) (block_kind_of kind)) }
 {
@@ -185,15 +182,27 @@ fn block_end(position: Position) -> Result<State, AllocError>
 
 /// The token where a statement may begin.
 pub fn at_statement(position: Position, lexeme: Lexeme) -> Result<Option<State>, AllocError>
-    ensures { IfOk result (λ s. state_if_any s ≡ machine.at_statement (position_of position) lexeme) }
+    ensures { IfOk result
+        (λ s. state_if_any s ≡ machine.at_statement (position_of position) lexeme) }
 {
     match lexeme {
         Lexeme::Word(word) => Ok(word_statement(position, word)),
         Lexeme::Name(name) => Ok(Some(State::InFunction(position, Wanted::AssignEquals(name)))),
-        Lexeme::Call(call) => Ok(Some(State::InFunction(position, Wanted::CallOpen(call, CallSite::AsStatement)))),
+        Lexeme::Call(call) => {
+            let wanted = Wanted::CallOpen(call, CallSite::AsStatement);
+            Ok(Some(State::InFunction(position, wanted)))
+        }
         Lexeme::CloseBrace => Ok(Some(block_end(position)?)),
         _ => Ok(None),
     }
+}
+
+/// The state where an outermost expression begins.
+pub fn first_operand(position: Position, purpose: Purpose) -> State
+    ensures { state_of result
+        ≡ machine.Operand (position_of position) (machine.Bottom (purpose_of purpose)) }
+{
+    State::InFunction(position, Wanted::Operand(Stack::Bottom(purpose)))
 }
 
 /// The same where a reserved word stands.
@@ -202,10 +211,10 @@ fn word_statement(position: Position, word: Word) -> Option<State>
 {
     match word {
         Word::Let => Some(State::InFunction(position, Wanted::LetName)),
-        Word::If => Some(State::InFunction(position, Wanted::Operand(Stack::Bottom(Purpose::Test)))),
-        Word::While => Some(State::InFunction(position, Wanted::Operand(Stack::Bottom(Purpose::Repeat)))),
-        Word::Print => Some(State::InFunction(position, Wanted::Operand(Stack::Bottom(Purpose::Print)))),
-        Word::Return => Some(State::InFunction(position, Wanted::Operand(Stack::Bottom(Purpose::Return)))),
+        Word::If => Some(first_operand(position, Purpose::Test)),
+        Word::While => Some(first_operand(position, Purpose::Repeat)),
+        Word::Print => Some(first_operand(position, Purpose::Print)),
+        Word::Return => Some(first_operand(position, Purpose::Return)),
         _ => None,
     }
 }

@@ -1,5 +1,5 @@
-// What was read of the tokens so far. Expressions stand in boxes: a large value that is moved from place to place is slow
-// to check, and each one comes into a box in the end.
+// What was read of the tokens so far. Expressions stand in boxes, into which each comes in the end:
+// a large value that is handed on again and again is slow to check.
 use ocr_tree::{BinaryOp, CallName, Expr, Function, Invoke, Name, Stmt, UnaryOp};
 
 /// What an outermost expression is for.

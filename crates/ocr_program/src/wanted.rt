@@ -5,14 +5,16 @@ ghost use Rattle.ocr_program.specs.Machine as machine;
 ghost use Rattle.ocr_program.specs.View.{args_of, slots_after, stack_of, site_of, position_of, indexed_of, state_of, state_if_any};
 
 use crate::calls::{argument, with_name};
-use crate::states::{Arg, CallSite, Position, Indexed, Purpose, Stack, State, Wanted};
-use ocr_tree::{BinaryOp, CallName, Function, Name};
+use crate::statements::first_operand;
+use crate::states::{Arg, CallSite, Indexed, Position, Purpose, Stack, State, Wanted};
 use ocr_grammar::{Lexeme, Word};
+use ocr_tree::{BinaryOp, CallName, Function, Name};
 use std::alloc::{AllocError, Global};
 
 /// Wants `fn`.
 pub fn function_word(functions: Vec<Function>, lexeme: &Lexeme) -> Option<State>
-    ensures { state_if_any result ≡ machine.step (machine.Functions (functions_of functions.items)) lexeme.now }
+    ensures { state_if_any result
+        ≡ machine.step (machine.Functions (functions_of functions.items)) lexeme.now }
 {
     match lexeme {
         Lexeme::Word(Word::Fn) => Some(State::FunctionName(functions)),
@@ -22,7 +24,8 @@ pub fn function_word(functions: Vec<Function>, lexeme: &Lexeme) -> Option<State>
 
 /// Wants the name of a function.
 pub fn function_name(functions: Vec<Function>, lexeme: Lexeme) -> Option<State>
-    ensures { state_if_any result ≡ machine.step (machine.FunctionName (functions_of functions.items)) lexeme }
+    ensures { state_if_any result
+        ≡ machine.step (machine.FunctionName (functions_of functions.items)) lexeme }
 {
     match lexeme {
         Lexeme::Name(name) => Some(State::FunctionOpen(functions, name)),
@@ -37,7 +40,8 @@ pub fn function_open(
     name: Name,
     lexeme: &Lexeme,
 ) -> Option<State>
-    ensures { state_if_any result ≡ machine.step (machine.FunctionOpen (functions_of functions.items) name) lexeme.now }
+    ensures { state_if_any result
+        ≡ machine.step (machine.FunctionOpen (functions_of functions.items) name) lexeme.now }
 {
     match lexeme {
         Lexeme::OpenBrace => {
@@ -55,7 +59,8 @@ pub fn function_open(
 
 /// Wants the name of a variable after `let`.
 pub fn let_name(position: Position, lexeme: Lexeme) -> Option<State>
-    ensures { state_if_any result ≡ machine.step (machine.LetName (position_of position)) lexeme }
+    ensures { state_if_any result
+        ≡ machine.step (machine.LetName (position_of position)) lexeme }
 {
     match lexeme {
         Lexeme::Name(name) => Some(State::InFunction(position, Wanted::LetEquals(name))),
@@ -65,20 +70,22 @@ pub fn let_name(position: Position, lexeme: Lexeme) -> Option<State>
 
 /// Wants the `=` of a `let`.
 pub fn let_equals(position: Position, name: Name, lexeme: &Lexeme) -> Option<State>
-    ensures { state_if_any result ≡ machine.step (machine.LetEquals (position_of position) name) lexeme.now }
+    ensures { state_if_any result
+        ≡ machine.step (machine.LetEquals (position_of position) name) lexeme.now }
 {
     match lexeme {
-        Lexeme::Equals => Some(State::InFunction(position, Wanted::Operand(Stack::Bottom(Purpose::Let(name))))),
+        Lexeme::Equals => Some(first_operand(position, Purpose::Let(name))),
         _ => None,
     }
 }
 
 /// Wants the `=` of an assignment.
 pub fn assign_equals(position: Position, name: Name, lexeme: &Lexeme) -> Option<State>
-    ensures { state_if_any result ≡ machine.step (machine.AssignEquals (position_of position) name) lexeme.now }
+    ensures { state_if_any result
+        ≡ machine.step (machine.AssignEquals (position_of position) name) lexeme.now }
 {
     match lexeme {
-        Lexeme::Equals => Some(State::InFunction(position, Wanted::Operand(Stack::Bottom(Purpose::Assign(name))))),
+        Lexeme::Equals => Some(first_operand(position, Purpose::Assign(name))),
         _ => None,
     }
 }
@@ -92,7 +99,8 @@ pub fn index_open(
     lexeme: &Lexeme,
 ) -> Result<Option<State>, AllocError>
     ensures { IfOk result (λ s. state_if_any s
-        ≡ machine.step (machine.IndexOpen (position_of position) (indexed_of which) (stack_of stack)) lexeme.now) }
+        ≡ machine.step (machine.IndexOpen (position_of position) (indexed_of which)
+        (stack_of stack)) lexeme.now) }
 {
     match lexeme {
         Lexeme::OpenSquare => index_start(alloc, position, which, stack),
@@ -108,7 +116,8 @@ fn index_start(
     stack: Stack,
 ) -> Result<Option<State>, AllocError>
     ensures { IfOk result (λ s. state_if_any s
-        ≡ Some (machine.Operand (position_of position) (machine.Index (indexed_of which) (stack_of stack)))) }
+        ≡ Some (machine.Operand (position_of position)
+        (machine.Index (indexed_of which) (stack_of stack)))) }
 {
     let below = Box::new(alloc, stack)?;
     Ok(Some(State::InFunction(position, Wanted::Operand(Stack::Index(which, below)))))
@@ -123,7 +132,9 @@ pub fn call_open(
     site: CallSite,
     lexeme: &Lexeme,
 ) -> Option<State>
-    ensures { state_if_any result ≡ machine.step (machine.CallOpen (position_of position) call (site_of site)) lexeme.now }
+    ensures { state_if_any result
+        ≡ machine.step (machine.CallOpen (position_of position) call (site_of site))
+        lexeme.now }
 {
     match lexeme {
         Lexeme::OpenRound => Some(argument(position, call, Vec::new(alloc), site)),
@@ -139,11 +150,14 @@ pub fn list_open(
     site: CallSite,
     lexeme: &Lexeme,
 ) -> Option<State>
-    ensures { state_if_any result ≡ machine.step (machine.ListOpen (position_of position) call (args_of args.items)
+    ensures { state_if_any result
+        ≡ machine.step (machine.ListOpen (position_of position) call (args_of args.items)
         (slots_after call args.items) (site_of site)) lexeme.now }
 {
     match lexeme {
-        Lexeme::OpenSquare => Some(State::InFunction(position, Wanted::ListStart(call, args, site))),
+        Lexeme::OpenSquare => {
+            Some(State::InFunction(position, Wanted::ListStart(call, args, site)))
+        }
         _ => None,
     }
 }
@@ -157,7 +171,8 @@ pub fn name_at(
     site: CallSite,
     lexeme: Lexeme,
 ) -> Result<Option<State>, AllocError>
-    ensures { IfOk result (λ s. state_if_any s ≡ machine.step (machine.NameAt (position_of position) call (args_of args.items)
+    ensures { IfOk result (λ s. state_if_any s
+        ≡ machine.step (machine.NameAt (position_of position) call (args_of args.items)
         (slots_after call args.items) (site_of site)) lexeme) }
 {
     match lexeme {
@@ -178,10 +193,13 @@ pub fn output_and(
     lexeme: &Lexeme,
 ) -> Option<State>
     ensures { state_if_any result
-        ≡ machine.step (machine.OutputAnd (position_of position) call (args_of args.items) (site_of site)) lexeme.now }
+        ≡ machine.step (machine.OutputAnd (position_of position) call (args_of args.items)
+        (site_of site)) lexeme.now }
 {
     match lexeme {
-        Lexeme::Operator(BinaryOp::And) => Some(State::InFunction(position, Wanted::OutputName(call, args, site))),
+        Lexeme::Operator(BinaryOp::And) => {
+            Some(State::InFunction(position, Wanted::OutputName(call, args, site)))
+        }
         _ => None,
     }
 }
@@ -196,7 +214,8 @@ pub fn output_name(
     lexeme: Lexeme,
 ) -> Result<Option<State>, AllocError>
     ensures { IfOk result (λ s. state_if_any s
-        ≡ machine.step (machine.OutputName (position_of position) call (args_of args.items) (site_of site)) lexeme) }
+        ≡ machine.step (machine.OutputName (position_of position) call (args_of args.items)
+        (site_of site)) lexeme) }
 {
     match lexeme {
         Lexeme::Name(name) => {
