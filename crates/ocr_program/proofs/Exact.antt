@@ -12,7 +12,7 @@ use Rattle.ocr_grammar.specs.Shape.{shape}
 use Rattle.ocr_grammar.specs.Grammar.{IsProgram, GoesOn}
 use Rattle.ocr_program.specs.Joined.{with, ended_by}
 use Rattle.ocr_program.specs.Machine as m
-use Rattle.ocr_program.specs.Machine.{State, Here, Purpose, Stack, Bottom, Around, Within, Alone, Left, Prefix, Round, Index, Argument, Member, Flag, Operand, Has, Held, folded, reads, step, operator, closed, after, start, Functions, program_of}
+use Rattle.ocr_program.specs.Machine.{State, Position, Purpose, Stack, Bottom, CallSite, InExpression, AsStatement, Left, Prefix, Round, Index, Argument, Member, FlagsArgument, Operand, AfterOperand, Held, fold_of, reads, step, operator, at_operand_end, after, start, Functions, program_of}
 use Rattle.ocr_program.proofs.Complete.{Stands, at_place, after_choice, fold_left, reads_program}
 use Rattle.ocr_program.proofs.Sound.{read_is_program}
 
@@ -37,23 +37,23 @@ one s t o is e = record {
   reading = ap (λ (o1 : Option State). reads o1 e.rest) is ∙ e.reading;
 }
 
-kinds : (before : Statements) (k : m.Kind) (outer : List m.Outer) (fs : List FunctionTree) (x : List ℕ) (body : Statements)
-    → ((done : Statements) (s : State) → Stands s (record { functions = fs; name = x; outer = outer; done = done }) → Ends (Some s))
-    → Ends (Some (m.left fs x outer before k body))
-kinds before (m.Repeated e) outer fs x body go = go _ _ (at_place _)
-kinds before (m.First e) outer fs x body go = go _ _ (after_choice _ e body)
-kinds before (m.Second e first) outer fs x body go = go _ _ (at_place _)
+kinds : (before : Statements) (k : m.BlockKind) (outer : List m.OpenBlock) (fs : List FunctionTree) (x : List ℕ) (body : Statements)
+    → ((done : Statements) (s : State) → Stands s (record { functions = fs; name = x; enclosing = outer; statements = done }) → Ends (Some s))
+    → Ends (Some (m.after_block fs x outer before k body))
+kinds before (m.WhileBody e) outer fs x body go = go _ _ (at_place _)
+kinds before (m.IfBody e) outer fs x body go = go _ _ (after_choice _ e body)
+kinds before (m.ElseBody e first) outer fs x body go = go _ _ (at_place _)
 
-blocks : (outer : List m.Outer) (fs : List FunctionTree) (x : List ℕ) (done : Statements) (s : State)
-    → Stands s (record { functions = fs; name = x; outer = outer; done = done }) → Ends (Some s)
+blocks : (outer : List m.OpenBlock) (fs : List FunctionTree) (x : List ℕ) (done : Statements) (s : State)
+    → Stands s (record { functions = fs; name = x; enclosing = outer; statements = done }) → Ends (Some s)
 blocks [] fs x done s w = one s lexeme.CloseBrace _ w.end (record { rest = []; functions = _; reading = refl })
 blocks (o ∷ outer) fs x done s w =
-    one s lexeme.CloseBrace _ w.end (kinds o.before o.kind outer fs x done (λ done1 s1 w1. blocks outer fs x done1 s1 w1))
+    one s lexeme.CloseBrace _ w.end (kinds o.statements o.kind outer fs x done (λ done1 s1 w1. blocks outer fs x done1 s1 w1))
 
-place : (h : Here) → Ends (Some (m.AtStatement h))
-place h = blocks h.outer h.functions h.name h.done (m.AtStatement h) (at_place h)
+place : (h : Position) → Ends (Some (m.AtStatement h))
+place h = blocks h.enclosing h.functions h.name h.statements (m.AtStatement h) (at_place h)
 
-whole : (h : Here) (p : Purpose) (e : Expression) → (t : Lexeme) × ((operator t ≡ None) × Ends (m.whole h p e t))
+whole : (h : Position) (p : Purpose) (e : Expression) → (t : Lexeme) × ((operator t ≡ None) × Ends (m.at_expression_end h p e t))
 whole h (m.ToLet x) e = (lexeme.Semicolon, (refl, place _))
 whole h (m.ToAssign x) e = (lexeme.Semicolon, (refl, place _))
 whole h m.ToTest e = (lexeme.OpenBrace, (refl, place _))
@@ -62,20 +62,20 @@ whole h m.ToPrint e = (lexeme.Semicolon, (refl, place _))
 whole h m.ToReturn e = (lexeme.Semicolon, (refl, place _))
 
 -- the token that closes, after what is put together
-closes : (h : Here) (k k1 : Stack) (e e1 : Expression) (t : Lexeme) → operator t ≡ None
-    → folded 0 k1 e1 ≡ record { pending = k; value = e } → Ends (m.closed h k e t) → Ends (Some (Has h k1 e1))
+closes : (h : Position) (k k1 : Stack) (e e1 : Expression) (t : Lexeme) → operator t ≡ None
+    → fold_of 0 k1 e1 ≡ record { pending = k; value = e } → Ends (m.at_operand_end h k e t) → Ends (Some (AfterOperand h k1 e1))
 closes h k k1 e e1 t other is end =
-    one (Has h k1 e1) t (m.closed h k e t) (ap (after h k1 e1 t) other ∙ ap (λ (held : Held). m.closed h held.pending held.value t) is) end
+    one (AfterOperand h k1 e1) t (m.at_operand_end h k e t) (ap (after h k1 e1 t) other ∙ ap (λ (held : Held). m.at_operand_end h held.pending held.value t) is) end
 
 -- each whole call here comes to an end
-abbrev CallEnds : Here → Around → CallName → Type 0
-CallEnds h k c = (args : Arguments) → Ends (Some (m.called h c args k))
+abbrev CallEnds : Position → CallSite → CallName → Type 0
+CallEnds h k c = (args : Arguments) → Ends (Some (m.after_call h c args k))
 
 -- an argument and all after it
-abbrev FollowEnd : List Slot → Here → Around → CallName → Type 0
-FollowEnd ss h k c = (done : Arguments) → (t : Lexeme) × ((operator t ≡ None) × Ends (m.followed h c done ss k t))
+abbrev FollowEnd : List Slot → Position → CallSite → CallName → Type 0
+FollowEnd ss h k c = (done : Arguments) → (t : Lexeme) × ((operator t ≡ None) × Ends (m.after_argument h c done ss k t))
 
-slot_end : (s : Slot) (ss : List Slot) (h : Here) (k : Around) (c : CallName) → CallEnds h k c → FollowEnd ss h k c
+slot_end : (s : Slot) (ss : List Slot) (h : Position) (k : CallSite) (c : CallName) → CallEnds h k c → FollowEnd ss h k c
     → (done : Arguments) → Ends (Some (m.argument h c done (s ∷ ss) k))
 slot_end Value ss h k c end go done =
     let w = go (with done (value (tree.Number 0) empty)) in
@@ -87,40 +87,40 @@ slot_end Named ss h k c end go done =
     let w = go (with done (named [] empty)) in
     one (m.NameAt h c done ss k) (lexeme.Name []) _ refl (one (m.AfterArgument h c _ ss k) w.0 _ refl w.1.1)
 slot_end Flags ss h k c end go done =
-    one (Operand h (Flag c done k)) (lexeme.Number 0) _ refl (closes h (Flag c done k) (Flag c done k) (tree.Number 0) (tree.Number 0) lexeme.CloseRound refl refl (end _))
+    one (Operand h (FlagsArgument c done k)) (lexeme.Number 0) _ refl (closes h (FlagsArgument c done k) (FlagsArgument c done k) (tree.Number 0) (tree.Number 0) lexeme.CloseRound refl refl (end _))
 
-after_end : (ss : List Slot) (h : Here) (k : Around) (c : CallName) → CallEnds h k c → FollowEnd ss h k c
+after_end : (ss : List Slot) (h : Position) (k : CallSite) (c : CallName) → CallEnds h k c → FollowEnd ss h k c
 after_end [] h k c end = λ done. (lexeme.CloseRound, (refl, end done))
 after_end (s ∷ ss) h k c end = λ done. (lexeme.Comma, (refl, slot_end s ss h k c end (after_end ss h k c end) done))
 
-arguments_end : (ss : List Slot) (h : Here) (k : Around) (c : CallName) → CallEnds h k c → (done : Arguments)
+arguments_end : (ss : List Slot) (h : Position) (k : CallSite) (c : CallName) → CallEnds h k c → (done : Arguments)
     → Ends (Some (m.argument h c done ss k))
 arguments_end [] h k c end done = one (m.CallEnd h c done k) lexeme.CloseRound _ refl (end done)
 arguments_end (s ∷ ss) h k c end done = slot_end s ss h k c end (after_end ss h k c end) done
 
 mutual
-  held : (k : Stack) (h : Here) (e : Expression) (k1 : Stack) (e1 : Expression) → folded 0 k1 e1 ≡ folded 0 k e
-      → Ends (Some (Has h k1 e1))
+  held : (k : Stack) (h : Position) (e : Expression) (k1 : Stack) (e1 : Expression) → fold_of 0 k1 e1 ≡ fold_of 0 k e
+      → Ends (Some (AfterOperand h k1 e1))
   held (Bottom p) h e k1 e1 is = let w = whole h p e in closes h (Bottom p) k1 e e1 w.0 w.1.0 is w.1.1
   held (Left a op k) h e k1 e1 is = held k h (tree.Binary op a e) k1 e1 (is ∙ fold_left 0 a op k e (omega arith))
   held (Prefix op k) h e k1 e1 is = held k h (tree.Unary op e) k1 e1 is
   held (Round k) h e k1 e1 is = closes h (Round k) k1 e e1 lexeme.CloseRound refl is (held k h e k e refl)
   held (Index i k) h e k1 e1 is =
-      closes h (Index i k) k1 e e1 lexeme.CloseSquare refl is (held k h (m.indexed i e) k (m.indexed i e) refl)
+      closes h (Index i k) k1 e e1 lexeme.CloseSquare refl is (held k h (m.element_of i e) k (m.element_of i e) refl)
   held (Argument c done ss k) h e k1 e1 is =
       let w = after_end ss h k c (call_ends k h c) (with done (value e empty)) in
       closes h (Argument c done ss k) k1 e e1 w.0 w.1.0 is w.1.1
   held (Member c done es ss k) h e k1 e1 is =
       let w = after_end ss h k c (call_ends k h c) (with done (list (with es (value e empty)) empty)) in
       closes h (Member c done es ss k) k1 e e1 lexeme.CloseSquare refl is (one (m.AfterArgument h c _ ss k) w.0 _ refl w.1.1)
-  held (Flag c done k) h e k1 e1 is =
-      closes h (Flag c done k) k1 e e1 lexeme.CloseRound refl is (call_ends k h c (with done (value e empty)))
+  held (FlagsArgument c done k) h e k1 e1 is =
+      closes h (FlagsArgument c done k) k1 e e1 lexeme.CloseRound refl is (call_ends k h c (with done (value e empty)))
 
-  call_ends : (k : Around) (h : Here) (c : CallName) (args : Arguments) → Ends (Some (m.called h c args k))
-  call_ends (Within k) h c args = held k h (tree.Invoked c args) k (tree.Invoked c args) refl
-  call_ends Alone h c args = one (m.Called h c args) lexeme.Semicolon _ refl (place _)
+  call_ends : (k : CallSite) (h : Position) (c : CallName) (args : Arguments) → Ends (Some (m.after_call h c args k))
+  call_ends (InExpression k) h c args = held k h (tree.Invoked c args) k (tree.Invoked c args) refl
+  call_ends AsStatement h c args = one (m.AfterCall h c args) lexeme.Semicolon _ refl (place _)
 
-operand : (h : Here) (k : Stack) → Ends (Some (Operand h k))
+operand : (h : Position) (k : Stack) → Ends (Some (Operand h k))
 operand h k = one (Operand h k) (lexeme.Number 0) _ refl (held k h (tree.Number 0) k (tree.Number 0) refl)
 
 -- each state comes to an end
@@ -134,9 +134,9 @@ each (m.LetName h) =
     one (m.LetName h) (lexeme.Name []) _ refl (one (m.LetEquals h []) lexeme.Equals _ refl (operand h (Bottom (m.ToLet []))))
 each (m.LetEquals h x) = one (m.LetEquals h x) lexeme.Equals _ refl (operand h (Bottom (m.ToLet x)))
 each (m.AssignEquals h x) = one (m.AssignEquals h x) lexeme.Equals _ refl (operand h (Bottom (m.ToAssign x)))
-each (m.Called h c args) = call_ends Alone h c args
+each (m.AfterCall h c args) = call_ends AsStatement h c args
 each (m.MayElse h e first) =
-    blocks h.outer h.functions h.name (ended_by h.done (tree.If e first nothing)) (m.MayElse h e first) (after_choice h e first)
+    blocks h.enclosing h.functions h.name (ended_by h.statements (tree.If e first nothing)) (m.MayElse h e first) (after_choice h e first)
 each (m.ElseOpen h e first) = one (m.ElseOpen h e first) lexeme.OpenBrace _ refl (place _)
 each (m.Operand h k) = operand h k
 each (m.IndexOpen h i k) = one (m.IndexOpen h i k) lexeme.OpenSquare _ refl (operand h (Index i k))
@@ -155,7 +155,7 @@ each (m.OutputAnd h c done k) =
     one (m.OutputAnd h c done k) (lexeme.Operator binary.And) _ refl (one (m.OutputName h c done k) (lexeme.Name []) _ refl (one (m.CallEnd h c _ k) lexeme.CloseRound _ refl (call_ends k h c _)))
 each (m.OutputName h c done k) =
     one (m.OutputName h c done k) (lexeme.Name []) _ refl (one (m.CallEnd h c _ k) lexeme.CloseRound _ refl (call_ends k h c _))
-each (m.Has h k e) = held k h e k e refl
+each (m.AfterOperand h k e) = held k h e k e refl
 
 -- what is read goes on
 pub goes_on : (front : List Lexeme) (s : State) → reads start front ≡ Some s → GoesOn front

@@ -1,6 +1,6 @@
 -- How much waits for an operand.
 use Rattle.std.proofs.Common.{ℕ, ◌+◌}
-use Rattle.ocr_program.specs.Machine.{Stack, Bottom, Left, Prefix, Round, Index, Argument, Member, Flag}
+use Rattle.ocr_program.specs.Machine.{Stack, Bottom, Left, Prefix, Round, Index, Argument, Member, FlagsArgument}
 
 abbrev pub height : Stack → ℕ
 height (Bottom p) = 0
@@ -10,4 +10,4 @@ height (Round k) = height k + 1
 height (Index i k) = height k + 1
 height (Argument c done ss k) = 0
 height (Member c done es ss k) = 0
-height (Flag c done k) = 0
+height (FlagsArgument c done k) = 0

@@ -3,9 +3,8 @@ pub mod Sound
 pub mod Exact
 pub mod Fitting
 pub mod Lists
-pub mod Rows
 pub mod Heights
 pub mod Places
 pub mod One
-pub mod Calls
+pub mod CallLemmas
 pub mod Marks

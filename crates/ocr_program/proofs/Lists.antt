@@ -12,11 +12,11 @@ use Rattle.ocr_grammar.specs.declared.slots.Slot.{Slot}
 use Rattle.ocr_grammar.specs.Shape.{shape}
 use Rattle.ocr_program.specs.Joined.{with, ended_by}
 use Rattle.ocr_program.specs.Machine as m
-use Rattle.ocr_program.specs.View.{argument_onto, given_of, slots_left, slots_after, but_first, outer_of, outers_onto, outers_of}
+use Rattle.ocr_program.specs.View.{argument_onto, args_of, slots_left, slots_after, but_first, open_block_of, enclosing_onto, enclosing_of}
 use Rattle.ocr_program.proofs.Complete.{with_more}
 use Rattle.ocr_program.specs.declared.states.Arg.{Arg}
 use Rattle.ocr_program.specs.declared.states.Arg.TheVariants as arg
-use Rattle.ocr_program.specs.declared.states.Outer.{Outer}
+use Rattle.ocr_program.specs.declared.states.OpenBlock.{OpenBlock}
 
 onto_with : (a : Arg) (rest more : Arguments) → argument_onto a (with rest more) ≡ with (argument_onto a rest) more
 onto_with (arg.Value e) rest more = refl
@@ -24,9 +24,9 @@ onto_with (arg.List es) rest more = refl
 onto_with (arg.Named x) rest more = refl
 
 -- one argument more
-pub given_more : (args : List Arg) (a : Arg) → given_of (args ++ a ∷ []) ≡ with (given_of args) (argument_onto a empty)
-given_more [] a = refl
-given_more (b ∷ args) a = ap (argument_onto b) (given_more args a) ∙ onto_with b (given_of args) (argument_onto a empty)
+pub args_more : (args : List Arg) (a : Arg) → args_of (args ++ a ∷ []) ≡ with (args_of args) (argument_onto a empty)
+args_more [] a = refl
+args_more (b ∷ args) a = ap (argument_onto b) (args_more args a) ∙ onto_with b (args_of args) (argument_onto a empty)
 
 onto_one : (a : Arg) (more : Arguments) → with (argument_onto a empty) more ≡ argument_onto a more
 onto_one (arg.Value e) more = refl
@@ -34,11 +34,11 @@ onto_one (arg.List es) more = refl
 onto_one (arg.Named x) more = refl
 
 -- the last argument goes in front of those behind it
-pub given_last : (args : List Arg) (a : Arg) (more : Arguments)
-    → with (given_of (args ++ a ∷ [])) more ≡ with (given_of args) (argument_onto a more)
-given_last args a more =
-    ap (λ (l : Arguments). with l more) (given_more args a) ∙ with_more (given_of args) (argument_onto a empty) more
-    ∙ ap (with (given_of args)) (onto_one a more)
+pub args_last : (args : List Arg) (a : Arg) (more : Arguments)
+    → with (args_of (args ++ a ∷ [])) more ≡ with (args_of args) (argument_onto a more)
+args_last args a more =
+    ap (λ (l : Arguments). with l more) (args_more args a) ∙ with_more (args_of args) (argument_onto a empty) more
+    ∙ ap (with (args_of args)) (onto_one a more)
 
 pub members_more : (es : List Expr) (e : Expr) → members_of (es ++ e ∷ []) ≡ with (members_of es) (value (expression_of e) empty)
 members_more [] e = refl
@@ -77,12 +77,12 @@ slots_some c args s is = get_some (shape c) (length args) s is
 pub slots_none : (c : CallName) (args : List Arg) → slice_get (shape c) (length args) ≡ None → slots_left c args ≡ []
 slots_none c args is = get_none (shape c) (length args) is
 
-pub outers_onto_more : (os : List Outer) (o : Outer) (k : List m.Outer) → outers_onto (os ++ o ∷ []) k ≡ outer_of o ∷ outers_onto os k
-outers_onto_more [] o k = refl
-outers_onto_more (q ∷ os) o k = outers_onto_more os o (outer_of q ∷ k)
+pub enclosing_onto_more : (os : List OpenBlock) (o : OpenBlock) (k : List m.OpenBlock) → enclosing_onto (os ++ o ∷ []) k ≡ open_block_of o ∷ enclosing_onto os k
+enclosing_onto_more [] o k = refl
+enclosing_onto_more (q ∷ os) o k = enclosing_onto_more os o (open_block_of q ∷ k)
 
-pub outers_more : (os : List Outer) (o : Outer) → outers_of (os ++ o ∷ []) ≡ outer_of o ∷ outers_of os
-outers_more os o = outers_onto_more os o []
+pub enclosing_more : (os : List OpenBlock) (o : OpenBlock) → enclosing_of (os ++ o ∷ []) ≡ open_block_of o ∷ enclosing_of os
+enclosing_more os o = enclosing_onto_more os o []
 
 pub statements_more : (ss : List Stmt) (s : Stmt) → statements_of (ss ++ s ∷ []) ≡ ended_by (statements_of ss) (statement_of s)
 statements_more [] s = refl

@@ -19,7 +19,7 @@ use Rattle.ocr_grammar.specs.Grammar as g
 use Rattle.ocr_grammar.specs.Grammar.{level, spelled, spelled_unary, IsExpression, AreArguments, Follows, AreMembers, IsStatement, AreStatements, IsProgram}
 use Rattle.ocr_program.specs.Joined.{with, ended_by}
 use Rattle.ocr_program.specs.Machine as m
-use Rattle.ocr_program.specs.Machine.{State, Here, Purpose, Indexed, Stack, Bottom, Around, Within, Alone, Left, Prefix, Round, Index, Argument, Member, Flag, Operand, Has, Held, folded, reads, step, operator, closed, after, infixed, start, Functions}
+use Rattle.ocr_program.specs.Machine.{State, Position, Purpose, Indexed, Stack, Bottom, CallSite, InExpression, AsStatement, Left, Prefix, Round, Index, Argument, Member, FlagsArgument, Operand, AfterOperand, Held, fold_of, reads, step, operator, at_operand_end, after, at_right_operand, start, Functions}
 use Rattle.ocr_program.proofs.Complete.{with_none, with_more, floor, level_low}
 
 -- the arguments so far, where those of the slots left stand next
@@ -51,22 +51,22 @@ abbrev Programs : List FunctionTree → List Lexeme → List Lexeme → Type 0
 Programs fs all ts = (others : List FunctionTree) → IsProgram ts others → IsProgram all (fs ++ others)
 
 -- what a block begins with
-abbrev Opened : m.Kind → List Lexeme → List Lexeme → Type 0
-Opened (m.Repeated e) t1 ts =
+abbrev Opened : m.BlockKind → List Lexeme → List Lexeme → Type 0
+Opened (m.WhileBody e) t1 ts =
     (from : List Lexeme) × ((t1 ≡ lexeme.Word word.While ∷ from) × IsExpression 0 from (lexeme.OpenBrace ∷ ts) e)
-Opened (m.First e) t1 ts =
+Opened (m.IfBody e) t1 ts =
     (from : List Lexeme) × ((t1 ≡ lexeme.Word word.If ∷ from) × IsExpression 0 from (lexeme.OpenBrace ∷ ts) e)
-Opened (m.Second e first) t1 ts =
+Opened (m.ElseBody e first) t1 ts =
     (from : List Lexeme) × ((mid : List Lexeme) × ((t1 ≡ lexeme.Word word.If ∷ from) × IsExpression 0 from (lexeme.OpenBrace ∷ mid) e × AreStatements mid (lexeme.CloseBrace ∷ lexeme.Word word.Else ∷ lexeme.OpenBrace ∷ ts) first))
 
 -- the block at hand begins at these tokens
-abbrev Encloses : List FunctionTree → List ℕ → List m.Outer → List Lexeme → List Lexeme → Type 0
+abbrev Encloses : List FunctionTree → List ℕ → List m.OpenBlock → List Lexeme → List Lexeme → Type 0
 Encloses fs x [] all ts = Programs fs all (lexeme.Word word.Fn ∷ lexeme.Name x ∷ lexeme.OpenBrace ∷ ts)
 Encloses fs x (o ∷ outer) all ts =
-    (t0 : List Lexeme) × ((t1 : List Lexeme) × (Encloses fs x outer all t0 × AreStatements t0 t1 o.before × Opened o.kind t1 ts))
+    (t0 : List Lexeme) × ((t1 : List Lexeme) × (Encloses fs x outer all t0 × AreStatements t0 t1 o.statements × Opened o.kind t1 ts))
 
-abbrev At : Here → List Lexeme → List Lexeme → Type 0
-At h all ts = (t0 : List Lexeme) × (Encloses h.functions h.name h.outer all t0 × AreStatements t0 ts h.done)
+abbrev At : Position → List Lexeme → List Lexeme → Type 0
+At h all ts = (t0 : List Lexeme) × (Encloses h.functions h.name h.enclosing all t0 × AreStatements t0 ts h.statements)
 
 abbrev begun : Purpose → List Lexeme → List Lexeme
 begun (m.ToLet x) from = lexeme.Word word.Let ∷ lexeme.Name x ∷ lexeme.Equals ∷ from
@@ -82,7 +82,7 @@ indexing m.OfDependences = lexeme.Word word.Depv
 
 -- up to these tokens stands what waits for an operand
 abbrev mutual
-  Waits : Here → List Lexeme → Stack → List Lexeme → Type 0
+  Waits : Position → List Lexeme → Stack → List Lexeme → Type 0
   Waits h all (Bottom p) ts = At h all (begun p ts)
   Waits h all (Left a op k) ts =
       (t0 : List Lexeme) × (Waits h all k t0 × (floor k ≤ level op) × IsExpression (level op) t0 (spelled op ∷ ts) a)
@@ -93,21 +93,21 @@ abbrev mutual
       (t0 : List Lexeme) × (Stands h all a (lexeme.Call c ∷ lexeme.OpenRound ∷ t0) × Before c done (Value ∷ ss) t0 ts)
   Waits h all (Member c done es ss a) ts =
       (t0 : List Lexeme) × (Stands h all a (lexeme.Call c ∷ lexeme.OpenRound ∷ t0) × Joining c done es ss t0 ts)
-  Waits h all (Flag c done a) ts =
+  Waits h all (FlagsArgument c done a) ts =
       (t0 : List Lexeme) × ((ss : List Slot) × (Stands h all a (lexeme.Call c ∷ lexeme.OpenRound ∷ t0) × Before c done (Flags ∷ ss) t0 ts))
 
-  Stands : Here → List Lexeme → Around → List Lexeme → Type 0
-  Stands h all (Within k) ts = Waits h all k ts
-  Stands h all Alone ts = At h all ts
+  Stands : Position → List Lexeme → CallSite → List Lexeme → Type 0
+  Stands h all (InExpression k) ts = Waits h all k ts
+  Stands h all AsStatement ts = At h all ts
 
 -- an expression of these tokens, of each level up to this one
 abbrev UpTo : ℕ → List Lexeme → List Lexeme → Expression → Type 0
 UpTo b t0 ts e = (n : ℕ) → n ≤ b → IsExpression n t0 ts e
 
-abbrev Holds : ℕ → Here → List Lexeme → Stack → List Lexeme → Expression → Type 0
+abbrev Holds : ℕ → Position → List Lexeme → Stack → List Lexeme → Expression → Type 0
 Holds b h all k ts e = (t0 : List Lexeme) × (Waits h all k t0 × UpTo b t0 ts e)
 
-abbrev HoldsLow : ℕ → Here → List Lexeme → List Lexeme → Held → Type 0
+abbrev HoldsLow : ℕ → Position → List Lexeme → List Lexeme → Held → Type 0
 HoldsLow l h all ts held = Holds l h all held.pending ts held.value × (floor held.pending ≤ l)
 
 floor_high : (k : Stack) → floor k ≤ 8
@@ -118,14 +118,14 @@ floor_high (Round k) = omega arith
 floor_high (Index i k) = omega arith
 floor_high (Argument c done ss k) = omega arith
 floor_high (Member c done es ss k) = omega arith
-floor_high (Flag c done k) = omega arith
+floor_high (FlagsArgument c done k) = omega arith
 
-lower : (b l : ℕ) (h : Here) (all : List Lexeme) (k : Stack) (ts : List Lexeme) (e : Expression) → l ≤ b
+lower : (b l : ℕ) (h : Position) (all : List Lexeme) (k : Stack) (ts : List Lexeme) (e : Expression) → l ≤ b
     → Holds b h all k ts e → Holds l h all k ts e
 lower b l h all k ts e small w = (w.0, (w.1.0, λ n low. w.1.1 n (omega arith)))
 
-fold : (l b : ℕ) (h : Here) (all : List Lexeme) (k : Stack) (ts : List Lexeme) (e : Expression) → l ≤ b → floor k ≤ b
-    → Holds b h all k ts e → HoldsLow l h all ts (folded l k e)
+fold : (l b : ℕ) (h : Position) (all : List Lexeme) (k : Stack) (ts : List Lexeme) (e : Expression) → l ≤ b → floor k ≤ b
+    → Holds b h all k ts e → HoldsLow l h all ts (fold_of l k e)
 fold l b h all (Bottom p) ts e small high w = (lower b l h all (Bottom p) ts e small w, omega arith)
 fold l b h all (Left a op k) ts e small high w = cond_both (nat_le l (level op)) _ _ (HoldsLow l h all ts)
     (λ yes1. fold l (level op) h all k ts (tree.Binary op a e) (leb-true l (level op) yes1) w.1.0.1.1
@@ -137,13 +137,13 @@ fold l b h all (Round k) ts e small high w = (lower b l h all (Round k) ts e sma
 fold l b h all (Index i k) ts e small high w = (lower b l h all (Index i k) ts e small w, omega arith)
 fold l b h all (Argument c done ss k) ts e small high w = (lower b l h all (Argument c done ss k) ts e small w, omega arith)
 fold l b h all (Member c done es ss k) ts e small high w = (lower b l h all (Member c done es ss k) ts e small w, omega arith)
-fold l b h all (Flag c done k) ts e small high w = (lower b l h all (Flag c done k) ts e small w, omega arith)
+fold l b h all (FlagsArgument c done k) ts e small high w = (lower b l h all (FlagsArgument c done k) ts e small w, omega arith)
 
 -- in a call whose arguments begin here
-abbrev Calls : Here → Around → CallName → List Lexeme → (List Lexeme → Type 0) → Type 0
+abbrev Calls : Position → CallSite → CallName → List Lexeme → (List Lexeme → Type 0) → Type 0
 Calls h k c all P = (t0 : List Lexeme) × (Stands h all k (lexeme.Call c ∷ lexeme.OpenRound ∷ t0) × P t0)
 
-abbrev Chooses : Here → Expression → Statements → List Lexeme → List Lexeme → Type 0
+abbrev Chooses : Position → Expression → Statements → List Lexeme → List Lexeme → Type 0
 Chooses h e first all ts =
     (from : List Lexeme) × ((mid : List Lexeme) × (At h all (lexeme.Word word.If ∷ from) × IsExpression 0 from (lexeme.OpenBrace ∷ mid) e × AreStatements mid (lexeme.CloseBrace ∷ ts) first))
 
@@ -156,7 +156,7 @@ Reached (m.AtStatement h) all ts = At h all ts
 Reached (m.LetName h) all ts = At h all (lexeme.Word word.Let ∷ ts)
 Reached (m.LetEquals h x) all ts = At h all (lexeme.Word word.Let ∷ lexeme.Name x ∷ ts)
 Reached (m.AssignEquals h x) all ts = At h all (lexeme.Name x ∷ ts)
-Reached (m.Called h c args) all ts =
+Reached (m.AfterCall h c args) all ts =
     (t0 : List Lexeme) × (At h all (lexeme.Call c ∷ lexeme.OpenRound ∷ t0) × AreArguments (shape c) t0 ts args)
 Reached (m.MayElse h e first) all ts = Chooses h e first all ts
 Reached (m.ElseOpen h e first) all ts = Chooses h e first all (lexeme.Word word.Else ∷ ts)
@@ -172,7 +172,7 @@ Reached (m.AfterArgument h c done ss k) all ts = Calls h k c all (λ t0. After c
 Reached (m.OutputAnd h c done k) all ts =
     Calls h k c all (λ t0. (x : List ℕ) (rest : List Lexeme) → ts ≡ lexeme.Operator binary.And ∷ lexeme.Name x ∷ lexeme.CloseRound ∷ rest → AreArguments (shape c) t0 rest (with done (named x empty)))
 Reached (m.OutputName h c done k) all ts = Calls h k c all (λ t0. Naming c done t0 ts)
-Reached (m.Has h k e) all ts = Holds 8 h all k ts e
+Reached (m.AfterOperand h k e) all ts = Holds 8 h all k ts e
 
 abbrev Reaches : Option State → List Lexeme → List Lexeme → Type 0
 Reaches None all ts = Unit {0}
@@ -184,11 +184,11 @@ more_statements _ _ c _ s (g.none b) now = g.more b c c s nothing now (g.none c)
 more_statements _ _ c _ s (g.more a mid b first others one d) now =
     g.more a mid c first (ended_by others s) one (more_statements mid b c others s d now)
 
-one_more : (h : Here) (all ts rest : List Lexeme) (s : Statement) → At h all ts → IsStatement ts rest s
-    → At (m.with_done h s) all rest
-one_more h all ts rest s w now = (w.0, (w.1.0, more_statements w.0 ts rest h.done s w.1.1 now))
+one_more : (h : Position) (all ts rest : List Lexeme) (s : Statement) → At h all ts → IsStatement ts rest s
+    → At (m.with_statement h s) all rest
+one_more h all ts rest s w now = (w.0, (w.1.0, more_statements w.0 ts rest h.statements s w.1.1 now))
 
-operand_reached : (h : Here) (k : Stack) (t : Lexeme) (all ts : List Lexeme) → Waits h all k (t ∷ ts)
+operand_reached : (h : Position) (k : Stack) (t : Lexeme) (all ts : List Lexeme) → Waits h all k (t ∷ ts)
     → Reaches (m.operand h k t) all ts
 operand_reached h k (lexeme.Number n) all ts w = (_, (w, λ l _. g.number l n ts))
 operand_reached h k (lexeme.Constant c) all ts w = (_, (w, λ l _. g.constant l c ts))
@@ -205,8 +205,8 @@ operand_reached h k lexeme.OpenRound all ts w = w
 operand_reached h k (lexeme.Call c) all ts w = w
 operand_reached h k other all ts w = tt
 
-whole_reached : (h : Here) (p : Purpose) (e : Expression) (t : Lexeme) (all from ts : List Lexeme)
-    → At h all (begun p from) → IsExpression 0 from (t ∷ ts) e → Reaches (m.whole h p e t) all ts
+whole_reached : (h : Position) (p : Purpose) (e : Expression) (t : Lexeme) (all from ts : List Lexeme)
+    → At h all (begun p from) → IsExpression 0 from (t ∷ ts) e → Reaches (m.at_expression_end h p e t) all ts
 whole_reached h (m.ToLet x) e lexeme.Semicolon all from ts a d = one_more h all _ ts (tree.Let x e) a (g.bind x from ts e d)
 whole_reached h (m.ToAssign x) e lexeme.Semicolon all from ts a d =
     one_more h all _ ts (tree.Assign x e) a (g.assign x from ts e d)
@@ -223,13 +223,13 @@ args_are : {ss : List Slot} {t0 rest : List Lexeme} {a b : Arguments} → a ≡ 
 args_are {ss = ss} {t0 = t0} {rest = rest} is d = subst (λ (l : Arguments). AreArguments ss t0 rest l) (sym is) d
 
 -- a call is whole
-called_reached : (h : Here) (k : Around) (c : CallName) (args : Arguments) (all t0 ts : List Lexeme)
+called_reached : (h : Position) (k : CallSite) (c : CallName) (args : Arguments) (all t0 ts : List Lexeme)
     → Stands h all k (lexeme.Call c ∷ lexeme.OpenRound ∷ t0) → AreArguments (shape c) t0 ts args
-    → Reached (m.called h c args k) all ts
-called_reached h (Within k) c args all t0 ts w d = (_, (w, λ l _. g.invoked l c t0 ts args d))
-called_reached h Alone c args all t0 ts w d = (t0, (w, d))
+    → Reached (m.after_call h c args k) all ts
+called_reached h (InExpression k) c args all t0 ts w d = (_, (w, λ l _. g.invoked l c t0 ts args d))
+called_reached h AsStatement c args all t0 ts w d = (t0, (w, d))
 
-argument_reached : (h : Here) (k : Around) (c : CallName) (done : Arguments) (ss : List Slot) (all ts : List Lexeme)
+argument_reached : (h : Position) (k : CallSite) (c : CallName) (done : Arguments) (ss : List Slot) (all ts : List Lexeme)
     → Calls h k c all (λ t0. Before c done ss t0 ts) → Reached (m.argument h c done ss k) all ts
 argument_reached h k c done [] all ts w =
     (w.0, (w.1.0, λ rest is. args_are (sym (with_none done)) (w.1.1 rest empty (subst (λ (l : List Lexeme). AreArguments [] l rest empty) (sym is) (g.no_more rest)))))
@@ -238,15 +238,15 @@ argument_reached h k c done (Values ∷ ss) all ts w = w
 argument_reached h k c done (Named ∷ ss) all ts w = w
 argument_reached h k c done (Flags ∷ ss) all ts w = (w.0, (ss, (w.1.0, w.1.1)))
 
-followed_reached : (h : Here) (k : Around) (c : CallName) (done : Arguments) (ss : List Slot) (t : Lexeme)
-    (all ts : List Lexeme) → Calls h k c all (λ t0. After c done ss t0 (t ∷ ts)) → Reaches (m.followed h c done ss k t) all ts
+followed_reached : (h : Position) (k : CallSite) (c : CallName) (done : Arguments) (ss : List Slot) (t : Lexeme)
+    (all ts : List Lexeme) → Calls h k c all (λ t0. After c done ss t0 (t ∷ ts)) → Reaches (m.after_argument h c done ss k t) all ts
 followed_reached h k c done [] lexeme.CloseRound all ts w =
     called_reached h k c done all w.0 ts w.1.0 (args_are (sym (with_none done)) (w.1.1 lexeme.CloseRound ts ts empty refl (g.closes ts)))
 followed_reached h k c done (s ∷ ss) lexeme.Comma all ts w =
     argument_reached h k c done (s ∷ ss) all ts (w.0, (w.1.0, λ rest args d. w.1.1 lexeme.Comma ts rest args refl (g.goes s ss ts rest args d)))
 followed_reached h k c done ss t all ts w = tt
 
-list_reached : (h : Here) (k : Around) (c : CallName) (done : Arguments) (ss : List Slot) (t : Lexeme)
+list_reached : (h : Position) (k : CallSite) (c : CallName) (done : Arguments) (ss : List Slot) (t : Lexeme)
     (all ts : List Lexeme) → Calls h k c all (λ t0. Before c done (Values ∷ ss) t0 (lexeme.OpenSquare ∷ t ∷ ts))
     → Reaches (m.list_start h c done ss k t) all ts
 list_reached h k c done ss lexeme.CloseSquare all ts w = (
@@ -266,14 +266,14 @@ list_reached h k c done ss other all ts w = operand_reached h (Member c done emp
   ),
 )
 
-index_reached : (h : Here) (k : Stack) (i : Indexed) (e : Expression) (all t0 ts : List Lexeme)
+index_reached : (h : Position) (k : Stack) (i : Indexed) (e : Expression) (all t0 ts : List Lexeme)
     → Waits h all k (indexing i ∷ lexeme.OpenSquare ∷ t0) → IsExpression 0 t0 (lexeme.CloseSquare ∷ ts) e
-    → Holds 8 h all k ts (m.indexed i e)
+    → Holds 8 h all k ts (m.element_of i e)
 index_reached h k m.OfParameters e all t0 ts w d = (_, (w, λ l _. g.paramv l t0 ts e d))
 index_reached h k m.OfDependences e all t0 ts w d = (_, (w, λ l _. g.depv l t0 ts e d))
 
-closed_reached : (h : Here) (k : Stack) (e : Expression) (t : Lexeme) (all ts : List Lexeme)
-    → Holds 0 h all k (t ∷ ts) e → Reaches (m.closed h k e t) all ts
+closed_reached : (h : Position) (k : Stack) (e : Expression) (t : Lexeme) (all ts : List Lexeme)
+    → Holds 0 h all k (t ∷ ts) e → Reaches (m.at_operand_end h k e t) all ts
 closed_reached h (Round k) e lexeme.CloseRound all ts w =
     (_, (w.1.0, λ l _. g.parentheses l w.0 ts e (w.1.1 0 (omega arith))))
 closed_reached h (Index i k) e lexeme.CloseSquare all ts w = index_reached h k i e all w.0 ts w.1.0 (w.1.1 0 (omega arith))
@@ -290,9 +290,9 @@ closed_reached h (Member c done es ss k) e lexeme.Comma all ts w =
     (w.1.0.0, (w.1.0.1.0, λ mid others d. subst (λ (l : Arguments). After c (with done (list l empty)) ss w.1.0.0 mid) (sym (with_more es (value e empty) others)) (w.1.0.1.1 mid (value e others) (g.member w.0 ts mid e others (w.1.1 0 (omega arith)) d))))
 closed_reached h (Member c done es ss k) e lexeme.CloseSquare all ts w =
     (w.1.0.0, (w.1.0.1.0, w.1.0.1.1 ts (value e empty) (g.last w.0 ts e (w.1.1 0 (omega arith)))))
-closed_reached h (Flag c done k) e lexeme.CloseRound all ts w =
+closed_reached h (FlagsArgument c done k) e lexeme.CloseRound all ts w =
     called_reached h k c (with done (value e empty)) all w.1.0.0 ts w.1.0.1.1.0 (w.1.0.1.1.1 ts (value e empty) (g.flags w.1.0.1.0 w.0 ts e (w.1.1 0 (omega arith))))
-closed_reached h (Flag c done k) e lexeme.Comma all ts w =
+closed_reached h (FlagsArgument c done k) e lexeme.Comma all ts w =
     (w.1.0.0, (w.1.0.1.1.0, λ x rest is. args_are (with_more done (value e empty) (named x empty)) (w.1.0.1.1.1 rest (value e (named x empty)) (g.output w.1.0.1.0 w.0 rest e x (subst (λ (l : List Lexeme). IsExpression 0 w.0 (lexeme.Comma ∷ l) e) is (w.1.1 0 (omega arith)))))))
 closed_reached h (Bottom p) e t all ts w = whole_reached h p e t all w.0 ts w.1.0 (w.1.1 0 (omega arith))
 closed_reached h other e t all ts w = tt
@@ -304,33 +304,33 @@ operator_is : (t : Lexeme) (op : BinaryOp) → operator t ≡ Some op → t ≡ 
 operator_is (lexeme.Operator o) op is = spelled_some o op is
 operator_is other op is = cc
 
-after_reached : (h : Here) (k : Stack) (e : Expression) (t : Lexeme) (o : Option BinaryOp) (all ts : List Lexeme)
+after_reached : (h : Position) (k : Stack) (e : Expression) (t : Lexeme) (o : Option BinaryOp) (all ts : List Lexeme)
     → operator t ≡ o → Holds 8 h all k (t ∷ ts) e → Reaches (m.after h k e t o) all ts
 after_reached h k e t None all ts is w =
     let f = fold 0 8 h all k (t ∷ ts) e (omega arith) (floor_high k) w in
-    closed_reached h (folded 0 k e).pending (folded 0 k e).value t all ts f.0
+    closed_reached h (fold_of 0 k e).pending (fold_of 0 k e).value t all ts f.0
 after_reached h k e t (Some op) all ts is w =
     let f = fold (level op) 8 h all k (t ∷ ts) e (omega (arith, level_low op)) (floor_high k) w in
-    (f.0.0, (f.0.1.0, f.1, subst (λ (t1 : Lexeme). IsExpression (level op) f.0.0 (t1 ∷ ts) (folded (level op) k e).value) (operator_is t op is) (f.0.1.1 (level op) (omega arith))))
+    (f.0.0, (f.0.1.0, f.1, subst (λ (t1 : Lexeme). IsExpression (level op) f.0.0 (t1 ∷ ts) (fold_of (level op) k e).value) (operator_is t op is) (f.0.1.1 (level op) (omega arith))))
 
-left_reached : (fs : List FunctionTree) (x : List ℕ) (outer : List m.Outer) (before : Statements) (k : m.Kind)
+left_reached : (fs : List FunctionTree) (x : List ℕ) (outer : List m.OpenBlock) (before : Statements) (k : m.BlockKind)
     (body : Statements) (all t0 t1 t2 ts : List Lexeme) → Encloses fs x outer all t0 → AreStatements t0 t1 before
-    → Opened k t1 t2 → AreStatements t2 (lexeme.CloseBrace ∷ ts) body → Reached (m.left fs x outer before k body) all ts
-left_reached fs x outer before (m.Repeated e) body all t0 t1 t2 ts w b o d =
+    → Opened k t1 t2 → AreStatements t2 (lexeme.CloseBrace ∷ ts) body → Reached (m.after_block fs x outer before k body) all ts
+left_reached fs x outer before (m.WhileBody e) body all t0 t1 t2 ts w b o d =
     (t0, (w, more_statements t0 t1 ts before (tree.While e body) b (subst (λ (l : List Lexeme). IsStatement l ts (tree.While e body)) (sym o.1.0) (g.repeat o.0 t2 ts e body o.1.1 d))))
-left_reached fs x outer before (m.First e) body all t0 t1 t2 ts w b o d =
+left_reached fs x outer before (m.IfBody e) body all t0 t1 t2 ts w b o d =
     (o.0, (t2, ((t0, (w, subst (λ (l : List Lexeme). AreStatements t0 l before) o.1.0 b)), o.1.1, d)))
-left_reached fs x outer before (m.Second e first) body all t0 t1 t2 ts w b o d =
+left_reached fs x outer before (m.ElseBody e first) body all t0 t1 t2 ts w b o d =
     (t0, (w, more_statements t0 t1 ts before (tree.If e first body) b (subst (λ (l : List Lexeme). IsStatement l ts (tree.If e first body)) (sym o.1.1.0) (g.choice o.0 o.1.0 t2 ts e first body o.1.1.1 o.1.1.2 d))))
 
-ended_reached : (fs : List FunctionTree) (x : List ℕ) (outer : List m.Outer) (body : Statements) (all t2 ts : List Lexeme)
-    → Encloses fs x outer all t2 → AreStatements t2 (lexeme.CloseBrace ∷ ts) body → Reached (m.ended fs x outer body) all ts
+ended_reached : (fs : List FunctionTree) (x : List ℕ) (outer : List m.OpenBlock) (body : Statements) (all t2 ts : List Lexeme)
+    → Encloses fs x outer all t2 → AreStatements t2 (lexeme.CloseBrace ∷ ts) body → Reached (m.at_block_end fs x outer body) all ts
 ended_reached fs x [] body all t2 ts w d =
     λ others p. subst (λ (l : List FunctionTree). IsProgram all l) (sym (append_assoc fs (record { name = x; body = body } ∷ []) others)) (w _ (g.function x t2 ts body others d p))
 ended_reached fs x (o ∷ outer) body all t2 ts w d =
-    left_reached fs x outer o.before o.kind body all w.0 w.1.0 t2 ts w.1.1.0 w.1.1.1 w.1.1.2 d
+    left_reached fs x outer o.statements o.kind body all w.0 w.1.0 t2 ts w.1.1.0 w.1.1.1 w.1.1.2 d
 
-statement_reached : (h : Here) (t : Lexeme) (all ts : List Lexeme) → At h all (t ∷ ts) → Reaches (m.at_statement h t) all ts
+statement_reached : (h : Position) (t : Lexeme) (all ts : List Lexeme) → At h all (t ∷ ts) → Reaches (m.at_statement h t) all ts
 statement_reached h (lexeme.Word word.Let) all ts a = a
 statement_reached h (lexeme.Word word.If) all ts a = a
 statement_reached h (lexeme.Word word.While) all ts a = a
@@ -338,19 +338,19 @@ statement_reached h (lexeme.Word word.Print) all ts a = a
 statement_reached h (lexeme.Word word.Return) all ts a = a
 statement_reached h (lexeme.Name x) all ts a = a
 statement_reached h (lexeme.Call c) all ts a = a
-statement_reached h lexeme.CloseBrace all ts a = ended_reached h.functions h.name h.outer h.done all a.0 ts a.1.0 a.1.1
+statement_reached h lexeme.CloseBrace all ts a = ended_reached h.functions h.name h.enclosing h.statements all a.0 ts a.1.0 a.1.1
 statement_reached h other all ts a = tt
 
-chosen : (h : Here) (e : Expression) (first : Statements) (all ts : List Lexeme) → Chooses h e first all ts
-    → At (m.with_done h (tree.If e first nothing)) all ts
+chosen : (h : Position) (e : Expression) (first : Statements) (all ts : List Lexeme) → Chooses h e first all ts
+    → At (m.with_statement h (tree.If e first nothing)) all ts
 chosen h e first all ts w =
     one_more h all _ ts (tree.If e first nothing) w.1.1.0 (g.when w.0 w.1.0 ts e first w.1.1.1 w.1.1.2)
 
-choice_reached : (h : Here) (e : Expression) (first : Statements) (t : Lexeme) (all ts : List Lexeme)
+choice_reached : (h : Position) (e : Expression) (first : Statements) (t : Lexeme) (all ts : List Lexeme)
     → Chooses h e first all (t ∷ ts) → Reaches (m.may_else h e first t) all ts
 choice_reached h e first (lexeme.Word word.Else) all ts w = w
 choice_reached h e first other all ts w =
-    statement_reached (m.with_done h (tree.If e first nothing)) other all ts (chosen h e first all (other ∷ ts) w)
+    statement_reached (m.with_statement h (tree.If e first nothing)) other all ts (chosen h e first all (other ∷ ts) w)
 
 pub step_reached : (s : State) (t : Lexeme) (all ts : List Lexeme) → Reached s all (t ∷ ts) → Reaches (step s t) all ts
 step_reached (m.Functions fs) (lexeme.Word word.Fn) all ts w = w
@@ -360,7 +360,7 @@ step_reached (m.AtStatement h) t all ts w = statement_reached h t all ts w
 step_reached (m.LetName h) (lexeme.Name x) all ts w = w
 step_reached (m.LetEquals h x) lexeme.Equals all ts w = w
 step_reached (m.AssignEquals h x) lexeme.Equals all ts w = w
-step_reached (m.Called h c args) lexeme.Semicolon all ts w =
+step_reached (m.AfterCall h c args) lexeme.Semicolon all ts w =
     one_more h all _ ts (tree.Do c args) w.1.0 (g.perform c w.0 ts args w.1.1)
 step_reached (m.MayElse h e first) t all ts w = choice_reached h e first t all ts w
 step_reached (m.ElseOpen h e first) lexeme.OpenBrace all ts w =
@@ -386,7 +386,7 @@ step_reached (m.OutputAnd h c done k) (lexeme.Operator binary.And) all ts w =
     (w.0, (w.1.0, λ x rest is. w.1.1 x rest (ap (λ (l : List Lexeme). lexeme.Operator binary.And ∷ l) is)))
 step_reached (m.OutputName h c done k) (lexeme.Name x) all ts w =
     (w.0, (w.1.0, λ rest is. w.1.1 x rest (ap (λ (l : List Lexeme). lexeme.Name x ∷ l) is)))
-step_reached (m.Has h k e) t all ts w = after_reached h k e t (operator t) all ts refl w
+step_reached (m.AfterOperand h k e) t all ts w = after_reached h k e t (operator t) all ts refl w
 step_reached other t all ts w = tt
 
 pub reads_reached : (o : Option State) (all ts : List Lexeme) → Reaches o all ts → Reaches (reads o ts) all []

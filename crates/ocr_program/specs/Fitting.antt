@@ -24,11 +24,14 @@ fits ss args = false
 
 -- with what fits these slots behind them, the arguments fit the call
 abbrev pub LeadsTo : CallName → Arguments → List Slot → Type 0
-LeadsTo c done ss = (args : Arguments) → fits ss args ≡ true → fits (shape c) (with done args) ≡ true
+LeadsTo c done ss =
+    (args : Arguments) → fits ss args ≡ true → fits (shape c) (with done args) ≡ true
 
 -- the same for the flags, and for what may stand behind them
 abbrev pub LeadsToFlags : CallName → Arguments → Type 0
-LeadsToFlags c done = (e : Expression) (args : Arguments) → is_output args ≡ true → fits (shape c) (with done (value e args)) ≡ true
+LeadsToFlags c done =
+    (e : Expression) (args : Arguments) → is_output args ≡ true
+    → fits (shape c) (with done (value e args)) ≡ true
 
 abbrev pub LeadsToOutput : CallName → Arguments → Type 0
 LeadsToOutput c done = (x : List ℕ) → fits (shape c) (with done (named x empty)) ≡ true
@@ -40,26 +43,26 @@ abbrev mutual
   IsFitting (m.Prefix op k) = IsFitting k
   IsFitting (m.Round k) = IsFitting k
   IsFitting (m.Index i k) = IsFitting k
-  IsFitting (m.Argument c done ss k) = LeadsTo c done (Value ∷ ss) × IsFittingAround k
-  IsFitting (m.Member c done es ss k) = LeadsTo c done (Values ∷ ss) × IsFittingAround k
-  IsFitting (m.Flag c done k) = LeadsToFlags c done × IsFittingAround k
+  IsFitting (m.Argument c done ss k) = LeadsTo c done (Value ∷ ss) × IsFittingSite k
+  IsFitting (m.Member c done es ss k) = LeadsTo c done (Values ∷ ss) × IsFittingSite k
+  IsFitting (m.FlagsArgument c done k) = LeadsToFlags c done × IsFittingSite k
 
-  pub IsFittingAround : m.Around → Type 0
-  IsFittingAround (m.Within k) = IsFitting k
-  IsFittingAround m.Alone = Unit {0}
+  pub IsFittingSite : m.CallSite → Type 0
+  IsFittingSite (m.InExpression k) = IsFitting k
+  IsFittingSite m.AsStatement = Unit {0}
 
 abbrev pub IsFittingState : m.State → Type 0
 IsFittingState (m.Operand h k) = IsFitting k
 IsFittingState (m.IndexOpen h i k) = IsFitting k
-IsFittingState (m.CallOpen h c k) = IsFittingAround k
-IsFittingState (m.CallEnd h c done k) = (fits (shape c) done ≡ true) × IsFittingAround k
-IsFittingState (m.ListOpen h c done ss k) = LeadsTo c done (Values ∷ ss) × IsFittingAround k
-IsFittingState (m.ListStart h c done ss k) = LeadsTo c done (Values ∷ ss) × IsFittingAround k
-IsFittingState (m.NameAt h c done ss k) = LeadsTo c done (Named ∷ ss) × IsFittingAround k
-IsFittingState (m.AfterArgument h c done ss k) = LeadsTo c done ss × IsFittingAround k
-IsFittingState (m.OutputAnd h c done k) = LeadsToOutput c done × IsFittingAround k
-IsFittingState (m.OutputName h c done k) = LeadsToOutput c done × IsFittingAround k
-IsFittingState (m.Has h k e) = IsFitting k
+IsFittingState (m.CallOpen h c k) = IsFittingSite k
+IsFittingState (m.CallEnd h c done k) = (fits (shape c) done ≡ true) × IsFittingSite k
+IsFittingState (m.ListOpen h c done ss k) = LeadsTo c done (Values ∷ ss) × IsFittingSite k
+IsFittingState (m.ListStart h c done ss k) = LeadsTo c done (Values ∷ ss) × IsFittingSite k
+IsFittingState (m.NameAt h c done ss k) = LeadsTo c done (Named ∷ ss) × IsFittingSite k
+IsFittingState (m.AfterArgument h c done ss k) = LeadsTo c done ss × IsFittingSite k
+IsFittingState (m.OutputAnd h c done k) = LeadsToOutput c done × IsFittingSite k
+IsFittingState (m.OutputName h c done k) = LeadsToOutput c done × IsFittingSite k
+IsFittingState (m.AfterOperand h k e) = IsFitting k
 IsFittingState other = Unit {0}
 
 abbrev pub IsFittingIfAny : Option m.State → Type 0

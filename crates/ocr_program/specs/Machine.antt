@@ -1,4 +1,6 @@
--- One reading of the tokens, from left to right: a state of what was read, and the step by one token.
+-- The parser written again over plain trees. It is no part of what has to be trusted: no clause of
+-- `parse` reaches it. The code is compared with it, and it with the grammar. A state says what was
+-- read, and a step takes one token.
 use Rattle.std.specs.Prelude.{ℕ, List, [], ◌∷◌, ◌++◌, Option, Some, None, if◌then◌else◌, nat_le}
 use Rattle.ocr_tree.specs.declared.tree.UnaryOp.{UnaryOp}
 use Rattle.ocr_tree.specs.declared.tree.UnaryOp.TheVariants as unary
@@ -40,58 +42,64 @@ mutual
     Round : Stack → Stack
     Index : Indexed → Stack → Stack
     -- an argument of a call: the arguments before it, the slots after it
-    Argument : (c : CallName) (done : Arguments) (slots : List Slot) → Around → Stack
-    Member : (c : CallName) (done members : Arguments) (slots : List Slot) → Around → Stack
-    Flag : (c : CallName) (done : Arguments) → Around → Stack
+    Argument : (c : CallName) (done : Arguments) (slots : List Slot) → CallSite → Stack
+    Member : (c : CallName) (done members : Arguments) (slots : List Slot) → CallSite → Stack
+    FlagsArgument : (c : CallName) (done : Arguments) → CallSite → Stack
 
   -- where a call stands: in an expression, or as a statement
-  pub data Around : Type 0 where
-    Within : Stack → Around
-    Alone : Around
+  pub data CallSite : Type 0 where
+    InExpression : Stack → CallSite
+    AsStatement : CallSite
 
 -- what a block is for
-pub data Kind : Type 0 where
-  Repeated : (test : Expression) → Kind
-  First : (test : Expression) → Kind
-  Second : (test : Expression) (first : Statements) → Kind
+pub data BlockKind : Type 0 where
+  WhileBody : (test : Expression) → BlockKind
+  IfBody : (test : Expression) → BlockKind
+  ElseBody : (test : Expression) (first : Statements) → BlockKind
 
 -- a block in which the block at hand stands: its statements so far, and what the inner one is for
-pub record Outer : Type 0 where
-  pub before : Statements
-  pub kind : Kind
+pub record OpenBlock : Type 0 where
+  pub statements : Statements
+  pub kind : BlockKind
 
--- the place in a function: the functions before, its name, the blocks around, the statements so far
-pub record Here : Type 0 where
+-- the place in a function: the functions before, its name, the blocks around the one at hand, and
+-- its statements so far
+pub record Position : Type 0 where
   pub functions : List FunctionTree
   pub name : List ℕ
-  pub outer : List Outer
-  pub done : Statements
+  pub enclosing : List OpenBlock
+  pub statements : Statements
 
 pub data State : Type 0 where
   Functions : (functions : List FunctionTree) → State
   FunctionName : (functions : List FunctionTree) → State
   FunctionOpen : (functions : List FunctionTree) (name : List ℕ) → State
-  AtStatement : Here → State
-  LetName : Here → State
-  LetEquals : Here → (name : List ℕ) → State
-  AssignEquals : Here → (name : List ℕ) → State
-  Called : Here → CallName → Arguments → State
-  MayElse : Here → (test : Expression) (first : Statements) → State
-  ElseOpen : Here → (test : Expression) (first : Statements) → State
-  Operand : Here → Stack → State
-  IndexOpen : Here → Indexed → Stack → State
-  CallOpen : Here → CallName → Around → State
-  CallEnd : Here → CallName → Arguments → Around → State
-  ListOpen : Here → CallName → Arguments → List Slot → Around → State
-  ListStart : Here → CallName → Arguments → List Slot → Around → State
-  NameAt : Here → CallName → Arguments → List Slot → Around → State
-  AfterArgument : Here → CallName → Arguments → List Slot → Around → State
-  OutputAnd : Here → CallName → Arguments → Around → State
-  OutputName : Here → CallName → Arguments → Around → State
-  Has : Here → Stack → Expression → State
+  AtStatement : Position → State
+  LetName : Position → State
+  LetEquals : Position → (name : List ℕ) → State
+  AssignEquals : Position → (name : List ℕ) → State
+  AfterCall : Position → CallName → Arguments → State
+  MayElse : Position → (test : Expression) (first : Statements) → State
+  ElseOpen : Position → (test : Expression) (first : Statements) → State
+  Operand : Position → Stack → State
+  IndexOpen : Position → Indexed → Stack → State
+  CallOpen : Position → CallName → CallSite → State
+  CallEnd : Position → CallName → Arguments → CallSite → State
+  ListOpen : Position → CallName → Arguments → List Slot → CallSite → State
+  ListStart : Position → CallName → Arguments → List Slot → CallSite → State
+  NameAt : Position → CallName → Arguments → List Slot → CallSite → State
+  AfterArgument : Position → CallName → Arguments → List Slot → CallSite → State
+  OutputAnd : Position → CallName → Arguments → CallSite → State
+  OutputName : Position → CallName → Arguments → CallSite → State
+  AfterOperand : Position → Stack → Expression → State
 
-abbrev pub with_done : Here → Statement → Here
-with_done h s = record { functions = h.functions; name = h.name; outer = h.outer; done = ended_by h.done s }
+abbrev pub with_statement : Position → Statement → Position
+with_statement h s = record {
+  functions = h.functions;
+  name = h.name;
+  enclosing = h.enclosing;
+  statements = ended_by h.statements s;
+}
 
 -- an expression with what still waits for it
 pub record Held : Type 0 where
@@ -99,183 +107,202 @@ pub record Held : Type 0 where
   pub value : Expression
 
 -- what binds as close as this level is put together
-abbrev pub folded : ℕ → Stack → Expression → Held
-folded l (Bottom p) e = record { pending = Bottom p; value = e }
-folded l (Left a op k) e =
-    if nat_le l (level op) then folded l k (tree.Binary op a e) else record { pending = Left a op k; value = e }
-folded l (Prefix op k) e = folded l k (tree.Unary op e)
-folded l (Round k) e = record { pending = Round k; value = e }
-folded l (Index i k) e = record { pending = Index i k; value = e }
-folded l (Argument c done ss k) e = record { pending = Argument c done ss k; value = e }
-folded l (Member c done es ss k) e = record { pending = Member c done es ss k; value = e }
-folded l (Flag c done k) e = record { pending = Flag c done k; value = e }
+abbrev pub fold_of : ℕ → Stack → Expression → Held
+fold_of l (Bottom p) e = record { pending = Bottom p; value = e }
+fold_of l (Left a op k) e =
+    if nat_le l (level op) then fold_of l k (tree.Binary op a e)
+    else record { pending = Left a op k; value = e }
+fold_of l (Prefix op k) e = fold_of l k (tree.Unary op e)
+fold_of l (Round k) e = record { pending = Round k; value = e }
+fold_of l (Index i k) e = record { pending = Index i k; value = e }
+fold_of l (Argument c done ss k) e = record { pending = Argument c done ss k; value = e }
+fold_of l (Member c done es ss k) e = record { pending = Member c done es ss k; value = e }
+fold_of l (FlagsArgument c done k) e = record { pending = FlagsArgument c done k; value = e }
 
 abbrev pub operator : Lexeme → Option BinaryOp
 operator (lexeme.Operator op) = Some op
 operator other = None
 
 -- a block begins
-abbrev pub inside : Here → Kind → State
-inside h k =
+abbrev pub block_start : Position → BlockKind → State
+block_start h k =
     AtStatement (record {
       functions = h.functions;
       name = h.name;
-      outer = record { before = h.done; kind = k } ∷ h.outer;
-      done = nothing;
+      enclosing = record { statements = h.statements; kind = k } ∷ h.enclosing;
+      statements = nothing;
     })
 
 -- a statement that ends with a semicolon, and the token after it
-abbrev pub at_semicolon : Here → Statement → Lexeme → Option State
-at_semicolon h s lexeme.Semicolon = Some (AtStatement (with_done h s))
+abbrev pub at_semicolon : Position → Statement → Lexeme → Option State
+at_semicolon h s lexeme.Semicolon = Some (AtStatement (with_statement h s))
 at_semicolon h s other = None
 
 -- what stands before a block, and the token after it
-abbrev pub at_brace : Here → Kind → Lexeme → Option State
-at_brace h k lexeme.OpenBrace = Some (inside h k)
+abbrev pub at_brace : Position → BlockKind → Lexeme → Option State
+at_brace h k lexeme.OpenBrace = Some (block_start h k)
 at_brace h k other = None
 
 -- a whole expression, and the token after it
-abbrev pub whole : Here → Purpose → Expression → Lexeme → Option State
-whole h (ToLet x) e t = at_semicolon h (tree.Let x e) t
-whole h (ToAssign x) e t = at_semicolon h (tree.Assign x e) t
-whole h ToTest e t = at_brace h (First e) t
-whole h ToRepeat e t = at_brace h (Repeated e) t
-whole h ToPrint e t = at_semicolon h (tree.Print e) t
-whole h ToReturn e t = at_semicolon h (tree.Return e) t
+abbrev pub at_expression_end : Position → Purpose → Expression → Lexeme → Option State
+at_expression_end h (ToLet x) e t = at_semicolon h (tree.Let x e) t
+at_expression_end h (ToAssign x) e t = at_semicolon h (tree.Assign x e) t
+at_expression_end h ToTest e t = at_brace h (IfBody e) t
+at_expression_end h ToRepeat e t = at_brace h (WhileBody e) t
+at_expression_end h ToPrint e t = at_semicolon h (tree.Print e) t
+at_expression_end h ToReturn e t = at_semicolon h (tree.Return e) t
 
-abbrev pub indexed : Indexed → Expression → Expression
-indexed OfParameters e = tree.Paramv e
-indexed OfDependences e = tree.Depv e
+abbrev pub element_of : Indexed → Expression → Expression
+element_of OfParameters e = tree.Paramv e
+element_of OfDependences e = tree.Depv e
 
 -- a call is whole
-abbrev pub called : Here → CallName → Arguments → Around → State
-called h c args (Within k) = Has h k (tree.Invoked c args)
-called h c args Alone = Called h c args
+abbrev pub after_call : Position → CallName → Arguments → CallSite → State
+after_call h c args (InExpression k) = AfterOperand h k (tree.Invoked c args)
+after_call h c args AsStatement = AfterCall h c args
 
 -- an argument of the first slot begins
-abbrev pub argument : Here → CallName → Arguments → List Slot → Around → State
+abbrev pub argument : Position → CallName → Arguments → List Slot → CallSite → State
 argument h c done [] k = CallEnd h c done k
 argument h c done (Value ∷ ss) k = Operand h (Argument c done ss k)
 argument h c done (Values ∷ ss) k = ListOpen h c done ss k
 argument h c done (Named ∷ ss) k = NameAt h c done ss k
-argument h c done (Flags ∷ ss) k = Operand h (Flag c done k)
+argument h c done (Flags ∷ ss) k = Operand h (FlagsArgument c done k)
 
 -- the token after the last argument
-abbrev pub at_end : Here → CallName → Arguments → Around → Lexeme → Option State
-at_end h c done k lexeme.CloseRound = Some (called h c done k)
+abbrev pub at_end : Position → CallName → Arguments → CallSite → Lexeme → Option State
+at_end h c done k lexeme.CloseRound = Some (after_call h c done k)
 at_end h c done k other = None
 
 -- the token after another argument
-abbrev pub at_comma : Here → CallName → Arguments → List Slot → Around → Lexeme → Option State
+abbrev pub at_comma : Position → CallName → Arguments → List Slot → CallSite → Lexeme → Option State
 at_comma h c done ss k lexeme.Comma = Some (argument h c done ss k)
 at_comma h c done ss k other = None
 
 -- the token after an argument
-abbrev pub followed : Here → CallName → Arguments → List Slot → Around → Lexeme → Option State
-followed h c done [] k t = at_end h c done k t
-followed h c done (s ∷ ss) k t = at_comma h c done (s ∷ ss) k t
+abbrev pub after_argument : Position → CallName → Arguments → List Slot → CallSite → Lexeme
+    → Option State
+after_argument h c done [] k t = at_end h c done k t
+after_argument h c done (s ∷ ss) k t = at_comma h c done (s ∷ ss) k t
 
 -- the token after a member of a list
-abbrev pub after_member : Here → CallName → Arguments → Arguments → List Slot → Around → Lexeme → Option State
+abbrev pub after_member : Position → CallName → Arguments → Arguments → List Slot → CallSite
+    → Lexeme → Option State
 after_member h c done es ss k lexeme.Comma = Some (Operand h (Member c done es ss k))
-after_member h c done es ss k lexeme.CloseSquare = Some (AfterArgument h c (with done (list es empty)) ss k)
+after_member h c done es ss k lexeme.CloseSquare =
+    Some (AfterArgument h c (with done (list es empty)) ss k)
 after_member h c done es ss k other = None
 
 -- the token after the flags of a call
-abbrev pub after_flags : Here → CallName → Arguments → Around → Lexeme → Option State
-after_flags h c done k lexeme.CloseRound = Some (called h c done k)
+abbrev pub after_flags : Position → CallName → Arguments → CallSite → Lexeme → Option State
+after_flags h c done k lexeme.CloseRound = Some (after_call h c done k)
 after_flags h c done k lexeme.Comma = Some (OutputAnd h c done k)
 after_flags h c done k other = None
 
 -- an expression in brackets or a whole one, and the token after it
-abbrev pub closed : Here → Stack → Expression → Lexeme → Option State
-closed h (Round k) e lexeme.CloseRound = Some (Has h k e)
-closed h (Index i k) e lexeme.CloseSquare = Some (Has h k (indexed i e))
-closed h (Argument c done ss k) e t = followed h c (with done (value e empty)) ss k t
-closed h (Member c done es ss k) e t = after_member h c done (with es (value e empty)) ss k t
-closed h (Flag c done k) e t = after_flags h c (with done (value e empty)) k t
-closed h (Bottom p) e t = whole h p e t
-closed h other e t = None
+abbrev pub at_operand_end : Position → Stack → Expression → Lexeme → Option State
+at_operand_end h (Round k) e lexeme.CloseRound = Some (AfterOperand h k e)
+at_operand_end h (Index i k) e lexeme.CloseSquare = Some (AfterOperand h k (element_of i e))
+at_operand_end h (Argument c done ss k) e t = after_argument h c (with done (value e empty)) ss k t
+at_operand_end h (Member c done es ss k) e t =
+    after_member h c done (with es (value e empty)) ss k t
+at_operand_end h (FlagsArgument c done k) e t = after_flags h c (with done (value e empty)) k t
+at_operand_end h (Bottom p) e t = at_expression_end h p e t
+at_operand_end h other e t = None
 
-abbrev pub infixed : Here → BinaryOp → Held → State
-infixed h op held = Operand h (Left held.value op held.pending)
+abbrev pub at_right_operand : Position → BinaryOp → Held → State
+at_right_operand h op held = Operand h (Left held.value op held.pending)
 
-abbrev pub after : Here → Stack → Expression → Lexeme → Option BinaryOp → Option State
-after h k e t (Some op) = Some (infixed h op (folded (level op) k e))
-after h k e t None = closed h (folded 0 k e).pending (folded 0 k e).value t
+abbrev pub after : Position → Stack → Expression → Lexeme → Option BinaryOp → Option State
+after h k e t (Some op) = Some (at_right_operand h op (fold_of (level op) k e))
+after h k e t None = at_operand_end h (fold_of 0 k e).pending (fold_of 0 k e).value t
 
-abbrev pub operand : Here → Stack → Lexeme → Option State
-operand h k (lexeme.Number n) = Some (Has h k (tree.Number n))
-operand h k (lexeme.Constant c) = Some (Has h k (tree.Named c))
-operand h k (lexeme.Name x) = Some (Has h k (tree.Var x))
-operand h k (lexeme.Word word.Paramc) = Some (Has h k tree.Paramc)
-operand h k (lexeme.Word word.Depc) = Some (Has h k tree.Depc)
-operand h k (lexeme.Word word.Code) = Some (Has h k tree.LastCode)
+abbrev pub operand : Position → Stack → Lexeme → Option State
+operand h k (lexeme.Number n) = Some (AfterOperand h k (tree.Number n))
+operand h k (lexeme.Constant c) = Some (AfterOperand h k (tree.Named c))
+operand h k (lexeme.Name x) = Some (AfterOperand h k (tree.Var x))
+operand h k (lexeme.Word word.Paramc) = Some (AfterOperand h k tree.Paramc)
+operand h k (lexeme.Word word.Depc) = Some (AfterOperand h k tree.Depc)
+operand h k (lexeme.Word word.Code) = Some (AfterOperand h k tree.LastCode)
 operand h k (lexeme.Word word.Paramv) = Some (IndexOpen h OfParameters k)
 operand h k (lexeme.Word word.Depv) = Some (IndexOpen h OfDependences k)
 operand h k lexeme.Not = Some (Operand h (Prefix unary.Not k))
 operand h k lexeme.Invert = Some (Operand h (Prefix unary.Invert k))
 operand h k (lexeme.Operator binary.Sub) = Some (Operand h (Prefix unary.Minus k))
 operand h k lexeme.OpenRound = Some (Operand h (Round k))
-operand h k (lexeme.Call c) = Some (CallOpen h c (Within k))
+operand h k (lexeme.Call c) = Some (CallOpen h c (InExpression k))
 operand h k other = None
 
 -- the first token after the opening bracket of a list
-abbrev pub list_start : Here → CallName → Arguments → List Slot → Around → Lexeme → Option State
-list_start h c done ss k lexeme.CloseSquare = Some (AfterArgument h c (with done (list empty empty)) ss k)
+abbrev pub list_start : Position → CallName → Arguments → List Slot → CallSite → Lexeme
+    → Option State
+list_start h c done ss k lexeme.CloseSquare =
+    Some (AfterArgument h c (with done (list empty empty)) ss k)
 list_start h c done ss k other = operand h (Member c done empty ss k) other
 
 -- the statement that a block ends
-abbrev pub left : List FunctionTree → List ℕ → List Outer → Statements → Kind → Statements → State
-left fs x outer before (Repeated e) body =
-    AtStatement (record { functions = fs; name = x; outer = outer; done = ended_by before (tree.While e body) })
-left fs x outer before (First e) body =
-    MayElse (record { functions = fs; name = x; outer = outer; done = before }) e body
-left fs x outer before (Second e first) body =
-    AtStatement (record { functions = fs; name = x; outer = outer; done = ended_by before (tree.If e first body) })
+abbrev pub after_block : List FunctionTree → List ℕ → List OpenBlock → Statements → BlockKind
+    → Statements → State
+after_block fs x outer before (WhileBody e) body =
+    AtStatement (record {
+      functions = fs;
+      name = x;
+      enclosing = outer;
+      statements = ended_by before (tree.While e body);
+    })
+after_block fs x outer before (IfBody e) body =
+    MayElse (record { functions = fs; name = x; enclosing = outer; statements = before }) e body
+after_block fs x outer before (ElseBody e first) body =
+    AtStatement (record {
+      functions = fs;
+      name = x;
+      enclosing = outer;
+      statements = ended_by before (tree.If e first body);
+    })
 
-abbrev pub ended : List FunctionTree → List ℕ → List Outer → Statements → State
-ended fs x [] body = Functions (fs ++ record { name = x; body = body } ∷ [])
-ended fs x (o ∷ outer) body = left fs x outer o.before o.kind body
+abbrev pub at_block_end : List FunctionTree → List ℕ → List OpenBlock → Statements → State
+at_block_end fs x [] body = Functions (fs ++ record { name = x; body = body } ∷ [])
+at_block_end fs x (o ∷ outer) body = after_block fs x outer o.statements o.kind body
 
-abbrev pub at_statement : Here → Lexeme → Option State
+abbrev pub at_statement : Position → Lexeme → Option State
 at_statement h (lexeme.Word word.Let) = Some (LetName h)
 at_statement h (lexeme.Word word.If) = Some (Operand h (Bottom ToTest))
 at_statement h (lexeme.Word word.While) = Some (Operand h (Bottom ToRepeat))
 at_statement h (lexeme.Word word.Print) = Some (Operand h (Bottom ToPrint))
 at_statement h (lexeme.Word word.Return) = Some (Operand h (Bottom ToReturn))
 at_statement h (lexeme.Name x) = Some (AssignEquals h x)
-at_statement h (lexeme.Call c) = Some (CallOpen h c Alone)
-at_statement h lexeme.CloseBrace = Some (ended h.functions h.name h.outer h.done)
+at_statement h (lexeme.Call c) = Some (CallOpen h c AsStatement)
+at_statement h lexeme.CloseBrace = Some (at_block_end h.functions h.name h.enclosing h.statements)
 at_statement h other = None
 
-abbrev pub may_else : Here → Expression → Statements → Lexeme → Option State
+abbrev pub may_else : Position → Expression → Statements → Lexeme → Option State
 may_else h e first (lexeme.Word word.Else) = Some (ElseOpen h e first)
-may_else h e first other = at_statement (with_done h (tree.If e first nothing)) other
+may_else h e first other = at_statement (with_statement h (tree.If e first nothing)) other
 
 abbrev pub step : State → Lexeme → Option State
 step (Functions fs) (lexeme.Word word.Fn) = Some (FunctionName fs)
 step (FunctionName fs) (lexeme.Name x) = Some (FunctionOpen fs x)
 step (FunctionOpen fs x) lexeme.OpenBrace =
-    Some (AtStatement (record { functions = fs; name = x; outer = []; done = nothing }))
+    Some (AtStatement (record { functions = fs; name = x; enclosing = []; statements = nothing }))
 step (AtStatement h) t = at_statement h t
 step (LetName h) (lexeme.Name x) = Some (LetEquals h x)
 step (LetEquals h x) lexeme.Equals = Some (Operand h (Bottom (ToLet x)))
 step (AssignEquals h x) lexeme.Equals = Some (Operand h (Bottom (ToAssign x)))
-step (Called h c args) t = at_semicolon h (tree.Do c args) t
+step (AfterCall h c args) t = at_semicolon h (tree.Do c args) t
 step (MayElse h e first) t = may_else h e first t
-step (ElseOpen h e first) t = at_brace h (Second e first) t
+step (ElseOpen h e first) t = at_brace h (ElseBody e first) t
 step (Operand h k) t = operand h k t
 step (IndexOpen h i k) lexeme.OpenSquare = Some (Operand h (Index i k))
 step (CallOpen h c k) lexeme.OpenRound = Some (argument h c empty (shape c) k)
 step (CallEnd h c done k) t = at_end h c done k t
 step (ListOpen h c done ss k) lexeme.OpenSquare = Some (ListStart h c done ss k)
 step (ListStart h c done ss k) t = list_start h c done ss k t
-step (NameAt h c done ss k) (lexeme.Name x) = Some (AfterArgument h c (with done (named x empty)) ss k)
-step (AfterArgument h c done ss k) t = followed h c done ss k t
+step (NameAt h c done ss k) (lexeme.Name x) =
+    Some (AfterArgument h c (with done (named x empty)) ss k)
+step (AfterArgument h c done ss k) t = after_argument h c done ss k t
 step (OutputAnd h c done k) (lexeme.Operator binary.And) = Some (OutputName h c done k)
 step (OutputName h c done k) (lexeme.Name x) = Some (CallEnd h c (with done (named x empty)) k)
-step (Has h k e) t = after h k e t (operator t)
+step (AfterOperand h k e) t = after h k e t (operator t)
 step other t = None
 
 abbrev pub next : Option State → Lexeme → Option State

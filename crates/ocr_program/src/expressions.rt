@@ -1,47 +1,21 @@
 // Expressions: what begins one, what goes on with it, and what ends it.
-ghost use Rattle.std.specs.Prelude.{◌≡◌, ◌∷◌, IfOk, true, slice_get};
+ghost use Rattle.std.specs.Prelude.{◌≡◌, ◌∷◌, IfOk};
 ghost use Rattle.ocr_tree.specs.View.{expression_of, members_of};
-ghost use Rattle.ocr_grammar.specs.Grammar as grammar;
 ghost use Rattle.ocr_tree.specs.Tree as tree;
-ghost use Rattle.ocr_tree.specs.declared.tree.CallName.{CallName};
-ghost use Rattle.ocr_grammar.specs.Shape.{shape as slots_of};
-ghost use Rattle.ocr_grammar.specs.declared.slots.Slot.TheVariants.{Values};
+ghost use Rattle.ocr_grammar.specs.declared.slots.Slot.TheVariants as slot;
 ghost use Rattle.ocr_program.specs.Joined.{with};
 ghost use Rattle.ocr_program.specs.Machine as machine;
-ghost use Rattle.ocr_program.specs.Marks.{is_close_square};
-ghost use Rattle.ocr_program.specs.Fitting.{fits, LeadsTo, IsFitting, IsFittingAround};
-ghost use Rattle.ocr_program.specs.View.{IsPushed, given_of, slots_left, slots_after, stack_of, around_of, held_of, here_of, purpose_of, indexed_of, state_of, seen};
+ghost use Rattle.ocr_program.specs.Fitting.{LeadsTo, LeadsToFlags, IsFitting};
+ghost use Rattle.ocr_program.specs.View.{args_of, slots_after, stack_of, site_of, held_of, position_of, indexed_of, state_of, state_if_any};
 
-use crate::invoking::invoke;
-use crate::statements::whole;
-use crate::states::{Arg, Around, Here, Indexed, Purpose, Stack, State};
-use ocr_tree::{BinaryOp, CallName, Expr, Name, UnaryOp};
-use ocr_grammar::{Lexeme, Slot, Word, shape};
+use crate::calls::{after_argument, after_flags, after_member, with_member, with_value};
+use crate::statements::at_expression_end;
+use crate::states::{Arg, CallSite, Indexed, Position, Stack, State, Wanted};
+use ocr_grammar::{Lexeme, Word, level};
+use ocr_tree::{BinaryOp, CallName, Expr, UnaryOp};
 use std::alloc::{AllocError, Global};
 
-fn level(op: BinaryOp) -> u32
-    ensures { result ≡ grammar.level op }
-{
-    match op {
-        BinaryOp::Or => 0,
-        BinaryOp::Xor => 1,
-        BinaryOp::And => 2,
-        BinaryOp::Eq => 3,
-        BinaryOp::Ne => 3,
-        BinaryOp::Lt => 4,
-        BinaryOp::Le => 4,
-        BinaryOp::Gt => 4,
-        BinaryOp::Ge => 4,
-        BinaryOp::Shl => 5,
-        BinaryOp::Shr => 5,
-        BinaryOp::Add => 6,
-        BinaryOp::Sub => 6,
-        BinaryOp::Mul => 7,
-        BinaryOp::Div => 7,
-        BinaryOp::Rem => 7,
-    }
-}
-
+/// The operator between two operands that a token is, if it is one.
 fn operator(lexeme: &Lexeme) -> Option<BinaryOp>
     ensures { result ≡ machine.operator lexeme.now }
 {
@@ -51,382 +25,318 @@ fn operator(lexeme: &Lexeme) -> Option<BinaryOp>
     }
 }
 
-// Puts together what binds as close as this level.
-fn fold(alloc: Global, low: u32, stack: Stack, value: Expr) -> Result<(Stack, Expr), AllocError>
-    ensures { IfOk result (λ r. held_of r.0 r.1 ≡ machine.folded low (stack_of stack) (expression_of value)) }
+fn binary(
+    alloc: Global,
+    op: BinaryOp,
+    left: Box<Expr>,
+    right: Box<Expr>,
+) -> Result<Box<Expr>, AllocError>
+    ensures { IfOk result (λ e. expression_of e.value
+        ≡ tree.Binary op (expression_of left.value) (expression_of right.value)) }
+{
+    Ok(Box::new(alloc, Expr::Binary(op, left, right))?)
+}
+
+fn unary(alloc: Global, op: UnaryOp, operand: Box<Expr>) -> Result<Box<Expr>, AllocError>
+    ensures { IfOk result
+        (λ e. expression_of e.value ≡ tree.Unary op (expression_of operand.value)) }
+{
+    Ok(Box::new(alloc, Expr::Unary(op, operand))?)
+}
+
+/// Puts together what binds as close as this level.
+fn fold(
+    alloc: Global,
+    low: u8,
+    stack: Stack,
+    operand: Box<Expr>,
+) -> Result<(Stack, Box<Expr>), AllocError>
+    ensures { IfOk result (λ r. held_of r.0 r.1.value
+        ≡ machine.fold_of low (stack_of stack) (expression_of operand.value)) }
 {
     let mut stack = stack;
-    let mut value = value;
+    let mut operand = operand;
     loop {
         match stack {
-            Stack::Left(a, op, below) => {
+            Stack::Left(left, op, below) => {
                 if level(op) < low {
-                    return Ok((Stack::Left(a, op, below), value));
+                    return Ok((Stack::Left(left, op, below), operand));
                 }
-                value = Expr::Binary(op, Box::new(alloc, a)?, Box::new(alloc, value)?);
+                operand = binary(alloc, op, left, operand)?;
                 stack = Box::into_inner(below);
             }
             Stack::Prefix(op, below) => {
-                value = Expr::Unary(op, Box::new(alloc, value)?);
+                operand = unary(alloc, op, operand)?;
                 stack = Box::into_inner(below);
             }
-            Stack::Bottom(purpose) => return Ok((Stack::Bottom(purpose), value)),
-            Stack::Round(below) => return Ok((Stack::Round(below), value)),
-            Stack::Index(which, below) => return Ok((Stack::Index(which, below), value)),
-            Stack::Argument(call, args, around) => {
-                return Ok((Stack::Argument(call, args, around), value));
+            Stack::Bottom(purpose) => return Ok((Stack::Bottom(purpose), operand)),
+            Stack::Round(below) => return Ok((Stack::Round(below), operand)),
+            Stack::Index(which, below) => return Ok((Stack::Index(which, below), operand)),
+            Stack::Argument(call, args, site) => {
+                return Ok((Stack::Argument(call, args, site), operand));
             }
-            Stack::Member(call, args, members, around) => {
-                return Ok((Stack::Member(call, args, members, around), value));
+            Stack::Member(call, args, members, site) => {
+                return Ok((Stack::Member(call, args, members, site), operand));
             }
-            Stack::Flag(call, args, around) => {
-                return Ok((Stack::Flag(call, args, around), value));
+            Stack::FlagsArgument(call, args, site) => {
+                return Ok((Stack::FlagsArgument(call, args, site), operand));
             }
         }
     }
 }
 
+/// The token where an operand may begin.
 pub fn operand(
     alloc: Global,
-    here: Here,
+    position: Position,
     stack: Stack,
     lexeme: Lexeme,
 ) -> Result<Option<State>, AllocError>
-    ensures { IfOk result (λ s. seen s ≡ machine.operand (here_of here) (stack_of stack) lexeme) }
+    ensures { IfOk result
+        (λ s. state_if_any s ≡ machine.operand (position_of position) (stack_of stack) lexeme) }
 {
     match lexeme {
-        Lexeme::Number(number) => Ok(Some(State::Has(here, stack, Expr::Number(number)))),
-        Lexeme::Constant(constant) => Ok(Some(State::Has(here, stack, Expr::Constant(constant)))),
-        Lexeme::Name(name) => Ok(Some(State::Has(here, stack, Expr::Var(name)))),
-        Lexeme::Word(word) => Ok(word_operand(here, stack, word)),
-        Lexeme::Not => prefix(alloc, here, stack, UnaryOp::Not),
-        Lexeme::Invert => prefix(alloc, here, stack, UnaryOp::Invert),
-        Lexeme::Operator(BinaryOp::Sub) => prefix(alloc, here, stack, UnaryOp::Minus),
-        Lexeme::OpenRound => {
-            let below = Box::new(alloc, stack)?;
-            Ok(Some(State::Operand(here, Stack::Round(below))))
-        }
-        Lexeme::Call(call) => {
-            let below = Box::new(alloc, stack)?;
-            Ok(Some(State::CallOpen(here, call, Around::Within(below))))
-        }
+        Lexeme::Number(number) => leaf(alloc, position, stack, Expr::Number(number)),
+        Lexeme::Constant(constant) => leaf(alloc, position, stack, Expr::Constant(constant)),
+        Lexeme::Name(name) => leaf(alloc, position, stack, Expr::Var(name)),
+        Lexeme::Word(word) => word_operand(alloc, position, stack, word),
+        Lexeme::Not => prefix(alloc, position, stack, UnaryOp::Not),
+        Lexeme::Invert => prefix(alloc, position, stack, UnaryOp::Invert),
+        Lexeme::Operator(BinaryOp::Sub) => prefix(alloc, position, stack, UnaryOp::Minus),
+        Lexeme::OpenRound => open_round(alloc, position, stack),
+        Lexeme::Call(call) => open_call(alloc, position, stack, call),
         _ => Ok(None),
     }
 }
 
-fn word_operand(here: Here, stack: Stack, word: Word) -> Option<State>
-    ensures { seen result ≡ machine.operand (here_of here) (stack_of stack) (Lexeme.Word word) }
+/// The state after an operand of one token.
+fn leaf(
+    alloc: Global,
+    position: Position,
+    stack: Stack,
+    leaf: Expr,
+) -> Result<Option<State>, AllocError>
+    ensures { IfOk result (λ s. state_if_any s
+        ≡ Some (machine.AfterOperand (position_of position) (stack_of stack)
+        (expression_of leaf))) }
+{
+    let operand = Box::new(alloc, leaf)?;
+    Ok(Some(State::InFunction(position, Wanted::AfterOperand(stack, operand))))
+}
+
+/// The same where a reserved word stands.
+fn word_operand(
+    alloc: Global,
+    position: Position,
+    stack: Stack,
+    word: Word,
+) -> Result<Option<State>, AllocError>
+    ensures { IfOk result (λ s. state_if_any s
+        ≡ machine.operand (position_of position) (stack_of stack) (Lexeme.Word word)) }
 {
     match word {
-        Word::Paramc => Some(State::Has(here, stack, Expr::Paramc)),
-        Word::Depc => Some(State::Has(here, stack, Expr::Depc)),
-        Word::Code => Some(State::Has(here, stack, Expr::Code)),
-        Word::Paramv => Some(State::IndexOpen(here, Indexed::Parameters, stack)),
-        Word::Depv => Some(State::IndexOpen(here, Indexed::Dependences, stack)),
-        _ => None,
+        Word::Paramc => leaf(alloc, position, stack, Expr::Paramc),
+        Word::Depc => leaf(alloc, position, stack, Expr::Depc),
+        Word::Code => leaf(alloc, position, stack, Expr::Code),
+        Word::Paramv => Ok(Some(index_of(position, stack, Indexed::Parameters))),
+        Word::Depv => Ok(Some(index_of(position, stack, Indexed::Dependences))),
+        _ => Ok(None),
     }
 }
 
-fn prefix(alloc: Global, here: Here, stack: Stack, op: UnaryOp) -> Result<Option<State>, AllocError>
-    ensures { IfOk result
-        (λ s. seen s ≡ Some (machine.Operand (here_of here) (machine.Prefix op (stack_of stack)))) }
+fn index_of(position: Position, stack: Stack, which: Indexed) -> State
+    ensures { state_of result
+        ≡ machine.IndexOpen (position_of position) (indexed_of which) (stack_of stack) }
+{
+    State::InFunction(position, Wanted::IndexOpen(which, stack))
+}
+
+fn prefix(
+    alloc: Global,
+    position: Position,
+    stack: Stack,
+    op: UnaryOp,
+) -> Result<Option<State>, AllocError>
+    ensures { IfOk result (λ s. state_if_any s
+        ≡ Some (machine.Operand (position_of position) (machine.Prefix op (stack_of stack)))) }
 {
     let below = Box::new(alloc, stack)?;
-    Ok(Some(State::Operand(here, Stack::Prefix(op, below))))
+    Ok(Some(State::InFunction(position, Wanted::Operand(Stack::Prefix(op, below)))))
 }
 
-// The slot that comes after these arguments.
-fn next_slot(call: CallName, place: usize) -> Option<Slot>
-    ensures { result ≡ slice_get (slots_of call) place }
+fn open_round(alloc: Global, position: Position, stack: Stack) -> Result<Option<State>, AllocError>
+    ensures { IfOk result (λ s. state_if_any s
+        ≡ Some (machine.Operand (position_of position) (machine.Round (stack_of stack)))) }
 {
-    shape(call).get(place).copied()
+    let below = Box::new(alloc, stack)?;
+    Ok(Some(State::InFunction(position, Wanted::Operand(Stack::Round(below)))))
 }
 
-// A call is whole.
-pub fn called(
+fn open_call(
     alloc: Global,
-    here: Here,
+    position: Position,
+    stack: Stack,
     call: CallName,
-    args: Vec<Arg>,
-    around: Around,
-) -> Result<State, AllocError>
-    requires { fits (slots_of call) (given_of args.items) ≡ true }
-    ensures { IfOk result
-        (λ s. state_of s ≡ machine.called (here_of here) call (given_of args.items) (around_of around)) }
+) -> Result<Option<State>, AllocError>
+    ensures { IfOk result (λ s. state_if_any s
+        ≡ Some (machine.CallOpen (position_of position) call
+        (machine.InExpression (stack_of stack)))) }
 {
-    let invoked = invoke(alloc, call, args)?;
-    match around {
-        Around::Within(stack) => {
-            let stack = Box::into_inner(stack);
-            Ok(State::Has(here, stack, Expr::Invoke(invoked)))
-        }
-        Around::Alone => Ok(State::Called(here, invoked)),
-    }
+    let site = CallSite::InExpression(Box::new(alloc, stack)?);
+    Ok(Some(State::InFunction(position, Wanted::CallOpen(call, site))))
 }
 
-// The next argument begins.
-#[tactic(auto, using(crate::proofs::Calls::argument_none, crate::proofs::Calls::argument_value, crate::proofs::Calls::argument_values, crate::proofs::Calls::argument_named, crate::proofs::Calls::argument_flags))]
-pub fn argument(here: Here, call: CallName, args: Vec<Arg>, around: Around) -> State
-    ensures { state_of result
-        ≡ machine.argument (here_of here) call (given_of args.items) (slots_left call args.items) (around_of around) }
-{
-    match next_slot(call, args.len()) {
-        None => State::CallEnd(here, call, args, around),
-        Some(Slot::Value) => State::Operand(here, Stack::Argument(call, args, around)),
-        Some(Slot::Values) => State::ListOpen(here, call, args, around),
-        Some(Slot::Named) => State::NameAt(here, call, args, around),
-        Some(Slot::Flags) => State::Operand(here, Stack::Flag(call, args, around)),
-    }
-}
-
-// The token after the last argument.
-pub fn at_end(
+/// The token after an expression in brackets, after an argument or after a whole expression.
+fn at_operand_end(
     alloc: Global,
-    here: Here,
-    call: CallName,
-    args: Vec<Arg>,
-    around: Around,
+    position: Position,
+    stack: Stack,
+    operand: Box<Expr>,
     lexeme: &Lexeme,
 ) -> Result<Option<State>, AllocError>
-    requires { fits (slots_of call) (given_of args.items) ≡ true }
-    ensures { IfOk result
-        (λ s. seen s ≡ machine.at_end (here_of here) call (given_of args.items) (around_of around) lexeme.now) }
+    requires { IsFitting (stack_of stack) }
+    ensures { IfOk result (λ s. state_if_any s ≡ machine.at_operand_end (position_of position)
+        (stack_of stack) (expression_of operand.value) lexeme.now) }
 {
-    match lexeme {
-        Lexeme::CloseRound => Ok(Some(called(alloc, here, call, args, around)?)),
-        _ => Ok(None),
+    match stack {
+        Stack::Bottom(purpose) => at_expression_end(alloc, position, purpose, operand, lexeme),
+        Stack::Round(below) => Ok(at_round_end(position, below, operand, lexeme)),
+        Stack::Index(which, below) => at_index_end(alloc, position, which, below, operand, lexeme),
+        Stack::Argument(call, args, site) => {
+            after_value(alloc, position, call, args, site, operand, lexeme)
+        }
+        Stack::Member(call, args, members, site) => {
+            let members = with_member(members, operand)?;
+            after_member(position, call, args, members, site, lexeme)
+        }
+        Stack::FlagsArgument(call, args, site) => {
+            after_flags_value(alloc, position, call, args, site, operand, lexeme)
+        }
+        Stack::Left(left, _, below) => {
+            drop(left);
+            drop(below);
+            Ok(None)
+        }
+        Stack::Prefix(_, below) => {
+            drop(below);
+            Ok(None)
+        }
     }
 }
 
-// The token after another argument.
-fn at_comma(
-    here: Here,
-    call: CallName,
-    args: Vec<Arg>,
-    around: Around,
+fn at_round_end(
+    position: Position,
+    below: Box<Stack>,
+    operand: Box<Expr>,
     lexeme: &Lexeme,
 ) -> Option<State>
-    ensures { seen result ≡ machine.at_comma (here_of here) call (given_of args.items)
-        (slots_left call args.items) (around_of around) lexeme.now }
+    ensures { state_if_any result ≡ machine.at_operand_end (position_of position)
+        (machine.Round (stack_of below.value)) (expression_of operand.value) lexeme.now }
 {
     match lexeme {
-        Lexeme::Comma => Some(argument(here, call, args, around)),
+        Lexeme::CloseRound => {
+            let stack = Box::into_inner(below);
+            Some(State::InFunction(position, Wanted::AfterOperand(stack, operand)))
+        }
         _ => None,
     }
 }
 
-// The token after an argument.
-#[tactic(auto, using(crate::proofs::Calls::followed_none, crate::proofs::Calls::followed_some, crate::proofs::Calls::fits_at_end))]
-pub fn followed(
+fn at_index_end(
     alloc: Global,
-    here: Here,
-    call: CallName,
-    args: Vec<Arg>,
-    around: Around,
+    position: Position,
+    which: Indexed,
+    below: Box<Stack>,
+    operand: Box<Expr>,
     lexeme: &Lexeme,
 ) -> Result<Option<State>, AllocError>
-    requires { LeadsTo call (given_of args.items) (slots_left call args.items) }
-    ensures { IfOk result (λ s. seen s ≡ machine.followed (here_of here) call (given_of args.items)
-        (slots_left call args.items) (around_of around) lexeme.now) }
-{
-    match next_slot(call, args.len()) {
-        None => at_end(alloc, here, call, args, around, lexeme),
-        Some(_) => Ok(at_comma(here, call, args, around, lexeme)),
-    }
-}
-
-fn closes_list(lexeme: &Lexeme) -> bool
-    ensures { result ≡ is_close_square lexeme.now }
+    ensures { IfOk result (λ s. state_if_any s ≡ machine.at_operand_end (position_of position)
+        (machine.Index (indexed_of which) (stack_of below.value)) (expression_of operand.value)
+        lexeme.now) }
 {
     match lexeme {
-        Lexeme::CloseSquare => true,
-        _ => false,
-    }
-}
-
-// The first token after the opening bracket of a list.
-#[tactic(auto, using(crate::proofs::Calls::after_pushed, crate::proofs::Marks::list_closes))]
-pub fn list_start(
-    alloc: Global,
-    here: Here,
-    call: CallName,
-    args: Vec<Arg>,
-    around: Around,
-    lexeme: Lexeme,
-) -> Result<Option<State>, AllocError>
-    ensures { IfOk result (λ s. seen s ≡ machine.list_start (here_of here) call (given_of args.items)
-        (slots_after call args.items) (around_of around) lexeme) }
-{
-    if closes_list(&lexeme) {
-        let args = with_list(args, Vec::new(alloc))?;
-        return Ok(Some(State::AfterArgument(here, call, args, around)));
-    }
-    operand(
-        alloc,
-        here,
-        Stack::Member(call, args, Vec::new(alloc), around),
-        lexeme,
-    )
-}
-
-fn with_value(args: Vec<Arg>, value: Expr) -> Result<Vec<Arg>, AllocError>
-    ensures { IfOk result (λ r. IsPushed args.items r.items (tree.value (expression_of value) tree.empty)) }
-{
-    let mut args = args;
-    args.push(Arg::Value(value))?;
-    Ok(args)
-}
-
-fn with_list(args: Vec<Arg>, values: Vec<Expr>) -> Result<Vec<Arg>, AllocError>
-    ensures { IfOk result (λ r. IsPushed args.items r.items (tree.list (members_of values.items) tree.empty)) }
-{
-    let mut args = args;
-    args.push(Arg::List(values))?;
-    Ok(args)
-}
-
-pub fn with_name(args: Vec<Arg>, name: Name) -> Result<Vec<Arg>, AllocError>
-    ensures { IfOk result (λ r. IsPushed args.items r.items (tree.named name tree.empty)) }
-{
-    let mut args = args;
-    args.push(Arg::Named(name))?;
-    Ok(args)
-}
-
-// An expression in brackets or a whole one, and the token after it.
-#[tactic(auto, using(crate::proofs::Calls::leads_pushed, crate::proofs::Calls::followed_pushed, crate::proofs::Calls::flags_pushed, crate::proofs::Calls::after_flags_pushed))]
-fn closed(
-    alloc: Global,
-    here: Here,
-    stack: Stack,
-    value: Expr,
-    lexeme: &Lexeme,
-) -> Result<Option<State>, AllocError>
-    requires { IsFitting (stack_of stack) }
-    ensures { IfOk result
-        (λ s. seen s ≡ machine.closed (here_of here) (stack_of stack) (expression_of value) lexeme.now) }
-{
-    match stack {
-        Stack::Bottom(purpose) => whole(alloc, here, purpose, value, lexeme),
-        Stack::Round(below) => match lexeme {
-            Lexeme::CloseRound => Ok(Some(State::Has(here, Box::into_inner(below), value))),
-            _ => Ok(None),
-        },
-        Stack::Index(which, below) => match lexeme {
-            Lexeme::CloseSquare => {
-                let value = indexed(alloc, which, value)?;
-                Ok(Some(State::Has(here, Box::into_inner(below), value)))
-            }
-            _ => Ok(None),
-        },
-        Stack::Argument(call, args, around) => {
-            let args = with_value(args, value)?;
-            followed(alloc, here, call, args, around, lexeme)
-        }
-        Stack::Member(call, args, members, around) => {
-            member(
-                here,
-                call,
-                args,
-                with_member(members, value)?,
-                around,
-                lexeme,
-            )
-        }
-        Stack::Flag(call, args, around) => {
-            let args = with_value(args, value)?;
-            flagged(alloc, here, call, args, around, lexeme)
-        }
-        Stack::Left(_, _, _) => Ok(None),
-        Stack::Prefix(_, _) => Ok(None),
-    }
-}
-
-fn indexed(alloc: Global, which: Indexed, value: Expr) -> Result<Expr, AllocError>
-    ensures { IfOk result (λ e. expression_of e ≡ machine.indexed (indexed_of which) (expression_of value)) }
-{
-    let value = Box::new(alloc, value)?;
-    match which {
-        Indexed::Parameters => Ok(Expr::Paramv(value)),
-        Indexed::Dependences => Ok(Expr::Depv(value)),
-    }
-}
-
-#[tactic(auto, using(crate::proofs::Lists::members_more))]
-fn with_member(members: Vec<Expr>, value: Expr) -> Result<Vec<Expr>, AllocError>
-    ensures { IfOk result
-        (λ r. members_of r.items ≡ with (members_of members.items) (tree.value (expression_of value) tree.empty)) }
-{
-    let mut members = members;
-    members.push(value)?;
-    Ok(members)
-}
-
-// The token after a member of a list.
-#[tactic(auto, using(crate::proofs::Calls::after_pushed))]
-fn member(
-    here: Here,
-    call: CallName,
-    args: Vec<Arg>,
-    members: Vec<Expr>,
-    around: Around,
-    lexeme: &Lexeme,
-) -> Result<Option<State>, AllocError>
-    ensures { IfOk result (λ s. seen s ≡ machine.after_member (here_of here) call (given_of args.items)
-        (members_of members.items) (slots_after call args.items) (around_of around) lexeme.now) }
-{
-    match lexeme {
-        Lexeme::Comma => Ok(Some(State::Operand(here, Stack::Member(call, args, members, around)))),
         Lexeme::CloseSquare => {
-            let args = with_list(args, members)?;
-            Ok(Some(State::AfterArgument(here, call, args, around)))
+            let operand = element(alloc, which, operand)?;
+            let stack = Box::into_inner(below);
+            Ok(Some(State::InFunction(position, Wanted::AfterOperand(stack, operand))))
         }
         _ => Ok(None),
     }
 }
 
-// The token after the flags of a call.
-fn flagged(
-    alloc: Global,
-    here: Here,
-    call: CallName,
-    args: Vec<Arg>,
-    around: Around,
-    lexeme: &Lexeme,
-) -> Result<Option<State>, AllocError>
-    requires { fits (slots_of call) (given_of args.items) ≡ true }
-    ensures { IfOk result (λ s. seen s ≡ machine.after_flags (here_of here) call (given_of args.items)
-        (around_of around) lexeme.now) }
+/// The element of a list at an index.
+fn element(alloc: Global, which: Indexed, index: Box<Expr>) -> Result<Box<Expr>, AllocError>
+    ensures { IfOk result (λ e. expression_of e.value
+        ≡ machine.element_of (indexed_of which) (expression_of index.value)) }
 {
-    match lexeme {
-        Lexeme::CloseRound => Ok(Some(called(alloc, here, call, args, around)?)),
-        Lexeme::Comma => Ok(Some(State::OutputAnd(here, call, args, around))),
-        _ => Ok(None),
+    match which {
+        Indexed::Parameters => Ok(Box::new(alloc, Expr::Paramv(index))?),
+        Indexed::Dependences => Ok(Box::new(alloc, Expr::Depv(index))?),
     }
 }
 
-// What goes on with an expression, or ends it.
-#[tactic(auto, using(crate::proofs::Calls::closed_held, crate::proofs::Calls::infixed_held, crate::proofs::Calls::fitting_held))]
-pub fn after(
+/// The token after a value that is an argument.
+#[tactic(auto, using(crate::proofs::CallLemmas::leads_pushed, crate::proofs::CallLemmas::followed_pushed))]
+fn after_value(
     alloc: Global,
-    here: Here,
+    position: Position,
+    call: CallName,
+    args: Vec<Arg>,
+    site: CallSite,
+    operand: Box<Expr>,
+    lexeme: &Lexeme,
+) -> Result<Option<State>, AllocError>
+    requires { LeadsTo call (args_of args.items) (slot.Value ∷ slots_after call args.items) }
+    ensures { IfOk result (λ s. state_if_any s ≡ machine.after_argument (position_of position) call
+        (with (args_of args.items) (tree.value (expression_of operand.value) tree.empty))
+        (slots_after call args.items) (site_of site) lexeme.now) }
+{
+    let args = with_value(args, operand)?;
+    after_argument(alloc, position, call, args, site, lexeme)
+}
+
+/// The token after a value that is the flags of a call.
+#[tactic(auto, using(crate::proofs::CallLemmas::flags_pushed, crate::proofs::CallLemmas::after_flags_pushed))]
+fn after_flags_value(
+    alloc: Global,
+    position: Position,
+    call: CallName,
+    args: Vec<Arg>,
+    site: CallSite,
+    operand: Box<Expr>,
+    lexeme: &Lexeme,
+) -> Result<Option<State>, AllocError>
+    requires { LeadsToFlags call (args_of args.items) }
+    ensures { IfOk result (λ s. state_if_any s ≡ machine.after_flags (position_of position) call
+        (with (args_of args.items) (tree.value (expression_of operand.value) tree.empty))
+        (site_of site) lexeme.now) }
+{
+    let args = with_value(args, operand)?;
+    after_flags(alloc, position, call, args, site, lexeme)
+}
+
+/// The token after an operand: what goes on with an expression, or ends it.
+#[tactic(auto, using(crate::proofs::CallLemmas::closed_held, crate::proofs::CallLemmas::infixed_held, crate::proofs::CallLemmas::fitting_held))]
+pub fn after_operand(
+    alloc: Global,
+    position: Position,
     stack: Stack,
-    value: Expr,
+    operand: Box<Expr>,
     lexeme: &Lexeme,
 ) -> Result<Option<State>, AllocError>
     requires { IsFitting (stack_of stack) }
-    ensures { IfOk result (λ s. seen s ≡ machine.after (here_of here) (stack_of stack) (expression_of value)
-        lexeme.now (machine.operator lexeme.now)) }
+    ensures { IfOk result (λ s. state_if_any s ≡ machine.after (position_of position)
+        (stack_of stack) (expression_of operand.value) lexeme.now (machine.operator lexeme.now)) }
 {
     match operator(lexeme) {
         Some(op) => {
-            let (stack, value) = fold(alloc, level(op), stack, value)?;
+            let (stack, left) = fold(alloc, level(op), stack, operand)?;
             let below = Box::new(alloc, stack)?;
-            Ok(Some(State::Operand(here, Stack::Left(value, op, below))))
+            Ok(Some(State::InFunction(position, Wanted::Operand(Stack::Left(left, op, below)))))
         }
         None => {
-            let (stack, value) = fold(alloc, 0, stack, value)?;
-            closed(alloc, here, stack, value, lexeme)
+            let (stack, operand) = fold(alloc, 0, stack, operand)?;
+            at_operand_end(alloc, position, stack, operand, lexeme)
         }
     }
 }

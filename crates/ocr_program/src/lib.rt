@@ -1,6 +1,7 @@
-//! Reads the tokens of a task text to its program.
+//! The parser: reads the tokens of a task text to its program, one by one.
 #![tactic(auto)]
 
+mod calls;
 mod expressions;
 mod invoking;
 mod limits;

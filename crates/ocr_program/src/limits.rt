@@ -3,14 +3,14 @@ ghost use Rattle.std.specs.Prelude.{◌≡◌, ◌<◌, false};
 ghost use Rattle.ocr_grammar.specs.Limits as limits;
 ghost use Rattle.ocr_program.specs.Counting.{tally_of};
 
-use ocr_grammar::{Lexeme, Word};
+use ocr_grammar::{Lexeme, MOST_BLOCKS, MOST_TOKENS, Word};
 
 /// How many tokens of an outermost expression were read, where one is being read, and how many
 /// blocks are open.
 #[derive(Clone, Copy, PartialEq, Eq, Debug)]
 pub struct Tally {
-    pub tokens: Option<u32>,
-    pub depth: u32,
+    pub tokens: Option<usize>,
+    pub depth: usize,
 }
 
 impl Tally {
@@ -32,7 +32,7 @@ pub fn tallied(tally: Tally, lexeme: &Lexeme) -> Tally
     }
 }
 
-fn counting(depth: u32, count: u32) -> Tally
+fn counting(depth: usize, count: usize) -> Tally
     ensures { tally_of result ≡ record { tokens = Some count; depth = depth } }
 {
     Tally {
@@ -41,7 +41,7 @@ fn counting(depth: u32, count: u32) -> Tally
     }
 }
 
-fn resting(depth: u32) -> Tally
+fn resting(depth: usize) -> Tally
     ensures { tally_of result ≡ record { tokens = None; depth = depth } }
 {
     Tally {
@@ -50,7 +50,7 @@ fn resting(depth: u32) -> Tally
     }
 }
 
-fn outside(depth: u32, lexeme: &Lexeme) -> Tally
+fn outside(depth: usize, lexeme: &Lexeme) -> Tally
     requires { depth < 65 }
     ensures { tally_of result ≡ limits.outside depth lexeme.now }
 {
@@ -64,7 +64,7 @@ fn outside(depth: u32, lexeme: &Lexeme) -> Tally
     }
 }
 
-fn within(depth: u32, count: u32, lexeme: &Lexeme) -> Tally
+fn within(depth: usize, count: usize, lexeme: &Lexeme) -> Tally
     requires depth { depth < 65 }
     requires count { count < 257 }
     ensures { tally_of result ≡ limits.within depth count lexeme.now }
@@ -81,7 +81,7 @@ pub fn is_over(tally: Tally) -> bool
     ensures { result ≡ limits.is_over (tally_of tally) }
 {
     match tally.tokens {
-        None => 64 < tally.depth,
-        Some(count) => 256 < count || 64 < tally.depth,
+        None => MOST_BLOCKS < tally.depth,
+        Some(count) => MOST_TOKENS < count || MOST_BLOCKS < tally.depth,
     }
 }

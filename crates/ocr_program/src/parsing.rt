@@ -1,4 +1,4 @@
-// Reads the tokens of a text to its program, one by one.
+// The parser: reads the tokens of a text to its program, one by one.
 ghost use Rattle.std.specs.Prelude.{◌≡◌, ℕ, List, IfOk, option_map};
 ghost use Rattle.ocr_tree.specs.Tree.{FunctionTree};
 ghost use Rattle.ocr_tree.specs.View.{tree_of};
@@ -11,10 +11,12 @@ ghost use Rattle.ocr_program.specs.View.{state_of};
 use crate::limits::{Tally, is_over, tallied};
 use crate::states::State;
 use crate::steps::step;
-use ocr_tree::Program;
 use ocr_grammar::read_token;
 use ocr_text::Token;
+use ocr_tree::Program;
 use std::alloc::{AllocError, Global};
+use std::error::Error;
+use std::fmt;
 
 /// Where a text is no program: the first byte of the first token after which no program goes on, of
 /// the 257th token of an outermost expression or of the `{` of the 65th level, whichever is first;
@@ -23,6 +25,14 @@ use std::alloc::{AllocError, Global};
 pub struct SyntaxFault {
     pub place: usize,
 }
+
+impl fmt::Display for SyntaxFault {
+    fn fmt<W: fmt::Write>(&self, f: &mut fmt::Formatter<W>) -> fmt::Result {
+        write!(f, "no program goes on at byte {}", self.place)
+    }
+}
+
+impl Error for SyntaxFault {}
 
 /// Why a text has no program.
 #[derive(Clone, Copy, PartialEq, Eq, Debug)]
@@ -33,6 +43,17 @@ pub enum ParseStop {
     NoMemory,
 }
 
+impl fmt::Display for ParseStop {
+    fn fmt<W: fmt::Write>(&self, f: &mut fmt::Formatter<W>) -> fmt::Result {
+        match self {
+            ParseStop::Fault(fault) => write!(f, "{fault}"),
+            ParseStop::NoMemory => write!(f, "out of memory"),
+        }
+    }
+}
+
+impl Error for ParseStop {}
+
 /// What the tokens of a text give.
 #[derive(Drop)]
 pub enum Parsed {
@@ -40,16 +61,31 @@ pub enum Parsed {
     Fault(usize),
 }
 
-// The program, where the text may end here.
+/// The program, where the text may end here.
+#[tactic(auto, using(crate::proofs::Marks::unfinished))]
 fn finished(state: State) -> Option<Program>
     ensures { option_map tree_of result ≡ machine.program_of (state_of state) }
 {
     match state {
         State::Functions(functions) => Some(Program { functions }),
-        _ => None,
+        State::FunctionName(functions) => {
+            drop(functions);
+            None
+        }
+        State::FunctionOpen(functions, name) => {
+            drop(functions);
+            drop(name);
+            None
+        }
+        State::InFunction(position, wanted) => {
+            drop(position);
+            drop(wanted);
+            None
+        }
     }
 }
 
+/// Reads the tokens one by one.
 fn read(alloc: Global, bytes: &[u8], tokens: &[Token]) -> Result<Parsed, AllocError>
     requires { AreTokens bytes.now tokens.now }
     ensures { IfOk result (λ parsed. Answers parsed bytes.now tokens.now) }
@@ -63,6 +99,7 @@ fn read(alloc: Global, bytes: &[u8], tokens: &[Token]) -> Result<Parsed, AllocEr
         };
         tally = tallied(tally, &lexeme);
         if is_over(tally) {
+            drop(state);
             return Ok(Parsed::Fault(token.start));
         }
         let Some(next) = step(alloc, state, lexeme)? else {
@@ -81,13 +118,15 @@ fn read(alloc: Global, bytes: &[u8], tokens: &[Token]) -> Result<Parsed, AllocEr
 pub fn parse(alloc: Global, bytes: &[u8], tokens: &[Token]) -> Result<Program, ParseStop>
     requires { AreTokens bytes.now tokens.now }
     ensures tree { IfOk result (λ p. IsTreeOf bytes.now tokens.now (tree_of p)) }
-    ensures fault { (f : SyntaxFault) → result ≡ Err (ParseStop.Fault f) → IsSyntaxFault bytes.now tokens.now f.place }
+    ensures fault { (f : SyntaxFault) → result ≡ Err (ParseStop.Fault f)
+        → IsSyntaxFault bytes.now tokens.now f.place }
 
-    // The tree and the fault are one: what has a tree is refused for want of memory alone, and what has a fault
-    // is refused.
+    // The tree and the fault are one: what has a tree is refused for want of memory alone, and what
+    // has a fault is refused.
     ensures whole_tree { (program : List FunctionTree) → IsTreeOf bytes.now tokens.now program
         → IsTreeOrNoMemory result program }
-    ensures whole_fault { (place : ℕ) → IsSyntaxFault bytes.now tokens.now place → IsFaultOrNoMemory result place }
+    ensures whole_fault { (place : ℕ) → IsSyntaxFault bytes.now tokens.now place
+        → IsFaultOrNoMemory result place }
 {
     match read(alloc, bytes, tokens) {
         Ok(Parsed::Program(program)) => Ok(program),

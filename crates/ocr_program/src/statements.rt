@@ -4,28 +4,30 @@ ghost use Rattle.ocr_tree.specs.Tree as tree;
 ghost use Rattle.ocr_tree.specs.View.{arguments_of, expression_of, name_of, statement_of, statements_of};
 ghost use Rattle.ocr_program.specs.Machine as machine;
 ghost use Rattle.ocr_program.specs.Marks.{is_else};
-ghost use Rattle.ocr_program.specs.View.{here_of, kind_of, purpose_of, state_of, seen, ended_at};
+ghost use Rattle.ocr_program.specs.View.{position_of, block_kind_of, purpose_of, state_of, state_if_any, after_block_end};
 
-use crate::states::{Around, Here, Kind, Outer, Purpose, Stack, State};
-use ocr_tree::{Expr, Function, Invoke, Stmt};
+use crate::states::{BlockKind, CallSite, OpenBlock, Position, Purpose, Stack, State, Wanted};
 use ocr_grammar::{Lexeme, Word};
+use ocr_tree::{Expr, Function, Invoke, Stmt};
 use std::alloc::{AllocError, Global};
 
-// The statements so far and one more.
+/// The place after one more statement.
 #[tactic(auto, using(crate::proofs::Lists::statements_more))]
-fn with_done(here: Here, stmt: Stmt) -> Result<Here, AllocError>
-    ensures { IfOk result (λ h. here_of h ≡ machine.with_done (here_of here) (statement_of stmt)) }
+fn with_statement(position: Position, stmt: Stmt) -> Result<Position, AllocError>
+    ensures { IfOk result
+        (λ p. position_of p ≡ machine.with_statement (position_of position) (statement_of stmt)) }
 {
-    let mut here = here;
-    here.done.push(stmt)?;
-    Ok(here)
+    let mut position = position;
+    position.statements.push(stmt)?;
+    Ok(position)
 }
 
-fn after_statement(here: Here, stmt: Stmt) -> Result<Option<State>, AllocError>
-    ensures { IfOk result
-        (λ s. seen s ≡ Some (machine.AtStatement (machine.with_done (here_of here) (statement_of stmt)))) }
+fn after_statement(position: Position, stmt: Stmt) -> Result<Option<State>, AllocError>
+    ensures { IfOk result (λ s. state_if_any s
+        ≡ Some (machine.AtStatement
+        (machine.with_statement (position_of position) (statement_of stmt)))) }
 {
-    Ok(Some(State::AtStatement(with_done(here, stmt)?)))
+    Ok(Some(State::InFunction(with_statement(position, stmt)?, Wanted::Statement)))
 }
 
 fn repetition(test: Expr, body: Vec<Stmt>) -> Stmt
@@ -41,139 +43,183 @@ fn choice(test: Expr, yes: Vec<Stmt>, no: Vec<Stmt>) -> Stmt
     Stmt::If { test, yes, no }
 }
 
-// A block begins.
-#[tactic(auto, using(crate::proofs::Lists::outers_more))]
-pub fn inside(alloc: Global, here: Here, kind: Kind) -> Result<State, AllocError>
-    ensures { IfOk result (λ s. state_of s ≡ machine.inside (here_of here) (kind_of kind)) }
+/// The state where a block begins.
+#[tactic(auto, using(crate::proofs::Lists::enclosing_more))]
+pub fn block_start(alloc: Global, position: Position, kind: BlockKind) -> Result<State, AllocError>
+    ensures { IfOk result
+        (λ s. state_of s ≡ machine.block_start (position_of position) (block_kind_of kind)) }
 {
-    let Here {
+    let Position {
         functions,
         name,
-        mut outer,
-        done,
-    } = here;
-    outer.push(Outer { before: done, kind })?;
-    Ok(State::AtStatement(Here {
+        mut enclosing,
+        statements,
+    } = position;
+    enclosing.push(OpenBlock { statements, kind })?;
+    let inner = Position {
         functions,
         name,
-        outer,
-        done: Vec::new(alloc),
-    }))
+        enclosing,
+        statements: Vec::new(alloc),
+    };
+    Ok(State::InFunction(inner, Wanted::Statement))
 }
 
-fn at_semicolon(here: Here, stmt: Stmt, lexeme: &Lexeme) -> Result<Option<State>, AllocError>
-    ensures { IfOk result (λ s. seen s ≡ machine.at_semicolon (here_of here) (statement_of stmt) lexeme.now) }
+/// The token after a statement that ends with a semicolon.
+fn at_semicolon(
+    position: Position,
+    stmt: Stmt,
+    lexeme: &Lexeme,
+) -> Result<Option<State>, AllocError>
+    ensures { IfOk result (λ s. state_if_any s
+        ≡ machine.at_semicolon (position_of position) (statement_of stmt) lexeme.now) }
 {
     match lexeme {
-        Lexeme::Semicolon => after_statement(here, stmt),
-        _ => Ok(None),
+        Lexeme::Semicolon => after_statement(position, stmt),
+        _ => {
+            drop(position);
+            drop(stmt);
+            Ok(None)
+        }
     }
 }
 
+/// The token after what stands before a block.
 pub fn at_brace(
     alloc: Global,
-    here: Here,
-    kind: Kind,
+    position: Position,
+    kind: BlockKind,
     lexeme: &Lexeme,
 ) -> Result<Option<State>, AllocError>
-    ensures { IfOk result (λ s. seen s ≡ machine.at_brace (here_of here) (kind_of kind) lexeme.now) }
+    ensures { IfOk result (λ s. state_if_any s
+        ≡ machine.at_brace (position_of position) (block_kind_of kind) lexeme.now) }
 {
     match lexeme {
-        Lexeme::OpenBrace => Ok(Some(inside(alloc, here, kind)?)),
+        Lexeme::OpenBrace => Ok(Some(block_start(alloc, position, kind)?)),
         _ => Ok(None),
     }
 }
 
-/// A whole expression, and the token after it.
-pub fn whole(
+/// The token after a whole outermost expression.
+pub fn at_expression_end(
     alloc: Global,
-    here: Here,
+    position: Position,
     purpose: Purpose,
-    value: Expr,
+    operand: Box<Expr>,
     lexeme: &Lexeme,
 ) -> Result<Option<State>, AllocError>
-    ensures { IfOk result
-        (λ s. seen s ≡ machine.whole (here_of here) (purpose_of purpose) (expression_of value) lexeme.now) }
+    ensures { IfOk result (λ s. state_if_any s ≡ machine.at_expression_end (position_of position)
+        (purpose_of purpose) (expression_of operand.value) lexeme.now) }
 {
     match purpose {
-        Purpose::Let(name) => at_semicolon(here, Stmt::Let { name, value }, lexeme),
-        Purpose::Assign(name) => at_semicolon(here, Stmt::Assign { name, value }, lexeme),
-        Purpose::Test => at_brace(alloc, here, Kind::First(value), lexeme),
-        Purpose::Repeat => at_brace(alloc, here, Kind::Repeated(value), lexeme),
-        Purpose::Print => at_semicolon(here, Stmt::Print { value }, lexeme),
-        Purpose::Return => at_semicolon(here, Stmt::Return { value }, lexeme),
+        Purpose::Let(name) => {
+            let value = Box::into_inner(operand);
+            at_semicolon(position, Stmt::Let { name, value }, lexeme)
+        }
+        Purpose::Assign(name) => {
+            let value = Box::into_inner(operand);
+            at_semicolon(position, Stmt::Assign { name, value }, lexeme)
+        }
+        Purpose::Test => at_brace(alloc, position, BlockKind::IfBody(operand), lexeme),
+        Purpose::Repeat => at_brace(alloc, position, BlockKind::WhileBody(operand), lexeme),
+        Purpose::Print => {
+            let value = Box::into_inner(operand);
+            at_semicolon(position, Stmt::Print { value }, lexeme)
+        }
+        Purpose::Return => {
+            let value = Box::into_inner(operand);
+            at_semicolon(position, Stmt::Return { value }, lexeme)
+        }
     }
 }
 
-/// A call that stands alone, and the token after it.
-pub fn performed(here: Here, call: Invoke, lexeme: &Lexeme) -> Result<Option<State>, AllocError>
-    ensures { IfOk result (λ s. seen s
-        ≡ machine.at_semicolon (here_of here) (tree.Do (name_of call) (arguments_of call)) lexeme.now) }
+/// The token after a call that stands alone.
+pub fn after_call(
+    position: Position,
+    call: Box<Invoke>,
+    lexeme: &Lexeme,
+) -> Result<Option<State>, AllocError>
+    ensures { IfOk result (λ s. state_if_any s ≡ machine.at_semicolon (position_of position)
+        (tree.Do (name_of call.value) (arguments_of call.value)) lexeme.now) }
 {
-    at_semicolon(here, Stmt::Invoke(call), lexeme)
+    at_semicolon(position, Stmt::Invoke(Box::into_inner(call)), lexeme)
 }
 
-// A block ends.
-#[tactic(auto, using(crate::proofs::Lists::outers_more, crate::proofs::Lists::functions_more))]
-fn ended(here: Here) -> Result<State, AllocError>
-    ensures { IfOk result (λ s. state_of s ≡ ended_at (here_of here)) }
+/// The state after the end of the block at hand.
+#[tactic(auto, using(crate::proofs::Lists::enclosing_more, crate::proofs::Lists::functions_more))]
+fn block_end(position: Position) -> Result<State, AllocError>
+    ensures { IfOk result (λ s. state_of s ≡ after_block_end (position_of position)) }
 {
-    let Here {
+    let Position {
         mut functions,
         name,
-        mut outer,
-        done,
-    } = here;
-    let Some(last) = outer.pop() else {
-        functions.push(Function { name, body: done })?;
+        mut enclosing,
+        statements: body,
+    } = position;
+    let Some(last) = enclosing.pop() else {
+        functions.push(Function { name, body })?;
         return Ok(State::Functions(functions));
     };
-    let Outer { before, kind } = last;
-    let around = Here {
+    let OpenBlock { statements, kind } = last;
+    let position = Position {
         functions,
         name,
-        outer,
-        done: before,
+        enclosing,
+        statements,
     };
     match kind {
-        Kind::Repeated(test) => {
-            let stmt = repetition(test, done);
-            Ok(State::AtStatement(with_done(around, stmt)?))
+        BlockKind::WhileBody(test) => {
+            let stmt = repetition(Box::into_inner(test), body);
+            Ok(State::InFunction(with_statement(position, stmt)?, Wanted::Statement))
         }
-        Kind::First(test) => Ok(State::MayElse(around, test, done)),
-        Kind::Second(test, first) => {
-            let stmt = choice(test, first, done);
-            Ok(State::AtStatement(with_done(around, stmt)?))
+        BlockKind::IfBody(test) => Ok(State::InFunction(position, Wanted::MayElse(test, body))),
+        BlockKind::ElseBody(test, first) => {
+            let stmt = choice(Box::into_inner(test), first, body);
+            Ok(State::InFunction(with_statement(position, stmt)?, Wanted::Statement))
         }
     }
 }
 
-/// Where a statement may begin.
-pub fn at_statement(here: Here, lexeme: Lexeme) -> Result<Option<State>, AllocError>
-    ensures { IfOk result (λ s. seen s ≡ machine.at_statement (here_of here) lexeme) }
+/// The token where a statement may begin.
+pub fn at_statement(position: Position, lexeme: Lexeme) -> Result<Option<State>, AllocError>
+    ensures { IfOk result
+        (λ s. state_if_any s ≡ machine.at_statement (position_of position) lexeme) }
 {
     match lexeme {
-        Lexeme::Word(word) => Ok(word_statement(here, word)),
-        Lexeme::Name(name) => Ok(Some(State::AssignEquals(here, name))),
-        Lexeme::Call(call) => Ok(Some(State::CallOpen(here, call, Around::Alone))),
-        Lexeme::CloseBrace => Ok(Some(ended(here)?)),
+        Lexeme::Word(word) => Ok(word_statement(position, word)),
+        Lexeme::Name(name) => Ok(Some(State::InFunction(position, Wanted::AssignEquals(name)))),
+        Lexeme::Call(call) => {
+            let wanted = Wanted::CallOpen(call, CallSite::AsStatement);
+            Ok(Some(State::InFunction(position, wanted)))
+        }
+        Lexeme::CloseBrace => Ok(Some(block_end(position)?)),
         _ => Ok(None),
     }
 }
 
-fn word_statement(here: Here, word: Word) -> Option<State>
-    ensures { seen result ≡ machine.at_statement (here_of here) (Lexeme.Word word) }
+/// The state where an outermost expression begins.
+pub fn first_operand(position: Position, purpose: Purpose) -> State
+    ensures { state_of result
+        ≡ machine.Operand (position_of position) (machine.Bottom (purpose_of purpose)) }
+{
+    State::InFunction(position, Wanted::Operand(Stack::Bottom(purpose)))
+}
+
+/// The same where a reserved word stands.
+fn word_statement(position: Position, word: Word) -> Option<State>
+    ensures { state_if_any result ≡ machine.at_statement (position_of position) (Lexeme.Word word) }
 {
     match word {
-        Word::Let => Some(State::LetName(here)),
-        Word::If => Some(State::Operand(here, Stack::Bottom(Purpose::Test))),
-        Word::While => Some(State::Operand(here, Stack::Bottom(Purpose::Repeat))),
-        Word::Print => Some(State::Operand(here, Stack::Bottom(Purpose::Print))),
-        Word::Return => Some(State::Operand(here, Stack::Bottom(Purpose::Return))),
+        Word::Let => Some(State::InFunction(position, Wanted::LetName)),
+        Word::If => Some(first_operand(position, Purpose::Test)),
+        Word::While => Some(first_operand(position, Purpose::Repeat)),
+        Word::Print => Some(first_operand(position, Purpose::Print)),
+        Word::Return => Some(first_operand(position, Purpose::Return)),
         _ => None,
     }
 }
 
+/// Whether a second block comes.
 fn is_else_word(lexeme: &Lexeme) -> bool
     ensures { result ≡ is_else lexeme.now }
 {
@@ -183,22 +229,22 @@ fn is_else_word(lexeme: &Lexeme) -> bool
     }
 }
 
-/// After the first block of a choice.
+/// The token after the first block of a choice.
 #[tactic(auto, using(crate::proofs::Marks::else_comes))]
 pub fn may_else(
     alloc: Global,
-    here: Here,
-    test: Expr,
+    position: Position,
+    test: Box<Expr>,
     first: Vec<Stmt>,
     lexeme: Lexeme,
 ) -> Result<Option<State>, AllocError>
-    ensures { IfOk result
-        (λ s. seen s ≡ machine.may_else (here_of here) (expression_of test) (statements_of first.items) lexeme) }
+    ensures { IfOk result (λ s. state_if_any s ≡ machine.may_else (position_of position)
+        (expression_of test.value) (statements_of first.items) lexeme) }
 {
     if is_else_word(&lexeme) {
-        return Ok(Some(State::ElseOpen(here, test, first)));
+        return Ok(Some(State::InFunction(position, Wanted::ElseOpen(test, first))));
     }
-    let stmt = choice(test, first, Vec::new(alloc));
-    let here = with_done(here, stmt)?;
-    at_statement(here, lexeme)
+    let stmt = choice(Box::into_inner(test), first, Vec::new(alloc));
+    let position = with_statement(position, stmt)?;
+    at_statement(position, lexeme)
 }

@@ -2,11 +2,12 @@
 ghost use Rattle.std.specs.Prelude.{◌≡◌, IfOk};
 ghost use Rattle.ocr_program.specs.Machine as machine;
 ghost use Rattle.ocr_program.specs.Fitting.{IsFittingState};
-ghost use Rattle.ocr_program.specs.View.{state_of, seen};
+ghost use Rattle.ocr_program.specs.View.{position_of, wanted_of, state_of, state_if_any};
 
-use crate::expressions::{after, at_end, followed, list_start, operand};
-use crate::statements::{at_brace, at_statement, may_else, performed};
-use crate::states::{Kind, State};
+use crate::calls::{after_argument, at_call_end, list_start};
+use crate::expressions::{after_operand, operand};
+use crate::statements::{after_call, at_brace, at_statement, may_else};
+use crate::states::{BlockKind, Position, State, Wanted};
 use crate::wanted::{
     assign_equals, call_open, function_name, function_open, function_word, index_open, let_equals,
     let_name, list_open, name_at, output_and, output_name,
@@ -17,7 +18,7 @@ use std::alloc::{AllocError, Global};
 /// The state after one more token, none where no program goes on with it.
 pub fn step(alloc: Global, state: State, lexeme: Lexeme) -> Result<Option<State>, AllocError>
     requires { IsFittingState (state_of state) }
-    ensures { IfOk result (λ s. seen s ≡ machine.step (state_of state) lexeme) }
+    ensures { IfOk result (λ s. state_if_any s ≡ machine.step (state_of state) lexeme) }
 {
     match state {
         State::Functions(functions) => Ok(function_word(functions, &lexeme)),
@@ -25,37 +26,48 @@ pub fn step(alloc: Global, state: State, lexeme: Lexeme) -> Result<Option<State>
         State::FunctionOpen(functions, name) => {
             Ok(function_open(alloc, functions, name, &lexeme))
         }
-        State::AtStatement(here) => at_statement(here, lexeme),
-        State::LetName(here) => Ok(let_name(here, lexeme)),
-        State::LetEquals(here, name) => Ok(let_equals(here, name, &lexeme)),
-        State::AssignEquals(here, name) => Ok(assign_equals(here, name, &lexeme)),
-        State::Called(here, call) => performed(here, call, &lexeme),
-        State::MayElse(here, test, first) => may_else(alloc, here, test, first, lexeme),
-        State::ElseOpen(here, test, first) => {
-            at_brace(alloc, here, Kind::Second(test, first), &lexeme)
+        State::InFunction(position, wanted) => step_within(alloc, position, wanted, lexeme),
+    }
+}
+
+fn step_within(
+    alloc: Global,
+    position: Position,
+    wanted: Wanted,
+    lexeme: Lexeme,
+) -> Result<Option<State>, AllocError>
+    requires { IsFittingState (wanted_of (position_of position) wanted) }
+    ensures { IfOk result
+        (λ s. state_if_any s ≡ machine.step (wanted_of (position_of position) wanted) lexeme) }
+{
+    match wanted {
+        Wanted::Statement => at_statement(position, lexeme),
+        Wanted::LetName => Ok(let_name(position, lexeme)),
+        Wanted::LetEquals(name) => Ok(let_equals(position, name, &lexeme)),
+        Wanted::AssignEquals(name) => Ok(assign_equals(position, name, &lexeme)),
+        Wanted::AfterCall(call) => after_call(position, call, &lexeme),
+        Wanted::MayElse(test, first) => may_else(alloc, position, test, first, lexeme),
+        Wanted::ElseOpen(test, first) => {
+            at_brace(alloc, position, BlockKind::ElseBody(test, first), &lexeme)
         }
-        State::Operand(here, stack) => operand(alloc, here, stack, lexeme),
-        State::IndexOpen(here, which, stack) => index_open(alloc, here, which, stack, &lexeme),
-        State::CallOpen(here, call, around) => Ok(call_open(alloc, here, call, around, &lexeme)),
-        State::CallEnd(here, call, args, around) => {
-            at_end(alloc, here, call, args, around, &lexeme)
+        Wanted::Operand(stack) => operand(alloc, position, stack, lexeme),
+        Wanted::IndexOpen(which, stack) => index_open(alloc, position, which, stack, &lexeme),
+        Wanted::CallOpen(call, site) => Ok(call_open(alloc, position, call, site, &lexeme)),
+        Wanted::CallEnd(call, args, site) => {
+            at_call_end(alloc, position, call, args, site, &lexeme)
         }
-        State::ListOpen(here, call, args, around) => {
-            Ok(list_open(here, call, args, around, &lexeme))
+        Wanted::ListOpen(call, args, site) => Ok(list_open(position, call, args, site, &lexeme)),
+        Wanted::ListStart(call, args, site) => {
+            list_start(alloc, position, call, args, site, lexeme)
         }
-        State::ListStart(here, call, args, around) => {
-            list_start(alloc, here, call, args, around, lexeme)
+        Wanted::NameAt(call, args, site) => name_at(position, call, args, site, lexeme),
+        Wanted::AfterArgument(call, args, site) => {
+            after_argument(alloc, position, call, args, site, &lexeme)
         }
-        State::NameAt(here, call, args, around) => name_at(here, call, args, around, lexeme),
-        State::AfterArgument(here, call, args, around) => {
-            followed(alloc, here, call, args, around, &lexeme)
+        Wanted::OutputAnd(call, args, site) => {
+            Ok(output_and(position, call, args, site, &lexeme))
         }
-        State::OutputAnd(here, call, args, around) => {
-            Ok(output_and(here, call, args, around, &lexeme))
-        }
-        State::OutputName(here, call, args, around) => {
-            output_name(here, call, args, around, lexeme)
-        }
-        State::Has(here, stack, value) => after(alloc, here, stack, value, &lexeme),
+        Wanted::OutputName(call, args, site) => output_name(position, call, args, site, lexeme),
+        Wanted::AfterOperand(stack, value) => after_operand(alloc, position, stack, value, &lexeme),
     }
 }

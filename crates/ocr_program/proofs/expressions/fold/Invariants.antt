@@ -7,8 +7,8 @@ use Rattle.ocr_program.proofs.expressions.fold.Given as goal
 
 abbrev pub invariant-loop-stack : goal.invariant-loop-stack
 invariant-loop-stack l =
-    machine.folded l.low (stack_of l.stack) (expression_of l.value)
-    ≡ machine.folded l.low (stack_of l.fn.stack) (expression_of l.fn.value)
+    machine.fold_of l.low (stack_of l.stack) (expression_of l.operand.value)
+    ≡ machine.fold_of l.low (stack_of l.fn.stack) (expression_of l.fn.operand.value)
 
 abbrev pub decreases-loop-stack : goal.decreases-loop-stack
 decreases-loop-stack l = height (stack_of l.stack)

@@ -1,6 +1,6 @@
 use Rattle.std.proofs.Common.{◌∙◌, sym, ap, subst, arith, rules, ◌+◌}
 use Rattle.ocr_grammar.specs.Limits as limits
-use Rattle.ocr_program.specs.View.{state_of, seen}
+use Rattle.ocr_program.specs.View.{state_of, state_if_any}
 use Rattle.ocr_program.proofs.Places.{Progress, within_limits, token_at, passed, stepped, over_at, stop_at, tree_at_end, fault_at_end}
 use Rattle.ocr_program.proofs.parsing.read.Goals as goal
 
@@ -22,13 +22,13 @@ returns-then-is_over c =
 pub returns-in_default-2 : goal.returns-in_default-2
 returns-in_default-2 c =
     stop_at _ _ _ _ _ _ _ c.loop-place.invariant c.loop-place-test.true (sym c.in_ok-lexeme.ensures ∙ c.in-Some.is)
-    (sym c.in_ok-next.ensures ∙ ap seen c.in_default-2.is)
+    (sym c.in_ok-next.ensures ∙ ap state_if_any c.in_default-2.is)
 
 pub loop-place-preserved : goal.loop-place-preserved
 loop-place-preserved c =
     subst (λ (y : limits.Tally). Progress c.args.bytes.now c.args.tokens.now (c.loop-place.place + 1) (state_of c.in-Some-2.next) y) (sym c.tallied-tally.ensures)
     (stepped _ _ _ _ _ _ _ _ c.loop-place.invariant c.loop-place-test.true (sym c.in_ok-lexeme.ensures ∙ c.in-Some.is)
-    (sym c.in_ok-next.ensures ∙ ap seen c.in-Some-2.is) (sym (ap limits.is_over c.tallied-tally.ensures) ∙ sym c.is_over.ensures ∙ c.if-is_over.false))
+    (sym c.in_ok-next.ensures ∙ ap state_if_any c.in-Some-2.is) (sym (ap limits.is_over c.tallied-tally.ensures) ∙ sym c.is_over.ensures ∙ c.if-is_over.false))
 
 pub returns-in-Some-finished : goal.returns-in-Some-finished
 returns-in-Some-finished c = tree_at_end _ _ _ _ _ _ c.loop-place.invariant (omega arith) (search rules)

@@ -1,4 +1,4 @@
-use Rattle.ocr_program.proofs.Rows.{if_view}
+use Rattle.ocr_tree.proofs.Rows.{if_view}
 use Rattle.ocr_program.proofs.statements.choice.Goals as goal
 
 pub returns : goal.returns

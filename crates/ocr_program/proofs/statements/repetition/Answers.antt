@@ -1,4 +1,4 @@
-use Rattle.ocr_program.proofs.Rows.{while_view}
+use Rattle.ocr_tree.proofs.Rows.{while_view}
 use Rattle.ocr_program.proofs.statements.repetition.Goals as goal
 
 pub returns : goal.returns
