@@ -8,4 +8,5 @@ pub mod Parts
 pub mod Plain
 pub mod Outcomes
 pub mod Programs
+pub mod Rulesets
 pub mod Stops

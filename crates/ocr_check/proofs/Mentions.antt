@@ -93,7 +93,7 @@ mutual
       (quiet-list kind (count_of members) (mentions_of_arguments call Dependences rest) (quiet-arguments call Dependences rest))
   quiet-arguments call kind (tree.named x rest) = quiet-mention_of_name call x (mentions_of_arguments call kind rest) (quiet-arguments call kind rest)
 
--- the functions and the variables that an mention of an expression may name
+-- the functions and the variables that a mention of an expression may name
 abbrev pub known_of : List (List ℕ) → List ℕ → Bool
 known_of names x = is_among x names
 

@@ -1,6 +1,7 @@
--- The rules that a task program keeps, and which one a program breaks first.
--- The body of a function is told as the mentions that stand in its text, from its start to its end. What an mention may be
--- rests on the mentions before it, so the first mention that breaks a rule is the breach of its function.
+-- The rules that a task program keeps, and which one a program breaks first. The body of a function
+-- is told as the mentions that stand in its text, from its start to its end. What a mention may be
+-- rests on the mentions before it, so the first mention that breaks a rule is the breach of its
+-- function.
 use Rattle.std.specs.Prelude.{◌≡◌, ℕ, zero, suc, ◌+◌, Bool, true, false, cond, ◌||◌, nat_lt, nat_le, List, [], ◌∷◌, ◌++◌, map, length, reverse, Option, None, Some, IsSome}
 use Rattle.std.specs.Str.{bytes_eq}
 use Rattle.std.specs.List.{list_any}
@@ -50,7 +51,8 @@ pub data Mention : Type 0 where
   BlockOpened : Mention
   BlockClosed : Mention
 
--- a name among the arguments of a call: a function in ocrEdtTemplateCreate, else a variable after `&`
+-- a name among the arguments of a call: a function in ocrEdtTemplateCreate, else a variable after
+-- `&`
 abbrev pub mention_of_name : CallName → List ℕ → Mention
 mention_of_name name.TemplateCreate x = FunctionNamed x
 mention_of_name other x = Used x
@@ -67,31 +69,40 @@ abbrev mutual
   mentions_of_expression (tree.Depv e) = mentions_of_expression e
   mentions_of_expression (tree.Unary op e) = mentions_of_expression e
   mentions_of_expression (tree.Binary op a b) = mentions_of_expression a ++ mentions_of_expression b
-  mentions_of_expression (tree.Invoked call arguments) = Called call arguments ∷ mentions_of_arguments call Parameters arguments
+  mentions_of_expression (tree.Invoked call arguments) =
+      Called call arguments ∷ mentions_of_arguments call Parameters arguments
 
   -- the mentions of the arguments of a call; `kind` is what the next list holds
   pub mentions_of_arguments : CallName → ListKind → Arguments → List Mention
   mentions_of_arguments call kind tree.empty = []
-  mentions_of_arguments call kind (tree.value e rest) = mentions_of_expression e ++ mentions_of_arguments call kind rest
+  mentions_of_arguments call kind (tree.value e rest) =
+      mentions_of_expression e ++ mentions_of_arguments call kind rest
   mentions_of_arguments call kind (tree.list members rest) =
-      mentions_of_arguments call kind members ++ (ListClosed kind (count_of members) ∷ mentions_of_arguments call Dependences rest)
-  mentions_of_arguments call kind (tree.named x rest) = mention_of_name call x ∷ mentions_of_arguments call kind rest
+      mentions_of_arguments call kind members
+      ++ (ListClosed kind (count_of members) ∷ mentions_of_arguments call Dependences rest)
+  mentions_of_arguments call kind (tree.named x rest) =
+      mention_of_name call x ∷ mentions_of_arguments call kind rest
 
 abbrev mutual
   pub mentions_of_statement : Statement → List Mention
-  mentions_of_statement (tree.Let x e) = LetBegins x ∷ (mentions_of_expression e ++ (Declared x ∷ []))
+  mentions_of_statement (tree.Let x e) =
+      LetBegins x ∷ (mentions_of_expression e ++ (Declared x ∷ []))
   mentions_of_statement (tree.Assign x e) = Used x ∷ mentions_of_expression e
   mentions_of_statement (tree.If e first second) =
       mentions_of_expression e
-      ++ ((BlockOpened ∷ (mentions_of_statements first ++ (BlockClosed ∷ []))) ++ (BlockOpened ∷ (mentions_of_statements second ++ (BlockClosed ∷ []))))
-  mentions_of_statement (tree.While e body) = mentions_of_expression e ++ (BlockOpened ∷ (mentions_of_statements body ++ (BlockClosed ∷ [])))
+      ++ ((BlockOpened ∷ (mentions_of_statements first ++ (BlockClosed ∷ [])))
+      ++ (BlockOpened ∷ (mentions_of_statements second ++ (BlockClosed ∷ []))))
+  mentions_of_statement (tree.While e body) = mentions_of_expression e
+      ++ (BlockOpened ∷ (mentions_of_statements body ++ (BlockClosed ∷ [])))
   mentions_of_statement (tree.Print e) = mentions_of_expression e
   mentions_of_statement (tree.Return e) = mentions_of_expression e
-  mentions_of_statement (tree.Do call arguments) = Called call arguments ∷ mentions_of_arguments call Parameters arguments
+  mentions_of_statement (tree.Do call arguments) =
+      Called call arguments ∷ mentions_of_arguments call Parameters arguments
 
   pub mentions_of_statements : Statements → List Mention
   mentions_of_statements tree.nothing = []
-  mentions_of_statements (tree.statement s rest) = mentions_of_statement s ++ mentions_of_statements rest
+  mentions_of_statements (tree.statement s rest) =
+      mentions_of_statement s ++ mentions_of_statements rest
 
 -- the mentions of a function
 abbrev pub mentions_of : FunctionTree → List Mention
@@ -109,8 +120,8 @@ let_names (ListClosed kind n ∷ past) = let_names past
 let_names (BlockOpened ∷ past) = let_names past
 let_names (BlockClosed ∷ past) = let_names past
 
--- whether a variable was declared in the same block or in an enclosing one. The mentions come newest first, and `depth`
--- is how many blocks deeper the oldest mention in sight stands
+-- whether a variable was declared in the same block or in an enclosing one. The mentions come
+-- newest first, and `depth` is how many blocks deeper the oldest mention in sight stands
 abbrev pub is_declared : (depth : ℕ) → List ℕ → List Mention → Bool
 is_declared depth x [] = false
 is_declared depth x (LetBegins y ∷ past) = is_declared depth x past
@@ -124,9 +135,11 @@ is_declared zero x (BlockOpened ∷ past) = is_declared zero x past
 is_declared (suc depth) x (BlockOpened ∷ past) = is_declared depth x past
 is_declared depth x (BlockClosed ∷ past) = is_declared (suc depth) x past
 
--- the rule that an mention breaks after the mentions of its function before it, newest first. `names` are the functions' names
+-- the rule that a mention breaks after the mentions of its function before it, newest first.
+-- `names` are the functions' names
 abbrev pub rule_broken : (names : List (List ℕ)) (past : List Mention) → Mention → Option ℕ
-rule_broken names past (LetBegins x) = cond (is_among x (let_names past)) (Some 3) (cond (nat_lt (length (let_names past)) most_lets) None (Some 7))
+rule_broken names past (LetBegins x) = cond (is_among x (let_names past)) (Some 3)
+    (cond (nat_lt (length (let_names past)) most_lets) None (Some 7))
 rule_broken names past (Declared x) = None
 rule_broken names past (Used x) = cond (is_declared 0 x past) None (Some 4)
 rule_broken names past (Called call arguments) = cond (is_call_built call arguments) None (Some 8)
@@ -137,16 +150,18 @@ rule_broken names past BlockClosed = None
 
 -- none of the items fails, given the items before it
 abbrev pub FailsNowhere : {X : Type 0} → (List X → X → Type 0) → List X → Type 0
-FailsNowhere {X} Fails items = (before after : List X) (item : X) → items ≡ before ++ (item ∷ after) → Fails before item → ⊥
+FailsNowhere {X} Fails items =
+    (before after : List X) (item : X) → items ≡ before ++ (item ∷ after) → Fails before item → ⊥
 
 -- `here` is the first of the items that fails, given the items `before` it
-pub record IsFirst {X : Type 0} (Fails : List X → X → Type 0) (items before : List X) (here : X) : Type 0 where
+pub record IsFirst {X : Type 0} (Fails : List X → X → Type 0)
+    (items before : List X) (here : X) : Type 0 where
   pub after : List X
   pub whole : items ≡ before ++ (here ∷ after)
   pub fails : Fails before here
   pub earlier : FailsNowhere Fails before
 
--- an mention breaks a rule
+-- a mention breaks a rule
 abbrev pub BreaksRule : List (List ℕ) → List Mention → Mention → Type 0
 BreaksRule names before mention = IsSome (rule_broken names (reverse before) mention)
 
@@ -177,7 +192,7 @@ pub data IsBreach (program : List FunctionTree) (rule function : ℕ) : Type 0 w
       → is_among main_name (names_of program) ≡ false
       → rule ≡ 2 → function ≡ 0
       → IsBreach program rule function
-  -- an mention of the body of the first function that has one
+  -- a mention of the body of the first function that has one
   in_body : (before : List FunctionTree) (f : FunctionTree)
       → FailsNowhere HasNamesake program
       → is_among main_name (names_of program) ≡ true

@@ -1,4 +1,5 @@
--- What the walk over a tree finds at each place, with the names that it keeps: the way from the tree in memory to its breach.
+-- What the walk over a tree finds at each place, with the names that it keeps: the way from the
+-- tree in memory to its breach.
 use Rattle.std.specs.Prelude.{ℕ, Bool, cond, nat_lt, nat_le, List, [], ◌∷◌, ◌++◌, length, Option, None, Some}
 use Rattle.std.specs.Option.{option_or}
 use Rattle.ocr_tree.specs.Tree.{Expression, Arguments, Statement, Statements, FunctionTree}
@@ -10,14 +11,17 @@ use Rattle.ocr_tree.specs.declared.tree.CallName.{CallName}
 use Rattle.ocr_check.specs.declared.names.ListKind.{ListKind}
 use Rattle.ocr_check.specs.declared.names.ListKind.TheVariants.{Parameters, Dependences}
 
--- the rule that an mention of an expression breaks, where `known` are the functions and `declared` the variables
+-- the rule that a mention of an expression breaks, where `known` are the functions and `declared`
+-- the variables
 abbrev pub mention_rule : (known declared : List ℕ → Bool) → Mention → Option ℕ
 mention_rule known declared (check.LetBegins x) = None
 mention_rule known declared (check.Declared x) = None
 mention_rule known declared (check.Used x) = cond (declared x) None (Some 4)
-mention_rule known declared (check.Called call arguments) = cond (is_call_built call arguments) None (Some 8)
+mention_rule known declared (check.Called call arguments) =
+    cond (is_call_built call arguments) None (Some 8)
 mention_rule known declared (check.FunctionNamed f) = cond (known f) None (Some 5)
-mention_rule known declared (check.ListClosed kind n) = cond (nat_le n (most_members kind)) None (Some 6)
+mention_rule known declared (check.ListClosed kind n) =
+    cond (nat_le n (most_members kind)) None (Some 6)
 mention_rule known declared check.BlockOpened = None
 mention_rule known declared check.BlockClosed = None
 
@@ -32,25 +36,32 @@ abbrev mutual
   expression_rule known declared (tree.Paramv e) = expression_rule known declared e
   expression_rule known declared (tree.Depv e) = expression_rule known declared e
   expression_rule known declared (tree.Unary op e) = expression_rule known declared e
-  expression_rule known declared (tree.Binary op a b) = option_or (expression_rule known declared a) (expression_rule known declared b)
+  expression_rule known declared (tree.Binary op a b) =
+      option_or (expression_rule known declared a) (expression_rule known declared b)
   expression_rule known declared (tree.Invoked call arguments) =
-      option_or (mention_rule known declared (check.Called call arguments)) (arguments_rule known declared call Parameters arguments)
+      option_or (mention_rule known declared (check.Called call arguments))
+      (arguments_rule known declared call Parameters arguments)
 
   pub arguments_rule : (known declared : List ℕ → Bool) → CallName → ListKind → Arguments → Option ℕ
   arguments_rule known declared call kind tree.empty = None
   arguments_rule known declared call kind (tree.value e rest) =
       option_or (expression_rule known declared e) (arguments_rule known declared call kind rest)
   arguments_rule known declared call kind (tree.list members rest) =
-      option_or (arguments_rule known declared call kind members) (option_or (mention_rule known declared (check.ListClosed kind (count_of members))) (arguments_rule known declared call Dependences rest))
+      option_or (arguments_rule known declared call kind members)
+      (option_or (mention_rule known declared (check.ListClosed kind (count_of members)))
+      (arguments_rule known declared call Dependences rest))
   arguments_rule known declared call kind (tree.named x rest) =
-      option_or (mention_rule known declared (mention_of_name call x)) (arguments_rule known declared call kind rest)
+      option_or (mention_rule known declared (mention_of_name call x))
+      (arguments_rule known declared call kind rest)
 
 -- a call at its place: its name, then its arguments
 abbrev pub call_rule : (known declared : List ℕ → Bool) → CallName → Arguments → Option ℕ
 call_rule known declared call arguments =
-    option_or (mention_rule known declared (check.Called call arguments)) (arguments_rule known declared call Parameters arguments)
+    option_or (mention_rule known declared (check.Called call arguments))
+    (arguments_rule known declared call Parameters arguments)
 
--- the names that the walk of a function keeps: those that were let, and those of them that are declared where it stands
+-- the names that the walk of a function keeps: those that were let, and those of them that are
+-- declared where it stands
 pub record Declarations : Type 0 where
   pub lets : List (List ℕ)
   pub declared : List (List ℕ)
@@ -77,7 +88,8 @@ leaving k (Broken rule) = Broken rule
 
 -- the name of a `let`
 abbrev pub let_rule : Declarations → List ℕ → Option ℕ
-let_rule k x = cond (is_among x k.lets) (Some 3) (cond (nat_lt (length k.lets) most_lets) None (Some 7))
+let_rule k x =
+    cond (is_among x k.lets) (Some 3) (cond (nat_lt (length k.lets) most_lets) None (Some 7))
 
 -- a name is declared
 abbrev pub with_name : Declarations → List ℕ → Declarations
@@ -89,19 +101,26 @@ value_rule known k e = expression_rule known (λ x. is_among x k.declared) e
 
 abbrev mutual
   pub statement_outcome : (known : List ℕ → Bool) → Statement → Declarations → Outcome
-  statement_outcome known (tree.Let x e) k = and_then (told k (option_or (let_rule k x) (value_rule known k e))) (λ m. Passed (with_name m x))
+  statement_outcome known (tree.Let x e) k = and_then
+      (told k (option_or (let_rule k x) (value_rule known k e))) (λ m. Passed (with_name m x))
   statement_outcome known (tree.Assign x e) k =
-      told k (option_or (mention_rule known (λ y. is_among y k.declared) (check.Used x)) (value_rule known k e))
+      told k (option_or (mention_rule known (λ y. is_among y k.declared) (check.Used x))
+      (value_rule known k e))
   statement_outcome known (tree.If e first second) k =
-      and_then (told k (value_rule known k e)) (λ m. and_then (leaving m (statements_outcome known first m)) (λ n. leaving n (statements_outcome known second n)))
-  statement_outcome known (tree.While e body) k = and_then (told k (value_rule known k e)) (λ m. leaving m (statements_outcome known body m))
+      and_then (told k (value_rule known k e))
+      (λ m. and_then (leaving m (statements_outcome known first m))
+      (λ n. leaving n (statements_outcome known second n)))
+  statement_outcome known (tree.While e body) k =
+      and_then (told k (value_rule known k e)) (λ m. leaving m (statements_outcome known body m))
   statement_outcome known (tree.Print e) k = told k (value_rule known k e)
   statement_outcome known (tree.Return e) k = told k (value_rule known k e)
-  statement_outcome known (tree.Do call arguments) k = told k (call_rule known (λ x. is_among x k.declared) call arguments)
+  statement_outcome known (tree.Do call arguments) k =
+      told k (call_rule known (λ x. is_among x k.declared) call arguments)
 
   pub statements_outcome : (known : List ℕ → Bool) → Statements → Declarations → Outcome
   statements_outcome known tree.nothing k = Passed k
-  statements_outcome known (tree.statement s rest) k = and_then (statement_outcome known s k) (λ m. statements_outcome known rest m)
+  statements_outcome known (tree.statement s rest) k =
+      and_then (statement_outcome known s k) (λ m. statements_outcome known rest m)
 
 -- the rule in an outcome
 abbrev pub rule_of : Outcome → Option ℕ

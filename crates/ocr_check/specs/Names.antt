@@ -50,7 +50,8 @@ members_rule known declared kind members =
 
 -- an assignment: the name of its variable, then its expression
 abbrev pub assign_rule : Names → List ℕ → Expression → Option ℕ
-assign_rule s x e = option_or (mention_rule (known_in s) (declared_in s) (Used x)) (expression_rule (known_in s) (declared_in s) e)
+assign_rule s x e = option_or (mention_rule (known_in s) (declared_in s) (Used x))
+    (expression_rule (known_in s) (declared_in s) e)
 
 -- the walk stays in its function
 abbrev pub IsSameFunction : Names → Names → Type 0

@@ -41,8 +41,8 @@ impl ListKind {
     }
 }
 
-/// The names where the walk of a function stands: those of the functions, those that this one, by its number, has let,
-/// and those of them that are declared here.
+/// The names where the walk of a function stands: those of the functions, those that this one, by
+/// its number, has let, and those of them that are declared here.
 #[derive(Drop)]
 pub struct Names<'n, 'a> {
     alloc: Global,
@@ -121,7 +121,8 @@ impl<'n, 'a> Names<'n, 'a> {
 
     // A variable is read, assigned or written.
     fn used(&self, name: &Name) -> Result<(), CheckFault>
-        ensures ok { OnOk result (mention_rule (known_in self.now) (declared_in self.now) (Used name.now) ≡ None) }
+        ensures ok { OnOk result
+            (mention_rule (known_in self.now) (declared_in self.now) (Used name.now) ≡ None) }
         ensures err { IfErr result (IsFaultIn self.now
             (mention_rule (known_in self.now) (declared_in self.now) (Used name.now))) }
     {
@@ -133,7 +134,9 @@ impl<'n, 'a> Names<'n, 'a> {
 
     // A function is named.
     fn function_named(&self, name: &Name) -> Result<(), CheckFault>
-        ensures ok { OnOk result (mention_rule (known_in self.now) (declared_in self.now) (FunctionNamed name.now) ≡ None) }
+        ensures ok { OnOk result
+            (mention_rule (known_in self.now) (declared_in self.now) (FunctionNamed name.now)
+            ≡ None) }
         ensures err { IfErr result (IsFaultIn self.now
             (mention_rule (known_in self.now) (declared_in self.now) (FunctionNamed name.now))) }
     {
@@ -145,9 +148,12 @@ impl<'n, 'a> Names<'n, 'a> {
 
     // A name among the arguments of a call.
     fn named(&self, call: CallName, name: &Name) -> Result<(), CheckFault>
-        ensures ok { OnOk result (mention_rule (known_in self.now) (declared_in self.now) (mention_of_name call name.now) ≡ None) }
+        ensures ok { OnOk result
+            (mention_rule (known_in self.now) (declared_in self.now)
+            (mention_of_name call name.now) ≡ None) }
         ensures err { IfErr result (IsFaultIn self.now
-            (mention_rule (known_in self.now) (declared_in self.now) (mention_of_name call name.now))) }
+            (mention_rule (known_in self.now) (declared_in self.now)
+            (mention_of_name call name.now))) }
     {
         match call {
             CallName::TemplateCreate => self.function_named(name),
@@ -157,9 +163,11 @@ impl<'n, 'a> Names<'n, 'a> {
 
     // An expression.
     #[cycle(expression)]
-    #[tactic(auto, using(crate::proofs::Parts::or_both, crate::proofs::Stops::first_stops, crate::proofs::Stops::second_stops, crate::proofs::Stops::second_ends))]
+    #[tactic(auto, using(crate::proofs::Rulesets::parts))]
     fn expression(&self, expr: &Expr) -> Result<(), CheckStop>
-        ensures ok { OnOk result (expression_rule (known_in self.now) (declared_in self.now) (expression_of expr.now) ≡ None) }
+        ensures ok { OnOk result
+            (expression_rule (known_in self.now) (declared_in self.now) (expression_of expr.now)
+            ≡ None) }
         ensures err { IfErr result (IsStopAt self.now.function
             (expression_rule (known_in self.now) (declared_in self.now) (expression_of expr.now))) }
     {
@@ -183,11 +191,14 @@ impl<'n, 'a> Names<'n, 'a> {
 
     // A call: its name, then its arguments.
     #[cycle(expression)]
-    #[tactic(auto, using(crate::proofs::Parts::or_both, crate::proofs::Stops::first_stops, crate::proofs::Stops::second_stops, crate::proofs::Stops::second_ends))]
+    #[tactic(auto, using(crate::proofs::Rulesets::parts))]
     fn call(&self, call: &Invoke) -> Result<(), CheckStop>
-        ensures ok { OnOk result (call_rule (known_in self.now) (declared_in self.now) (name_of call.now) (arguments_of call.now) ≡ None) }
+        ensures ok { OnOk result
+            (call_rule (known_in self.now) (declared_in self.now) (name_of call.now)
+            (arguments_of call.now) ≡ None) }
         ensures err { IfErr result (IsStopAt self.now.function
-            (call_rule (known_in self.now) (declared_in self.now) (name_of call.now) (arguments_of call.now))) }
+            (call_rule (known_in self.now) (declared_in self.now) (name_of call.now)
+            (arguments_of call.now))) }
     {
         if !is_call_built(call) {
             return Err(CheckStop::Fault(self.fault(8)));
@@ -198,9 +209,12 @@ impl<'n, 'a> Names<'n, 'a> {
     // The arguments of a call, the first list of which are parameters and the second dependences.
     #[cycle(expression)]
     fn arguments(&self, call: &Invoke) -> Result<(), CheckStop>
-        ensures ok { OnOk result (arguments_rule (known_in self.now) (declared_in self.now) (name_of call.now) Parameters (arguments_of call.now) ≡ None) }
+        ensures ok { OnOk result
+            (arguments_rule (known_in self.now) (declared_in self.now)
+            (name_of call.now) Parameters (arguments_of call.now) ≡ None) }
         ensures err { IfErr result (IsStopAt self.now.function
-            (arguments_rule (known_in self.now) (declared_in self.now) (name_of call.now) Parameters (arguments_of call.now))) }
+            (arguments_rule (known_in self.now) (declared_in self.now)
+            (name_of call.now) Parameters (arguments_of call.now))) }
     {
         let list = call.arguments(self.alloc)?;
         let mut kind = ListKind::Parameters;
@@ -219,9 +233,10 @@ impl<'n, 'a> Names<'n, 'a> {
 
     // A list of values, and the bracket that closes it.
     #[cycle(expression)]
-    #[tactic(auto, using(crate::proofs::Parts::or_both, crate::proofs::Stops::first_stops, crate::proofs::Stops::second_stops, crate::proofs::Stops::second_ends))]
+    #[tactic(auto, using(crate::proofs::Rulesets::parts))]
     fn members(&self, kind: ListKind, members: &[Expr]) -> Result<(), CheckStop>
-        ensures ok { OnOk result (members_rule (known_in self.now) (declared_in self.now) kind members.now ≡ None) }
+        ensures ok { OnOk result
+            (members_rule (known_in self.now) (declared_in self.now) kind members.now ≡ None) }
         ensures err { IfErr result (IsStopAt self.now.function
             (members_rule (known_in self.now) (declared_in self.now) kind members.now)) }
     {
@@ -237,7 +252,8 @@ impl<'n, 'a> Names<'n, 'a> {
     // A `let` begins.
     fn let_begins(&self, name: &Name) -> Result<(), CheckFault>
         ensures ok { OnOk result (let_rule (declarations_in self.now) name.now ≡ None) }
-        ensures err { IfErr result (IsFaultIn self.now (let_rule (declarations_in self.now) name.now)) }
+        ensures err { IfErr result
+            (IsFaultIn self.now (let_rule (declarations_in self.now) name.now)) }
     {
         if is_among(name.as_bytes(), &self.lets) {
             return Err(self.fault(3));
@@ -252,7 +268,8 @@ impl<'n, 'a> Names<'n, 'a> {
     #[tactic(auto, using(crate::proofs::Texts::texts_push))]
     fn declare(&mut self, name: &'a Name) -> Result<(), CheckStop>
         ensures same { IsSameFunction self.old self.new }
-        ensures ok { OnOk result (declarations_in self.new ≡ with_name (declarations_in self.old) name.now) }
+        ensures ok { OnOk result (declarations_in self.new
+            ≡ with_name (declarations_in self.old) name.now) }
         ensures err { IfErr result (λ stop. stop ≡ CheckStop.NoMemory) }
     {
         self.lets.push(name.as_bytes())?;
@@ -261,13 +278,16 @@ impl<'n, 'a> Names<'n, 'a> {
     }
 
     // A `let`: its name, its expression, and then the name is declared.
-    #[tactic(auto, using(crate::proofs::Outcomes::let_passes, crate::proofs::Outcomes::let_name_breaks, crate::proofs::Outcomes::let_value_breaks))]
+    #[tactic(auto, using(crate::proofs::Rulesets::lets))]
     fn let_statement(&mut self, name: &'a Name, value: &Expr) -> Result<(), CheckStop>
         ensures same { IsSameFunction self.old self.new }
-        ensures ok { OnOk result (statement_outcome (known_in self.old) (Let name.now (expression_of value.now)) (declarations_in self.old)
+        ensures ok { OnOk result
+            (statement_outcome (known_in self.old) (Let name.now (expression_of value.now))
+            (declarations_in self.old)
             ≡ Passed (declarations_in self.new)) }
         ensures err { IfErr result (IsStopIn self.old
-            (statement_outcome (known_in self.old) (Let name.now (expression_of value.now)) (declarations_in self.old))) }
+            (statement_outcome (known_in self.old) (Let name.now (expression_of value.now))
+            (declarations_in self.old))) }
     {
         self.let_begins(name)?;
         self.expression(value)?;
@@ -275,10 +295,11 @@ impl<'n, 'a> Names<'n, 'a> {
     }
 
     // An assignment: the name of its variable, then its expression.
-    #[tactic(auto, using(crate::proofs::Parts::or_both, crate::proofs::Stops::first_stops, crate::proofs::Stops::second_stops, crate::proofs::Stops::second_ends))]
+    #[tactic(auto, using(crate::proofs::Rulesets::parts))]
     fn assignment(&self, name: &Name, value: &Expr) -> Result<(), CheckStop>
         ensures ok { OnOk result (assign_rule self.now name.now (expression_of value.now) ≡ None) }
-        ensures err { IfErr result (IsStopAt self.now.function (assign_rule self.now name.now (expression_of value.now))) }
+        ensures err { IfErr result
+            (IsStopAt self.now.function (assign_rule self.now name.now (expression_of value.now))) }
     {
         self.used(name)?;
         self.expression(value)
@@ -286,13 +307,16 @@ impl<'n, 'a> Names<'n, 'a> {
 
     // A statement.
     #[cycle(statement)]
-    #[tactic(auto, using(crate::proofs::Outcomes::told_none, crate::proofs::Stops::told_stops, crate::proofs::Stops::told_ends, crate::proofs::Outcomes::if_test_breaks, crate::proofs::Outcomes::if_first_breaks, crate::proofs::Outcomes::while_test_breaks))]
+    #[tactic(auto, using(crate::proofs::Rulesets::statements))]
     fn statement(&mut self, stmt: &'a Stmt) -> Result<(), CheckStop>
         ensures same { IsSameFunction self.old self.new }
-        ensures ok { OnOk result (statement_outcome (known_in self.old) (statement_of stmt.now) (declarations_in self.old)
+        ensures ok { OnOk result
+            (statement_outcome (known_in self.old) (statement_of stmt.now)
+            (declarations_in self.old)
             ≡ Passed (declarations_in self.new)) }
         ensures err { IfErr result (IsStopIn self.old
-            (statement_outcome (known_in self.old) (statement_of stmt.now) (declarations_in self.old))) }
+            (statement_outcome (known_in self.old) (statement_of stmt.now)
+            (declarations_in self.old))) }
     {
         match stmt {
             Stmt::Let { name, value } => self.let_statement(name, value),
@@ -314,14 +338,16 @@ impl<'n, 'a> Names<'n, 'a> {
 
     // A block: what is declared in it is not seen after it.
     #[cycle(statement)]
-    #[tactic(auto, using(crate::proofs::Outcomes::block_passes, crate::proofs::Outcomes::block_breaks))]
+    #[tactic(auto, using(crate::proofs::Rulesets::blocks))]
     fn block(&mut self, stmts: &'a [Stmt]) -> Result<(), CheckStop>
         ensures same { IsSameFunction self.old self.new }
         ensures ok { OnOk result (leaving (declarations_in self.old)
-            (statements_outcome (known_in self.old) (statements_of stmts.now) (declarations_in self.old))
+            (statements_outcome (known_in self.old) (statements_of stmts.now)
+            (declarations_in self.old))
             ≡ Passed (declarations_in self.new)) }
         ensures err { IfErr result (IsStopIn self.old (leaving (declarations_in self.old)
-            (statements_outcome (known_in self.old) (statements_of stmts.now) (declarations_in self.old)))) }
+            (statements_outcome (known_in self.old) (statements_of stmts.now)
+            (declarations_in self.old)))) }
     {
         let before = self.declared.len();
         self.statements(stmts)?;
@@ -333,10 +359,13 @@ impl<'n, 'a> Names<'n, 'a> {
     #[cycle(statement)]
     fn statements(&mut self, stmts: &'a [Stmt]) -> Result<(), CheckStop>
         ensures same { IsSameFunction self.old self.new }
-        ensures ok { OnOk result (statements_outcome (known_in self.old) (statements_of stmts.now) (declarations_in self.old)
+        ensures ok { OnOk result
+            (statements_outcome (known_in self.old) (statements_of stmts.now)
+            (declarations_in self.old)
             ≡ Passed (declarations_in self.new)) }
         ensures err { IfErr result (IsStopIn self.old
-            (statements_outcome (known_in self.old) (statements_of stmts.now) (declarations_in self.old))) }
+            (statements_outcome (known_in self.old) (statements_of stmts.now)
+            (declarations_in self.old))) }
     {
         for stmt in stmts {
             self.statement(stmt)?;
@@ -345,7 +374,8 @@ impl<'n, 'a> Names<'n, 'a> {
     }
 }
 
-/// Walks the body of a function, whose number is `number`, where these are the names of all functions.
+/// Walks the body of a function, whose number is `number`, where these are the names of all
+/// functions.
 #[tactic(auto, using(crate::proofs::Outcomes::rule_passed, crate::proofs::Outcomes::rule_broke))]
 pub fn walk_function<'a>(
     alloc: Global,
@@ -354,7 +384,8 @@ pub fn walk_function<'a>(
     function: &'a Function,
 ) -> Result<(), CheckStop>
     ensures ok { OnOk result (function_rule (knows names.now) (function_of function.now) ≡ None) }
-    ensures err { IfErr result (IsStopAt number (function_rule (knows names.now) (function_of function.now))) }
+    ensures err { IfErr result
+        (IsStopAt number (function_rule (knows names.now) (function_of function.now))) }
 {
     let mut walk = Names::new(alloc, names, number);
     walk.statements(&function.body)

@@ -16,8 +16,8 @@ use std::collections::BTreeSet;
 use std::error::Error;
 use std::fmt;
 
-/// The rule that a program breaks first, and the number of the function in which it does, from 1 in the order of the
-/// text; 0 where there is no function `mainEdt`.
+/// The rule that a program breaks first, and the number of the function in which it does, from 1 in
+/// the order of the text; 0 where there is no function `mainEdt`.
 #[derive(Clone, Copy, PartialEq, Eq, Debug)]
 pub struct CheckFault {
     pub rule: u32,
@@ -90,7 +90,8 @@ impl From<NoMemory> for CheckStop {
 fn names_of(alloc: Global, functions: &[Function]) -> Result<BTreeSet<&[u8]>, CheckStop>
     requires { length functions.now < 2 ^ 32 }
     ensures distinct { OnOk result (FailsNowhere HasNamesake (functions_of functions.now)) }
-    ensures names { IfOk result (λ names. (x : List ℕ) → knows names x ≡ is_among x (names_in (functions_of functions.now))) }
+    ensures names { IfOk result (λ names. (x : List ℕ) → knows names x
+        ≡ is_among x (names_in (functions_of functions.now))) }
     ensures err { IfErr result (IsStopOf (functions_of functions.now)) }
 {
     let mut names = BTreeSet::new(alloc);
@@ -125,9 +126,9 @@ fn judge(alloc: Global, functions: &[Function]) -> Result<(), CheckStop>
     Ok(())
 }
 
-/// Makes a program ready to be run where it breaks no rule. Otherwise the fault is its first breach: two functions
-/// of one name are looked for first, then whether there is a `mainEdt`, and then each function is walked in the
-/// order of the text. A fault numbers the functions in 32 bits.
+/// Makes a program ready to be run where it breaks no rule. Otherwise the fault is its first
+/// breach: two functions of one name are looked for first, then whether there is a `mainEdt`, and
+/// then each function is walked in the order of the text. A fault numbers the functions in 32 bits.
 pub fn check(alloc: Global, program: Program) -> Result<Checked, CheckStop>
     requires { length (tree_of program) + 1 < 2 ^ 32 }
     ensures tree { IfOk result (λ checked. checked_tree checked ≡ tree_of program) }
