@@ -12,8 +12,8 @@ use Rattle.ocr_grammar.specs.declared.lexeme.Lexeme.TheVariants as lexeme
 use Rattle.ocr_grammar.specs.declared.lexeme.Word.{Word}
 use Rattle.ocr_grammar.specs.declared.lexeme.Word.TheVariants as word
 use Rattle.ocr_grammar.specs.Grammar.{level}
-use Rattle.ocr_grammar.specs.declared.slots.Slot.{Slot}
-use Rattle.ocr_grammar.specs.declared.slots.Slot.TheVariants.{Value, Values, Named, Flags}
+use Rattle.ocr_grammar.specs.declared.argument_kind.ArgumentKind.{ArgumentKind}
+use Rattle.ocr_grammar.specs.declared.argument_kind.ArgumentKind.TheVariants.{Value, Values, NameOfFunction, FlagsAndOutput}
 use Rattle.ocr_grammar.specs.Shape.{shape}
 use Rattle.ocr_program.specs.Joined.{with, ended_by}
 
@@ -40,8 +40,8 @@ mutual
     Round : Stack → Stack
     Index : Indexed → Stack → Stack
     -- an argument of a call: the arguments before it, the slots after it
-    Argument : (c : CallName) (done : Arguments) (slots : List Slot) → Around → Stack
-    Member : (c : CallName) (done members : Arguments) (slots : List Slot) → Around → Stack
+    Argument : (c : CallName) (done : Arguments) (slots : List ArgumentKind) → Around → Stack
+    Member : (c : CallName) (done members : Arguments) (slots : List ArgumentKind) → Around → Stack
     Flag : (c : CallName) (done : Arguments) → Around → Stack
 
   -- where a call stands: in an expression, or as a statement
@@ -82,10 +82,10 @@ pub data State : Type 0 where
   IndexOpen : Here → Indexed → Stack → State
   CallOpen : Here → CallName → Around → State
   CallEnd : Here → CallName → Arguments → Around → State
-  ListOpen : Here → CallName → Arguments → List Slot → Around → State
-  ListStart : Here → CallName → Arguments → List Slot → Around → State
-  NameAt : Here → CallName → Arguments → List Slot → Around → State
-  AfterArgument : Here → CallName → Arguments → List Slot → Around → State
+  ListOpen : Here → CallName → Arguments → List ArgumentKind → Around → State
+  ListStart : Here → CallName → Arguments → List ArgumentKind → Around → State
+  NameAt : Here → CallName → Arguments → List ArgumentKind → Around → State
+  AfterArgument : Here → CallName → Arguments → List ArgumentKind → Around → State
   OutputAnd : Here → CallName → Arguments → Around → State
   OutputName : Here → CallName → Arguments → Around → State
   Has : Here → Stack → Expression → State
@@ -153,12 +153,12 @@ called h c args (Within k) = Has h k (tree.Invoked c args)
 called h c args Alone = Called h c args
 
 -- an argument of the first slot begins
-abbrev pub argument : Here → CallName → Arguments → List Slot → Around → State
+abbrev pub argument : Here → CallName → Arguments → List ArgumentKind → Around → State
 argument h c done [] k = CallEnd h c done k
 argument h c done (Value ∷ ss) k = Operand h (Argument c done ss k)
 argument h c done (Values ∷ ss) k = ListOpen h c done ss k
-argument h c done (Named ∷ ss) k = NameAt h c done ss k
-argument h c done (Flags ∷ ss) k = Operand h (Flag c done k)
+argument h c done (NameOfFunction ∷ ss) k = NameAt h c done ss k
+argument h c done (FlagsAndOutput ∷ ss) k = Operand h (Flag c done k)
 
 -- the token after the last argument
 abbrev pub at_end : Here → CallName → Arguments → Around → Lexeme → Option State
@@ -166,17 +166,17 @@ at_end h c done k lexeme.CloseRound = Some (called h c done k)
 at_end h c done k other = None
 
 -- the token after another argument
-abbrev pub at_comma : Here → CallName → Arguments → List Slot → Around → Lexeme → Option State
+abbrev pub at_comma : Here → CallName → Arguments → List ArgumentKind → Around → Lexeme → Option State
 at_comma h c done ss k lexeme.Comma = Some (argument h c done ss k)
 at_comma h c done ss k other = None
 
 -- the token after an argument
-abbrev pub followed : Here → CallName → Arguments → List Slot → Around → Lexeme → Option State
+abbrev pub followed : Here → CallName → Arguments → List ArgumentKind → Around → Lexeme → Option State
 followed h c done [] k t = at_end h c done k t
 followed h c done (s ∷ ss) k t = at_comma h c done (s ∷ ss) k t
 
 -- the token after a member of a list
-abbrev pub after_member : Here → CallName → Arguments → Arguments → List Slot → Around → Lexeme → Option State
+abbrev pub after_member : Here → CallName → Arguments → Arguments → List ArgumentKind → Around → Lexeme → Option State
 after_member h c done es ss k lexeme.Comma = Some (Operand h (Member c done es ss k))
 after_member h c done es ss k lexeme.CloseSquare = Some (AfterArgument h c (with done (list es empty)) ss k)
 after_member h c done es ss k other = None
@@ -221,7 +221,7 @@ operand h k (lexeme.Call c) = Some (CallOpen h c (Within k))
 operand h k other = None
 
 -- the first token after the opening bracket of a list
-abbrev pub list_start : Here → CallName → Arguments → List Slot → Around → Lexeme → Option State
+abbrev pub list_start : Here → CallName → Arguments → List ArgumentKind → Around → Lexeme → Option State
 list_start h c done ss k lexeme.CloseSquare = Some (AfterArgument h c (with done (list empty empty)) ss k)
 list_start h c done ss k other = operand h (Member c done empty ss k) other
 

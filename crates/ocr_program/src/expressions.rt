@@ -5,7 +5,7 @@ ghost use Rattle.ocr_grammar.specs.Grammar as grammar;
 ghost use Rattle.ocr_tree.specs.Tree as tree;
 ghost use Rattle.ocr_tree.specs.declared.tree.CallName.{CallName};
 ghost use Rattle.ocr_grammar.specs.Shape.{shape as slots_of};
-ghost use Rattle.ocr_grammar.specs.declared.slots.Slot.TheVariants.{Values};
+ghost use Rattle.ocr_grammar.specs.declared.argument_kind.ArgumentKind.TheVariants.{Values};
 ghost use Rattle.ocr_program.specs.Joined.{with};
 ghost use Rattle.ocr_program.specs.Machine as machine;
 ghost use Rattle.ocr_program.specs.Marks.{is_close_square};
@@ -15,8 +15,8 @@ ghost use Rattle.ocr_program.specs.View.{IsPushed, given_of, slots_left, slots_a
 use crate::invoking::invoke;
 use crate::statements::whole;
 use crate::states::{Arg, Around, Here, Indexed, Purpose, Stack, State};
+use ocr_grammar::{ArgumentKind, Lexeme, Word, shape};
 use ocr_tree::{BinaryOp, CallName, Expr, Name, UnaryOp};
-use ocr_grammar::{Lexeme, Slot, Word, shape};
 use std::alloc::{AllocError, Global};
 
 fn level(op: BinaryOp) -> u32
@@ -136,7 +136,7 @@ fn prefix(alloc: Global, here: Here, stack: Stack, op: UnaryOp) -> Result<Option
 }
 
 // The slot that comes after these arguments.
-fn next_slot(call: CallName, place: usize) -> Option<Slot>
+fn next_slot(call: CallName, place: usize) -> Option<ArgumentKind>
     ensures { result ≡ slice_get (slots_of call) place }
 {
     shape(call).get(place).copied()
@@ -172,10 +172,10 @@ pub fn argument(here: Here, call: CallName, args: Vec<Arg>, around: Around) -> S
 {
     match next_slot(call, args.len()) {
         None => State::CallEnd(here, call, args, around),
-        Some(Slot::Value) => State::Operand(here, Stack::Argument(call, args, around)),
-        Some(Slot::Values) => State::ListOpen(here, call, args, around),
-        Some(Slot::Named) => State::NameAt(here, call, args, around),
-        Some(Slot::Flags) => State::Operand(here, Stack::Flag(call, args, around)),
+        Some(ArgumentKind::Value) => State::Operand(here, Stack::Argument(call, args, around)),
+        Some(ArgumentKind::Values) => State::ListOpen(here, call, args, around),
+        Some(ArgumentKind::NameOfFunction) => State::NameAt(here, call, args, around),
+        Some(ArgumentKind::FlagsAndOutput) => State::Operand(here, Stack::Flag(call, args, around)),
     }
 }
 

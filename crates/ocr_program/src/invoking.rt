@@ -3,7 +3,7 @@ ghost use Rattle.std.specs.Prelude.{◌≡◌, ◌∷◌, [], IfOk, true};
 ghost use Rattle.ocr_tree.specs.Tree.{empty, value, list, named};
 ghost use Rattle.ocr_tree.specs.View.{expression_of, members_of, output_of};
 ghost use Rattle.ocr_grammar.specs.Shape.{shape};
-ghost use Rattle.ocr_grammar.specs.declared.slots.Slot.TheVariants as slot;
+ghost use Rattle.ocr_grammar.specs.declared.argument_kind.ArgumentKind.TheVariants as slot;
 ghost use Rattle.ocr_program.specs.Fitting.{fits};
 ghost use Rattle.ocr_program.specs.View.{given_of, in_order, argument_onto, Invokes};
 
@@ -183,7 +183,7 @@ fn template_create(alloc: Global, given: Given) -> Result<Invoke, AllocError>
 
 // The flags of a new EDT, and the variable of its output event.
 fn flags(given: Given) -> (Expr, Option<Name>)
-    requires { fits (slot.Flags ∷ []) (in_order given) ≡ true }
+    requires { fits (slot.FlagsAndOutput ∷ []) (in_order given) ≡ true }
     ensures { in_order given ≡ value (expression_of result.0) (output_of result.1) }
 {
     let Given::Value(flags, rest) = given else {

@@ -8,12 +8,12 @@ ghost use Rattle.ocr_program.specs.Answers.{Answers, IsFaultOrNoMemory, IsTreeOr
 ghost use Rattle.ocr_program.specs.Machine as machine;
 ghost use Rattle.ocr_program.specs.View.{state_of};
 
-use crate::limits::{Tally, is_over, tallied};
+use crate::limits::{Tally, is_over, tally_after};
 use crate::states::State;
 use crate::steps::step;
-use ocr_tree::Program;
 use ocr_grammar::read_token;
 use ocr_text::Token;
+use ocr_tree::Program;
 use std::alloc::{AllocError, Global};
 
 /// Where a text is no program: the first byte of the first token after which no program goes on, of
@@ -61,7 +61,7 @@ fn read(alloc: Global, bytes: &[u8], tokens: &[Token]) -> Result<Parsed, AllocEr
         let Some(lexeme) = read_token(alloc, bytes, token)? else {
             continue
         };
-        tally = tallied(tally, &lexeme);
+        tally = tally_after(tally, &lexeme);
         if is_over(tally) {
             return Ok(Parsed::Fault(token.start));
         }

@@ -7,8 +7,8 @@ ghost use Rattle.ocr_program.specs.Marks.{is_else};
 ghost use Rattle.ocr_program.specs.View.{here_of, kind_of, purpose_of, state_of, seen, ended_at};
 
 use crate::states::{Around, Here, Kind, Outer, Purpose, Stack, State};
-use ocr_tree::{Expr, Function, Invoke, Stmt};
 use ocr_grammar::{Lexeme, Word};
+use ocr_tree::{Expr, Function, Invoke, Stmt};
 use std::alloc::{AllocError, Global};
 
 // The statements so far and one more.

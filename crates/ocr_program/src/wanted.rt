@@ -6,8 +6,8 @@ ghost use Rattle.ocr_program.specs.View.{given_of, slots_after, stack_of, around
 
 use crate::expressions::{argument, with_name};
 use crate::states::{Arg, Around, Here, Indexed, Purpose, Stack, State};
-use ocr_tree::{BinaryOp, CallName, Function, Name};
 use ocr_grammar::{Lexeme, Word};
+use ocr_tree::{BinaryOp, CallName, Function, Name};
 use std::alloc::{AllocError, Global};
 
 pub fn function_word(functions: Vec<Function>, lexeme: &Lexeme) -> Option<State>
