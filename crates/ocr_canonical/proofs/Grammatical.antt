@@ -8,8 +8,8 @@ use Rattle.ocr_tree.specs.Tree.{Expression, Arguments, empty, value, list, named
 use Rattle.ocr_grammar.specs.declared.lexeme.Lexeme.{Lexeme}
 use Rattle.ocr_grammar.specs.declared.lexeme.Lexeme.TheVariants as lexeme
 use Rattle.ocr_grammar.specs.Shape.{shape}
-use Rattle.ocr_grammar.specs.declared.slots.Slot.{Slot}
-use Rattle.ocr_grammar.specs.declared.slots.Slot.TheVariants as slot
+use Rattle.ocr_grammar.specs.declared.argument_kind.ArgumentKind.{ArgumentKind}
+use Rattle.ocr_grammar.specs.declared.argument_kind.ArgumentKind.TheVariants as slot
 use Rattle.ocr_grammar.specs.Grammar as grammar
 use Rattle.ocr_grammar.specs.Grammar.{level, unary_level, IsExpression, AreArguments, Follows, AreMembers, IsStatement, AreStatements, IsProgram}
 use Rattle.ocr_canonical.specs.Canonical.{level_of}
@@ -19,17 +19,17 @@ use Rattle.ocr_canonical.proofs.Speakable as speakable
 use Rattle.ocr_canonical.proofs.Speakable.{IsSpeakable, Suits, AreSpeakable, IsWritable, AreWritable, IsWritableProgram}
 
 -- no name of a function stands in these slots
-abbrev pub is_plain : Slot → Bool
+abbrev pub is_plain : ArgumentKind → Bool
 is_plain slot.Value = true
 is_plain slot.Values = true
-is_plain slot.Named = false
-is_plain slot.Flags = true
+is_plain slot.NameOfFunction = false
+is_plain slot.FlagsAndOutput = true
 
-abbrev pub ArePlain : List Slot → Type 0
+abbrev pub ArePlain : List ArgumentKind → Type 0
 ArePlain [] = Unit {0}
 ArePlain (s ∷ ss) = (is_plain s ≡ true) × ArePlain ss
 
-abbrev pub AreOthersPlain : List Slot → Type 0
+abbrev pub AreOthersPlain : List ArgumentKind → Type 0
 AreOthersPlain [] = Unit {0}
 AreOthersPlain (s ∷ ss) = ArePlain ss
 
@@ -56,7 +56,7 @@ abbrev IsRead : Expression → Type 0
 IsRead e = (l : ℕ) (rest : List Lexeme) → l ≤ level_of e → IsExpression l (canonical.expression e rest) rest e
 
 -- these lexemes begin with what follows an argument
-record Following (ss : List Slot) (ts rest : List Lexeme) (args : Arguments) : Type 0 where
+record Following (ss : List ArgumentKind) (ts rest : List Lexeme) (args : Arguments) : Type 0 where
   pub first : Lexeme
   pub mid : List Lexeme
   pub is : ts ≡ first ∷ mid
@@ -67,31 +67,31 @@ in_brackets : (l : ℕ) (e : Expression) (rest : List Lexeme) (b : Bool) → is_
 in_brackets l e rest true is all = grammar.parentheses l _ rest e (all 0 (lexeme.CloseRound ∷ rest) (omega arith))
 in_brackets l e rest false is all = all l rest (ltb-false (level_of e) l is)
 
-value_here : (ss : List Slot) (e : Expression) (more : Arguments) (ts rest : List Lexeme) → IsRead e → Following ss ts rest more
+value_here : (ss : List ArgumentKind) (e : Expression) (more : Arguments) (ts rest : List Lexeme) → IsRead e → Following ss ts rest more
     → AreArguments (slot.Value ∷ ss) (canonical.expression e ts) rest (value e more)
 value_here ss e more ts rest all f =
     grammar.one_value ss _ f.mid rest e f.first more
     (subst (λ (l : List Lexeme). IsExpression 0 (canonical.expression e ts) l e) f.is (all 0 ts (omega arith))) f.follows
 
-empty_list_here : (ss : List Slot) (more : Arguments) (ts rest : List Lexeme) → Following ss ts rest more
+empty_list_here : (ss : List ArgumentKind) (more : Arguments) (ts rest : List Lexeme) → Following ss ts rest more
     → AreArguments (slot.Values ∷ ss) (lexeme.OpenSquare ∷ lexeme.CloseSquare ∷ ts) rest (list empty more)
 empty_list_here ss more ts rest f =
     subst (λ (l : List Lexeme). AreArguments (slot.Values ∷ ss) (lexeme.OpenSquare ∷ lexeme.CloseSquare ∷ l) rest (list empty more))
     (sym f.is) (grammar.no_values ss f.first f.mid rest more f.follows)
 
-list_here : (ss : List Slot) (es more : Arguments) (front ts rest : List Lexeme) → AreMembers front ts es → Following ss ts rest more
+list_here : (ss : List ArgumentKind) (es more : Arguments) (front ts rest : List Lexeme) → AreMembers front ts es → Following ss ts rest more
     → AreArguments (slot.Values ∷ ss) (lexeme.OpenSquare ∷ front) rest (list es more)
 list_here ss es more front ts rest members f =
     grammar.some_values ss f.first front f.mid rest es more
     (subst (λ (l : List Lexeme). AreMembers front l es) f.is members) f.follows
 
-name_here : (ss : List Slot) (x : List ℕ) (more : Arguments) (ts rest : List Lexeme) → Following ss ts rest more
-    → AreArguments (slot.Named ∷ ss) (lexeme.Name x ∷ ts) rest (named x more)
+name_here : (ss : List ArgumentKind) (x : List ℕ) (more : Arguments) (ts rest : List Lexeme) → Following ss ts rest more
+    → AreArguments (slot.NameOfFunction ∷ ss) (lexeme.Name x ∷ ts) rest (named x more)
 name_here ss x more ts rest f =
-    subst (λ (l : List Lexeme). AreArguments (slot.Named ∷ ss) (lexeme.Name x ∷ l) rest (named x more))
+    subst (λ (l : List Lexeme). AreArguments (slot.NameOfFunction ∷ ss) (lexeme.Name x ∷ l) rest (named x more))
     (sym f.is) (grammar.one_name ss x f.first f.mid rest more f.follows)
 
-after_comma : (s : Slot) (ss : List Slot) (ts rest : List Lexeme) (args : Arguments) → AreArguments (s ∷ ss) ts rest args
+after_comma : (s : ArgumentKind) (ss : List ArgumentKind) (ts rest : List Lexeme) (args : Arguments) → AreArguments (s ∷ ss) ts rest args
     → Following (s ∷ ss) (lexeme.Comma ∷ ts) rest args
 after_comma s ss ts rest args a = record { first = lexeme.Comma; mid = ts; is = refl; follows = grammar.goes s ss ts rest args a }
 
@@ -113,7 +113,7 @@ mutual
       (in_brackets (level op + 1) b rest (is_lower b (level op + 1)) refl (expression b t))
   expression _ (speakable.invoked c args s) l rest h = grammar.invoked l c _ rest args (first_arguments (shape c) args s (others_plain c) rest)
 
-  pub first_arguments : (ss : List Slot) (args : Arguments) → Suits ss args → AreOthersPlain ss → (rest : List Lexeme)
+  pub first_arguments : (ss : List ArgumentKind) (args : Arguments) → Suits ss args → AreOthersPlain ss → (rest : List Lexeme)
       → AreArguments ss (canonical.arguments args (lexeme.CloseRound ∷ rest)) rest args
   first_arguments _ _ speakable.over plain rest = grammar.no_more rest
   first_arguments _ _ (speakable.one ss e more s t) plain rest = value_here ss e more _ rest (expression e s) (following ss more t plain rest)
@@ -124,7 +124,7 @@ mutual
   first_arguments _ _ (speakable.flags ss e s) plain rest = grammar.flags ss _ rest e (expression e s 0 _ (omega arith))
   first_arguments _ _ (speakable.output ss e x s is) plain rest = grammar.output ss _ rest e x (expression e s 0 _ (omega arith))
 
-  following : (ss : List Slot) (args : Arguments) → Suits ss args → ArePlain ss → (rest : List Lexeme)
+  following : (ss : List ArgumentKind) (args : Arguments) → Suits ss args → ArePlain ss → (rest : List Lexeme)
       → Following ss (canonical.further args (lexeme.CloseRound ∷ rest)) rest args
   following _ _ speakable.over plain rest = record { first = lexeme.CloseRound; mid = rest; is = refl; follows = grammar.closes rest }
   following _ _ (speakable.one ss e more s t) plain rest =
@@ -135,9 +135,9 @@ mutual
       after_comma slot.Values ss _ rest _ (list_here ss (value e es) more _ _ rest (members e es (expression e s) r _) (following ss more t plain.1 rest))
   following _ _ (speakable.function ss x more is t) plain rest = let h = plain.0 in cc
   following _ _ (speakable.flags ss e s) plain rest =
-      after_comma slot.Flags ss _ rest _ (grammar.flags ss _ rest e (expression e s 0 _ (omega arith)))
+      after_comma slot.FlagsAndOutput ss _ rest _ (grammar.flags ss _ rest e (expression e s 0 _ (omega arith)))
   following _ _ (speakable.output ss e x s is) plain rest =
-      after_comma slot.Flags ss _ rest _ (grammar.output ss _ rest e x (expression e s 0 _ (omega arith)))
+      after_comma slot.FlagsAndOutput ss _ rest _ (grammar.output ss _ rest e x (expression e s 0 _ (omega arith)))
 
   members : (e : Expression) (es : Arguments) → IsRead e → AreSpeakable es → (rest : List Lexeme)
       → AreMembers (canonical.arguments (value e es) (lexeme.CloseSquare ∷ rest)) rest (value e es)

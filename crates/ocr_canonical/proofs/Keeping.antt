@@ -2,7 +2,7 @@
 use Rattle.std.proofs.Common.{◌≡◌, ◌≤◌, ℕ, zero, suc, List, [], ◌∷◌, Bool, true, false, Some, None, length, take, refl, arith}
 use Rattle.std.proofs.lemmas.Grind.{common_steps}
 use Rattle.ocr_grammar.specs.declared.lexeme.Lexeme.{Lexeme}
-use Rattle.ocr_grammar.specs.Limits.{Tally, tallied, tally, is_over}
+use Rattle.ocr_grammar.specs.Limits.{Tally, tally_after, tally, is_over}
 
 -- an expression is being read, and so many of its lexemes were
 abbrev pub inside : ℕ → ℕ → Tally
@@ -14,7 +14,7 @@ outer d = record { tokens = None; depth = d }
 
 abbrev pub Keeps : Tally → List Lexeme → Type 0
 Keeps y [] = is_over y ≡ false
-Keeps y (t ∷ ts) = (is_over y ≡ false) × Keeps (tallied y t) ts
+Keeps y (t ∷ ts) = (is_over y ≡ false) × Keeps (tally_after y t) ts
 
 pub keeps_now : (y : Tally) (ts : List Lexeme) → Keeps y ts → is_over y ≡ false
 keeps_now y [] k = k
@@ -39,7 +39,7 @@ false_or_true false never = refl
 pub from_fits : (ts : List Lexeme) (y : Tally) → ((k : ℕ) → k ≤ length ts → is_over (tally y (take k ts)) ≡ true → ⊥) → Keeps y ts
 from_fits [] y fits = false_or_true (is_over y) (fits 0 (omega arith))
 from_fits (t ∷ ts) y fits =
-    (false_or_true (is_over y) (fits 0 (omega arith)), from_fits ts (tallied y t) (λ k low over. fits (suc k) (omega (arith, low)) over))
+    (false_or_true (is_over y) (fits 0 (omega arith)), from_fits ts (tally_after y t) (λ k low over. fits (suc k) (omega (arith, low)) over))
 
 not_both : (b : Bool) → b ≡ true → b ≡ false → ⊥
 not_both b p q = cc
@@ -48,4 +48,4 @@ pub to_fits : (ts : List Lexeme) (y : Tally) → Keeps y ts → (k : ℕ) → k 
 to_fits [] y keeps zero low over = not_both (is_over y) over keeps
 to_fits [] y keeps (suc k) low over = absurd (omega (arith, low))
 to_fits (t ∷ ts) y keeps zero low over = not_both (is_over y) over keeps.0
-to_fits (t ∷ ts) y keeps (suc k) low over = to_fits ts (tallied y t) keeps.1 k (omega (arith, low)) over
+to_fits (t ∷ ts) y keeps (suc k) low over = to_fits ts (tally_after y t) keeps.1 k (omega (arith, low)) over

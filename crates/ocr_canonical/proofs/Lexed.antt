@@ -16,7 +16,7 @@ use Rattle.ocr_grammar.specs.Texts as texts
 -- what a token of this kind and these bytes is to the grammar
 pub data Gives : TokenKind → List ℕ → Lexeme → Type 0 where
   number : (piece : List ℕ) → value_of piece < 2 ^ 64 → Gives kind.Number piece (lexeme.Number (value_of piece))
-  name : (piece : List ℕ) → Gives kind.Name piece (texts.named piece)
+  name : (piece : List ℕ) → Gives kind.Name piece (texts.lexeme_of_name piece)
   symbol : (piece : List ℕ) (l : Lexeme) → texts.symbol piece ≡ Some l → Gives kind.Symbol piece l
 
 pub data IsLexed : List ℕ → List Lexeme → Type 0 where
@@ -148,7 +148,7 @@ found_name (b ∷ bs) rest form stops =
     let more : run_of (goes_on kind.Name) (bs ++ rest) + 1 ≡ suc (length bs) = omega (arith, run_stopped (goes_on kind.Name) bs rest (and_right (is_letter b) _ form) (stops_name rest stops)) in
     ap (λ (o : Option TokenKind). found_as o b (bs ++ rest)) (first_byte kind.Name b bs form) ∙ ap (λ (n : ℕ). Some (kind.Name, n)) more
 
-pub word : (x rest : List ℕ) (l : Lexeme) (ls : List Lexeme) → is_form kind.Name x ≡ true → texts.named x ≡ l → Stops rest → IsLexed rest ls → IsLexed (x ++ rest) (l ∷ ls)
+pub word : (x rest : List ℕ) (l : Lexeme) (ls : List Lexeme) → is_form kind.Name x ≡ true → texts.lexeme_of_name x ≡ l → Stops rest → IsLexed rest ls → IsLexed (x ++ rest) (l ∷ ls)
 word x rest l ls form is stops d = whole kind.Name x rest l ls (found_name x rest form stops) (subst (λ (t : Lexeme). Gives kind.Name x t) is (name x)) d
 
 found_number : (x rest : List ℕ) → is_form kind.Number x ≡ true → Stops rest → found (x ++ rest) ≡ Some (kind.Number, length x)

@@ -7,7 +7,7 @@ use Rattle.ocr_tree.specs.Tree.{Expression, Number, Named, Var, Paramc, Depc, La
 use Rattle.ocr_grammar.specs.declared.lexeme.Lexeme.{Lexeme}
 use Rattle.ocr_grammar.specs.declared.lexeme.Lexeme.TheVariants as lexeme
 use Rattle.ocr_grammar.specs.declared.lexeme.Word.TheVariants as word
-use Rattle.ocr_grammar.specs.Grammar.{level, unary_level, spelled, spelled_unary}
+use Rattle.ocr_grammar.specs.Grammar.{level, unary_level, lexeme_of_operator, lexeme_of_sign}
 use Rattle.ocr_canonical.specs.Canonical.{level_of}
 
 abbrev pub bracketed : Bool → (List Lexeme → List Lexeme) → List Lexeme → List Lexeme
@@ -27,10 +27,10 @@ abbrev mutual
   expression LastCode rest = lexeme.Word word.Code ∷ rest
   expression (Paramv e) rest = lexeme.Word word.Paramv ∷ lexeme.OpenSquare ∷ expression e (lexeme.CloseSquare ∷ rest)
   expression (Depv e) rest = lexeme.Word word.Depv ∷ lexeme.OpenSquare ∷ expression e (lexeme.CloseSquare ∷ rest)
-  expression (Unary op e) rest = spelled_unary op ∷ bracketed (is_lower e unary_level) (expression e) rest
+  expression (Unary op e) rest = lexeme_of_sign op ∷ bracketed (is_lower e unary_level) (expression e) rest
   expression (Binary op a b) rest =
       bracketed (is_lower a (level op)) (expression a)
-      (spelled op ∷ bracketed (is_lower b (level op + 1)) (expression b) rest)
+      (lexeme_of_operator op ∷ bracketed (is_lower b (level op + 1)) (expression b) rest)
   expression (Invoked c args) rest = lexeme.Call c ∷ lexeme.OpenRound ∷ arguments args (lexeme.CloseRound ∷ rest)
 
   pub arguments : Arguments → List Lexeme → List Lexeme

@@ -7,7 +7,7 @@ use Rattle.ocr_tree.specs.Tree.{Expression, Number, Named, Var, Paramc, Depc, La
 use Rattle.ocr_grammar.specs.declared.lexeme.Lexeme.{Lexeme}
 use Rattle.ocr_grammar.specs.declared.lexeme.Lexeme.TheVariants as lexeme
 use Rattle.ocr_grammar.specs.declared.lexeme.Word.TheVariants as word
-use Rattle.ocr_grammar.specs.Grammar.{level, unary_level, spelled, spelled_unary}
+use Rattle.ocr_grammar.specs.Grammar.{level, unary_level, lexeme_of_operator, lexeme_of_sign}
 use Rattle.ocr_grammar.specs.Limits.{within}
 use Rattle.ocr_canonical.proofs.Lexemes as canonical
 use Rattle.ocr_canonical.proofs.Lexemes.{is_lower, bracket_size, size, arguments_size, further_size}
@@ -43,7 +43,7 @@ resized f j k e kept = subst (λ (i : ℕ). IsKept f i) e kept
 after : (t : Lexeme) (f : List Lexeme → List Lexeme) (j k : ℕ) → ((d n : ℕ) → within d n t ≡ inside (n + 1) d) → 1 + j ≡ k → IsKept f j → IsKept (λ ls. t ∷ f ls) k
 after t f j k is e kept = resized _ (1 + j) k e (then (λ ls. t ∷ ls) f 1 j (token t is) kept)
 
-unary_within : (op : UnaryOp) (d n : ℕ) → within d n (spelled_unary op) ≡ inside (n + 1) d
+unary_within : (op : UnaryOp) (d n : ℕ) → within d n (lexeme_of_sign op) ≡ inside (n + 1) d
 unary_within unary.Not d n = refl
 unary_within unary.Invert d n = refl
 unary_within unary.Minus d n = refl
@@ -71,15 +71,15 @@ mutual
       (after lexeme.OpenSquare (λ ls. canonical.expression e (lexeme.CloseSquare ∷ ls)) (size e + 1) (2 + size e) (λ d n. refl) (omega arith)
       (then (canonical.expression e) (λ ls. lexeme.CloseSquare ∷ ls) (size e) 1 (expression e) (token lexeme.CloseSquare (λ d n. refl))))
   expression (Unary op e) =
-      after (spelled_unary op) _ (bracket_size (is_lower e unary_level) (size e)) _ (unary_within op) refl
+      after (lexeme_of_sign op) _ (bracket_size (is_lower e unary_level) (size e)) _ (unary_within op) refl
       (bracketed (is_lower e unary_level) (canonical.expression e) (size e) (expression e))
   expression (Binary op a b) =
       let x = is_lower a (level op) in
       let y = is_lower b (level op + 1) in
       resized _ (bracket_size x (size a) + (1 + bracket_size y (size b))) _ (omega arith)
-      (then (canonical.bracketed x (canonical.expression a)) (λ ls. spelled op ∷ canonical.bracketed y (canonical.expression b) ls) _ _
+      (then (canonical.bracketed x (canonical.expression a)) (λ ls. lexeme_of_operator op ∷ canonical.bracketed y (canonical.expression b) ls) _ _
       (bracketed x (canonical.expression a) (size a) (expression a))
-      (after (spelled op) (canonical.bracketed y (canonical.expression b)) _ _ (λ d n. refl) refl (bracketed y (canonical.expression b) (size b) (expression b))))
+      (after (lexeme_of_operator op) (canonical.bracketed y (canonical.expression b)) _ _ (λ d n. refl) refl (bracketed y (canonical.expression b) (size b) (expression b))))
   expression (Invoked c args) =
       after (lexeme.Call c) (λ ls. lexeme.OpenRound ∷ canonical.arguments args (lexeme.CloseRound ∷ ls)) (2 + arguments_size args) (3 + arguments_size args) (λ d n. refl) (omega arith)
       (enclosed args)

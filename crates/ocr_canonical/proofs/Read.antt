@@ -11,10 +11,10 @@ use Rattle.ocr_tree.specs.Tree.{Expression, Arguments, empty, value, list, named
 use Rattle.ocr_grammar.specs.declared.lexeme.Lexeme.{Lexeme}
 use Rattle.ocr_grammar.specs.declared.lexeme.Lexeme.TheVariants as lexeme
 use Rattle.ocr_grammar.specs.declared.lexeme.Word.TheVariants as word
-use Rattle.ocr_grammar.specs.declared.slots.Slot.{Slot}
+use Rattle.ocr_grammar.specs.declared.argument_kind.ArgumentKind.{ArgumentKind}
 use Rattle.ocr_grammar.specs.Shape.{shape}
 use Rattle.ocr_grammar.specs.Grammar as grammar
-use Rattle.ocr_grammar.specs.Grammar.{level, unary_level, spelled, spelled_unary, IsExpression, AreArguments, Follows, AreMembers, IsStatement, AreStatements, IsProgram}
+use Rattle.ocr_grammar.specs.Grammar.{level, unary_level, lexeme_of_operator, lexeme_of_sign, IsExpression, AreArguments, Follows, AreMembers, IsStatement, AreStatements, IsProgram}
 use Rattle.ocr_canonical.specs.Canonical.{level_of}
 use Rattle.ocr_canonical.proofs.Lexemes.{is_lower, bracket_size, size, size_at, arguments_size, further_size}
 use Rattle.ocr_canonical.proofs.Keeping.{Keeps, keeps_now, inside, outer, inside_low, outer_low}
@@ -100,7 +100,7 @@ record ReadExpression (n d l : ℕ) (rest : List Lexeme) (e : Expression) : Type
   pub speakable : IsSpeakable e
   pub read : Read n d rest (size_at l e)
 
-record ReadArguments (n d : ℕ) (ss : List Slot) (rest : List Lexeme) (args : Arguments) (least : ℕ) : Type 0 where
+record ReadArguments (n d : ℕ) (ss : List ArgumentKind) (rest : List Lexeme) (args : Arguments) (least : ℕ) : Type 0 where
   pub suits : Suits ss args
   pub read : Read n d rest least
 
@@ -112,12 +112,12 @@ record ReadMembers (n d : ℕ) (rest : List Lexeme) (es : Arguments) : Type 0 wh
 atom : (n d l : ℕ) (rest : List Lexeme) (e : Expression) → l ≤ level_of e → size e ≡ 1 → IsSpeakable e → Keeps (inside (n + 1) d) rest → AreGood rest → ReadExpression n d l rest e
 atom n d l rest e low one s k g = record { speakable = s; read = subst (λ (m : ℕ). Read n d rest m) (sym (bare e l low ∙ one)) (one_more n d rest k g) }
 
-signed_keeps : (op : UnaryOp) (n d : ℕ) (ts : List Lexeme) → Keeps (inside n d) (spelled_unary op ∷ ts) → Keeps (inside (n + 1) d) ts
+signed_keeps : (op : UnaryOp) (n d : ℕ) (ts : List Lexeme) → Keeps (inside n d) (lexeme_of_sign op ∷ ts) → Keeps (inside (n + 1) d) ts
 signed_keeps unary.Not n d ts k = k.1
 signed_keeps unary.Invert n d ts k = k.1
 signed_keeps unary.Minus n d ts k = k.1
 
-plain_further : (s : Slot) (ss : List Slot) (args : Arguments) → is_plain s ≡ true → Suits (s ∷ ss) args → further_size args ≤ 1 + arguments_size args
+plain_further : (s : ArgumentKind) (ss : List ArgumentKind) (args : Arguments) → is_plain s ≡ true → Suits (s ∷ ss) args → further_size args ≤ 1 + arguments_size args
 plain_further _ _ _ is (speakable.one ss e more s t) = omega arith
 plain_further _ _ _ is (speakable.several ss es more s t) = omega arith
 plain_further _ _ _ is (speakable.function ss x more name t) = cc
@@ -160,7 +160,7 @@ mutual
       }
   expression _ _ _ _ (grammar.joined l op ts mid rest a b high s t) low n d k g =
       let most = level_most op in
-      let r = expression (level op) ts (spelled op ∷ mid) a s (omega arith) n d k g in
+      let r = expression (level op) ts (lexeme_of_operator op ∷ mid) a s (omega arith) n d k g in
       let q = expression (level op + 1) mid rest b t (omega arith) (n + r.read.count + 1) d r.read.keeps.1 r.read.good.1 in
       record {
         speakable = speakable.joined op a b r.speakable q.speakable;
@@ -182,7 +182,7 @@ mutual
         read = more 1 n d rest (arguments_size args + 2) _ (omega (arith, bare (tree.Invoked c args) l low)) (more 1 (n + 1) d rest (arguments_size args + 1) _ (omega arith) r.read);
       }
 
-  first_arguments : (ss : List Slot) (ts rest : List Lexeme) (args : Arguments) → AreArguments ss ts rest args → AreOthersPlain ss → (n d : ℕ) → Keeps (inside n d) ts → AreGood ts → ReadArguments n d ss rest args (arguments_size args + 1)
+  first_arguments : (ss : List ArgumentKind) (ts rest : List Lexeme) (args : Arguments) → AreArguments ss ts rest args → AreOthersPlain ss → (n d : ℕ) → Keeps (inside n d) ts → AreGood ts → ReadArguments n d ss rest args (arguments_size args + 1)
   first_arguments _ _ _ _ (grammar.no_more rest) plain n d k g = record { suits = speakable.over; read = one_more n d rest k.1 g.1 }
   first_arguments _ _ _ _ (grammar.one_value ss ts mid rest e t args s f) plain n d k g =
       let r = expression 0 ts (t ∷ mid) e s (omega arith) n d k g in
@@ -223,7 +223,7 @@ mutual
         read = more 1 n d rest (arguments_size es + 1 + (further_size args + 1)) _ (omega arith) (join (n + 1) d _ rest (arguments_size es + 1) _ r.read (further_size args + 1) (omega arith) q.read);
       }
 
-  following : (ss : List Slot) (t : Lexeme) (mid rest : List Lexeme) (args : Arguments) → Follows ss t mid rest args → ArePlain ss → (n d : ℕ) → Keeps (inside n d) (t ∷ mid) → AreGood (t ∷ mid) → ReadArguments n d ss rest args (further_size args + 1)
+  following : (ss : List ArgumentKind) (t : Lexeme) (mid rest : List Lexeme) (args : Arguments) → Follows ss t mid rest args → ArePlain ss → (n d : ℕ) → Keeps (inside n d) (t ∷ mid) → AreGood (t ∷ mid) → ReadArguments n d ss rest args (further_size args + 1)
   following _ _ _ _ _ (grammar.closes rest) plain n d k g = record { suits = speakable.over; read = one_more n d rest k.1 g.1 }
   following _ _ _ _ _ (grammar.goes s ss ts rest args a) plain n d k g =
       let r = first_arguments (s ∷ ss) ts rest args a plain.1 (n + 1) d k.1 g.1 in

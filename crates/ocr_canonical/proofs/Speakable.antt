@@ -10,15 +10,15 @@ use Rattle.ocr_text.specs.Forms.{is_form}
 use Rattle.ocr_text.specs.declared.token.TokenKind.TheVariants as kind
 use Rattle.ocr_grammar.specs.declared.lexeme.Lexeme.TheVariants as lexeme
 use Rattle.ocr_grammar.specs.Shape.{shape}
-use Rattle.ocr_grammar.specs.declared.slots.Slot.{Slot}
-use Rattle.ocr_grammar.specs.declared.slots.Slot.TheVariants as slot
+use Rattle.ocr_grammar.specs.declared.argument_kind.ArgumentKind.{ArgumentKind}
+use Rattle.ocr_grammar.specs.declared.argument_kind.ArgumentKind.TheVariants as slot
 use Rattle.ocr_grammar.specs.Texts as texts
 use Rattle.ocr_canonical.proofs.Lexemes.{size, arguments_size}
 
 -- letters that are no reserved name
 pub record IsName (x : List ℕ) : Type 0 where
   pub form : is_form kind.Name x ≡ true
-  pub free : texts.named x ≡ lexeme.Name x
+  pub free : texts.lexeme_of_name x ≡ lexeme.Name x
 
 mutual
   pub data IsSpeakable : Expression → Type 0 where
@@ -35,17 +35,17 @@ mutual
     invoked : (c : CallName) (args : Arguments) → Suits (shape c) args → IsSpeakable (Invoked c args)
 
   -- the arguments are those of these slots
-  pub data Suits : List Slot → Arguments → Type 0 where
+  pub data Suits : List ArgumentKind → Arguments → Type 0 where
     over : Suits [] empty
-    one : (ss : List Slot) (e : Expression) (more : Arguments) → IsSpeakable e → Suits ss more
+    one : (ss : List ArgumentKind) (e : Expression) (more : Arguments) → IsSpeakable e → Suits ss more
         → Suits (slot.Value ∷ ss) (value e more)
-    several : (ss : List Slot) (es more : Arguments) → AreSpeakable es → Suits ss more
+    several : (ss : List ArgumentKind) (es more : Arguments) → AreSpeakable es → Suits ss more
         → Suits (slot.Values ∷ ss) (list es more)
-    function : (ss : List Slot) (x : List ℕ) (more : Arguments) → IsName x → Suits ss more
-        → Suits (slot.Named ∷ ss) (named x more)
-    flags : (ss : List Slot) (e : Expression) → IsSpeakable e → Suits (slot.Flags ∷ ss) (value e empty)
-    output : (ss : List Slot) (e : Expression) (x : List ℕ) → IsSpeakable e → IsName x
-        → Suits (slot.Flags ∷ ss) (value e (named x empty))
+    function : (ss : List ArgumentKind) (x : List ℕ) (more : Arguments) → IsName x → Suits ss more
+        → Suits (slot.NameOfFunction ∷ ss) (named x more)
+    flags : (ss : List ArgumentKind) (e : Expression) → IsSpeakable e → Suits (slot.FlagsAndOutput ∷ ss) (value e empty)
+    output : (ss : List ArgumentKind) (e : Expression) (x : List ℕ) → IsSpeakable e → IsName x
+        → Suits (slot.FlagsAndOutput ∷ ss) (value e (named x empty))
 
   -- the members of a list
   pub data AreSpeakable : Arguments → Type 0 where

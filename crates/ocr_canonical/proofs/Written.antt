@@ -15,9 +15,9 @@ use Rattle.ocr_text.proofs.Bytes.{and_left}
 use Rattle.ocr_grammar.specs.declared.lexeme.Lexeme.{Lexeme}
 use Rattle.ocr_grammar.specs.declared.lexeme.Lexeme.TheVariants as lexeme
 use Rattle.ocr_grammar.specs.declared.lexeme.Word.TheVariants as reserved
-use Rattle.ocr_grammar.specs.declared.slots.Slot.{Slot}
+use Rattle.ocr_grammar.specs.declared.argument_kind.ArgumentKind.{ArgumentKind}
 use Rattle.ocr_grammar.specs.Shape.{shape}
-use Rattle.ocr_grammar.specs.Grammar.{level, unary_level, spelled, spelled_unary}
+use Rattle.ocr_grammar.specs.Grammar.{level, unary_level, lexeme_of_operator, lexeme_of_sign}
 use Rattle.ocr_grammar.specs.Texts.{operator_text, sign_text, call_text, constant_text}
 use Rattle.ocr_canonical.specs.Canonical as text
 use Rattle.ocr_canonical.specs.Canonical.{expression_text, arguments_text, further_text, statement_text, statements_text, function_text, program_text, further_functions, deeper}
@@ -32,12 +32,12 @@ use Rattle.ocr_canonical.proofs.Speakable.{IsSpeakable, Suits, AreSpeakable, IsW
 
 -- ---- signs
 
-unary_before : (op : UnaryOp) (rest : List ℕ) (ls : List Lexeme) → second_of 33 rest ≡ 0 → IsLexed rest ls → IsLexed (sign_text op ++ rest) (spelled_unary op ∷ ls)
+unary_before : (op : UnaryOp) (rest : List ℕ) (ls : List Lexeme) → second_of 33 rest ≡ 0 → IsLexed rest ls → IsLexed (sign_text op ++ rest) (lexeme_of_sign op ∷ ls)
 unary_before unary.Not rest ls apart d = single 33 rest lexeme.Not ls refl apart refl d
 unary_before unary.Invert rest ls apart d = plain 126 rest lexeme.Invert ls refl (λ b. refl) refl d
 unary_before unary.Minus rest ls apart d = plain 45 rest (lexeme.Operator binary.Sub) ls refl (λ b. refl) refl d
 
-operator_before : (op : BinaryOp) (rest : List ℕ) (ls : List Lexeme) → IsLexed rest ls → IsLexed (32 ∷ (operator_text op ++ 32 ∷ rest)) (spelled op ∷ ls)
+operator_before : (op : BinaryOp) (rest : List ℕ) (ls : List Lexeme) → IsLexed rest ls → IsLexed (32 ∷ (operator_text op ++ 32 ∷ rest)) (lexeme_of_operator op ∷ ls)
 operator_before binary.Or rest ls d = space _ _ (single 124 (32 ∷ rest) _ ls refl refl refl (space rest ls d))
 operator_before binary.Xor rest ls d = space _ _ (single 94 (32 ∷ rest) _ ls refl refl refl (space rest ls d))
 operator_before binary.And rest ls d = space _ _ (single 38 (32 ∷ rest) _ ls refl refl refl (space rest ls d))
@@ -153,7 +153,7 @@ mutual
   expression _ (speakable.invoked c args s) rest ls stops d =
       simp append_assoc (word (call_text c) _ _ _ (call_form c) (spelling_law.call c) refl (open_round _ _ (arguments (shape c) args s (41 ∷ rest) _ refl (close_round rest ls d))))
 
-  arguments : (ss : List Slot) (args : Arguments) → Suits ss args → IsWritten (arguments_text args) (canonical.arguments args)
+  arguments : (ss : List ArgumentKind) (args : Arguments) → Suits ss args → IsWritten (arguments_text args) (canonical.arguments args)
   arguments _ _ speakable.over rest ls stops d = d
   arguments _ _ (speakable.one ss e more s t) rest ls stops d =
       simp append_assoc (expression e s _ _ (stops_further more rest stops) (further ss more t rest ls stops d))
@@ -164,7 +164,7 @@ mutual
   arguments _ _ (speakable.flags ss e s) rest ls stops d = simp append_assoc (expression e s rest ls stops d)
   arguments _ _ (speakable.output ss e x s is) rest ls stops d = output_before e x rest ls (expression e s) is stops d
 
-  further : (ss : List Slot) (args : Arguments) → Suits ss args → IsWritten (further_text args) (canonical.further args)
+  further : (ss : List ArgumentKind) (args : Arguments) → Suits ss args → IsWritten (further_text args) (canonical.further args)
   further _ _ speakable.over rest ls stops d = d
   further _ _ (speakable.one ss e more s t) rest ls stops d =
       simp append_assoc (comma _ _ (space _ _ (expression e s _ _ (stops_further more rest stops) (further ss more t rest ls stops d))))

@@ -7,16 +7,16 @@ use Rattle.ocr_tree.specs.Tree.{Expression, Arguments}
 use Rattle.ocr_grammar.specs.declared.lexeme.Lexeme.{Lexeme}
 use Rattle.ocr_grammar.specs.declared.lexeme.Lexeme.TheVariants as lexeme
 use Rattle.ocr_grammar.specs.declared.lexeme.Word.TheVariants as word
-use Rattle.ocr_grammar.specs.declared.slots.Slot.{Slot}
+use Rattle.ocr_grammar.specs.declared.argument_kind.ArgumentKind.{ArgumentKind}
 use Rattle.ocr_grammar.specs.Grammar as g
-use Rattle.ocr_grammar.specs.Grammar.{level, spelled, spelled_unary, IsExpression, AreArguments, Follows, AreMembers}
+use Rattle.ocr_grammar.specs.Grammar.{level, lexeme_of_operator, lexeme_of_sign, IsExpression, AreArguments, Follows, AreMembers}
 use Rattle.ocr_grammar.specs.Shape.{shape}
-use Rattle.ocr_grammar.specs.Limits.{Tally, tally, within, tallied}
+use Rattle.ocr_grammar.specs.Limits.{Tally, tally, within, tally_after}
 use Rattle.ocr_grammar.specs.Laws.{IsCounted, CountLaw}
 
 tally_append : (y : Tally) (a b : List Lexeme) → tally y (a ++ b) ≡ tally (tally y a) b
 tally_append y [] b = refl
-tally_append y (t ∷ a) b = tally_append (tallied y t) a b
+tally_append y (t ∷ a) b = tally_append (tally_after y t) a b
 
 none : (ts : List Lexeme) → IsCounted ts ts
 none ts = record {
@@ -52,7 +52,7 @@ closed : (t : Lexeme) (ts rest : List Lexeme) → ((n d : ℕ) → within d n t 
     → IsCounted ts (t ∷ rest) → IsCounted ts rest
 closed t ts rest plain d = both ts (t ∷ rest) rest d (last t rest plain)
 
-unary_plain : (op : UnaryOp) (n d : ℕ) → within d n (spelled_unary op) ≡ record { tokens = Some (n + 1); depth = d }
+unary_plain : (op : UnaryOp) (n d : ℕ) → within d n (lexeme_of_sign op) ≡ record { tokens = Some (n + 1); depth = d }
 unary_plain unary.Not n d = refl
 unary_plain unary.Invert n d = refl
 unary_plain unary.Minus n d = refl
@@ -69,15 +69,15 @@ mutual
       one (lexeme.Word word.Paramv) _ rest (λ _ _. refl) (one lexeme.OpenSquare ts rest (λ _ _. refl) (closed lexeme.CloseSquare ts rest (λ _ _. refl) (expression 0 ts (lexeme.CloseSquare ∷ rest) e d)))
   expression _ _ _ _ (g.depv l ts rest e d) =
       one (lexeme.Word word.Depv) _ rest (λ _ _. refl) (one lexeme.OpenSquare ts rest (λ _ _. refl) (closed lexeme.CloseSquare ts rest (λ _ _. refl) (expression 0 ts (lexeme.CloseSquare ∷ rest) e d)))
-  expression _ _ _ _ (g.signed l op ts rest e d) = one (spelled_unary op) ts rest (unary_plain op) (expression 8 ts rest e d)
+  expression _ _ _ _ (g.signed l op ts rest e d) = one (lexeme_of_sign op) ts rest (unary_plain op) (expression 8 ts rest e d)
   expression _ _ _ _ (g.joined l op ts mid rest a b low first second) =
-      both ts (spelled op ∷ mid) rest (expression (level op) ts (spelled op ∷ mid) a first) (one (spelled op) mid rest (λ _ _. refl) (expression (level op + 1) mid rest b second))
+      both ts (lexeme_of_operator op ∷ mid) rest (expression (level op) ts (lexeme_of_operator op ∷ mid) a first) (one (lexeme_of_operator op) mid rest (λ _ _. refl) (expression (level op + 1) mid rest b second))
   expression _ _ _ _ (g.parentheses l ts rest e d) =
       one lexeme.OpenRound ts rest (λ _ _. refl) (closed lexeme.CloseRound ts rest (λ _ _. refl) (expression 0 ts (lexeme.CloseRound ∷ rest) e d))
   expression _ _ _ _ (g.invoked l c ts rest args d) =
       one (lexeme.Call c) _ rest (λ _ _. refl) (one lexeme.OpenRound ts rest (λ _ _. refl) (arguments (shape c) ts rest args d))
 
-  pub arguments : (ss : List Slot) (ts rest : List Lexeme) (args : Arguments) → AreArguments ss ts rest args → IsCounted ts rest
+  pub arguments : (ss : List ArgumentKind) (ts rest : List Lexeme) (args : Arguments) → AreArguments ss ts rest args → IsCounted ts rest
   arguments _ _ _ _ (g.no_more rest) = last lexeme.CloseRound rest (λ _ _. refl)
   arguments _ _ _ _ (g.one_value ss ts mid rest e t args d f) =
       both ts (t ∷ mid) rest (expression 0 ts (t ∷ mid) e d) (follow ss t mid rest args f)
@@ -92,7 +92,7 @@ mutual
   arguments _ _ _ _ (g.some_values ss t ts mid rest es args es_are f) =
       one lexeme.OpenSquare ts rest (λ _ _. refl) (both ts (t ∷ mid) rest (members ts (t ∷ mid) es es_are) (follow ss t mid rest args f))
 
-  follow : (ss : List Slot) (t : Lexeme) (mid rest : List Lexeme) (args : Arguments) → Follows ss t mid rest args → IsCounted (t ∷ mid) rest
+  follow : (ss : List ArgumentKind) (t : Lexeme) (mid rest : List Lexeme) (args : Arguments) → Follows ss t mid rest args → IsCounted (t ∷ mid) rest
   follow _ _ _ _ _ (g.closes rest) = last lexeme.CloseRound rest (λ _ _. refl)
   follow _ _ _ _ _ (g.goes s ss ts rest args d) = one lexeme.Comma ts rest (λ _ _. refl) (arguments (s ∷ ss) ts rest args d)
 

@@ -13,8 +13,8 @@ use Rattle.ocr_grammar.specs.declared.levels.TheConstants.{UNARY_LEVEL}
 use Rattle.ocr_grammar.specs.declared.lexeme.Lexeme.{Lexeme}
 use Rattle.ocr_grammar.specs.declared.lexeme.Lexeme.TheVariants as lexeme
 use Rattle.ocr_grammar.specs.declared.lexeme.Word.TheVariants as word
-use Rattle.ocr_grammar.specs.declared.slots.Slot.{Slot}
-use Rattle.ocr_grammar.specs.declared.slots.Slot.TheVariants.{Value, Values, Named, Flags}
+use Rattle.ocr_grammar.specs.declared.argument_kind.ArgumentKind.{ArgumentKind}
+use Rattle.ocr_grammar.specs.declared.argument_kind.ArgumentKind.TheVariants.{Value, Values, NameOfFunction, FlagsAndOutput}
 use Rattle.ocr_grammar.specs.Shape.{shape}
 
 -- The levels of the operators, from the lowest. An expression of a higher level holds closer
@@ -41,13 +41,13 @@ level binary.Rem = 7
 abbrev pub unary_level : ℕ
 unary_level = UNARY_LEVEL
 
-abbrev pub spelled : BinaryOp → Lexeme
-spelled op = lexeme.Operator op
+abbrev pub lexeme_of_operator : BinaryOp → Lexeme
+lexeme_of_operator op = lexeme.Operator op
 
-abbrev pub spelled_unary : UnaryOp → Lexeme
-spelled_unary unary.Not = lexeme.Not
-spelled_unary unary.Invert = lexeme.Invert
-spelled_unary unary.Minus = lexeme.Operator binary.Sub
+abbrev pub lexeme_of_sign : UnaryOp → Lexeme
+lexeme_of_sign unary.Not = lexeme.Not
+lexeme_of_sign unary.Invert = lexeme.Invert
+lexeme_of_sign unary.Minus = lexeme.Operator binary.Sub
 
 mutual
   -- an expression of this level or a higher one
@@ -72,10 +72,10 @@ mutual
         → IsExpression l (lexeme.Word word.Depv ∷ lexeme.OpenSquare ∷ ts) rest (tree.Depv e)
     signed : (l : ℕ) (op : UnaryOp) (ts rest : List Lexeme) (e : Expression)
         → IsExpression unary_level ts rest e
-        → IsExpression l (spelled_unary op ∷ ts) rest (tree.Unary op e)
+        → IsExpression l (lexeme_of_sign op ∷ ts) rest (tree.Unary op e)
     -- the right operand is of a higher level: operators of one level lean to the left
     joined : (l : ℕ) (op : BinaryOp) (ts mid rest : List Lexeme) (a b : Expression) → l ≤ level op
-        → IsExpression (level op) ts (spelled op ∷ mid) a → IsExpression (level op + 1) mid rest b
+        → IsExpression (level op) ts (lexeme_of_operator op ∷ mid) a → IsExpression (level op + 1) mid rest b
         → IsExpression l ts rest (tree.Binary op a b)
     parentheses : (l : ℕ) (ts rest : List Lexeme) (e : Expression)
         → IsExpression 0 ts (lexeme.CloseRound ∷ rest) e
@@ -85,35 +85,35 @@ mutual
         → IsExpression l (lexeme.Call c ∷ lexeme.OpenRound ∷ ts) rest (tree.Invoked c args)
 
   -- the arguments of these slots, and the closing bracket
-  pub data AreArguments : List Slot → List Lexeme → List Lexeme → Arguments → Type 0 where
+  pub data AreArguments : List ArgumentKind → List Lexeme → List Lexeme → Arguments → Type 0 where
     no_more : (rest : List Lexeme) → AreArguments [] (lexeme.CloseRound ∷ rest) rest empty
-    one_value : (ss : List Slot) (ts mid rest : List Lexeme) (e : Expression) (t : Lexeme)
+    one_value : (ss : List ArgumentKind) (ts mid rest : List Lexeme) (e : Expression) (t : Lexeme)
         (args : Arguments)
         → IsExpression 0 ts (t ∷ mid) e → Follows ss t mid rest args
         → AreArguments (Value ∷ ss) ts rest (value e args)
-    flags : (ss : List Slot) (ts rest : List Lexeme) (e : Expression)
+    flags : (ss : List ArgumentKind) (ts rest : List Lexeme) (e : Expression)
         → IsExpression 0 ts (lexeme.CloseRound ∷ rest) e
-        → AreArguments (Flags ∷ ss) ts rest (value e empty)
-    output : (ss : List Slot) (ts rest : List Lexeme) (e : Expression) (x : List ℕ)
+        → AreArguments (FlagsAndOutput ∷ ss) ts rest (value e empty)
+    output : (ss : List ArgumentKind) (ts rest : List Lexeme) (e : Expression) (x : List ℕ)
         → IsExpression 0 ts (lexeme.Comma ∷ lexeme.Operator binary.And ∷ lexeme.Name x
         ∷ lexeme.CloseRound ∷ rest) e
-        → AreArguments (Flags ∷ ss) ts rest (value e (named x empty))
-    one_name : (ss : List Slot) (x : List ℕ) (t : Lexeme) (mid rest : List Lexeme)
+        → AreArguments (FlagsAndOutput ∷ ss) ts rest (value e (named x empty))
+    one_name : (ss : List ArgumentKind) (x : List ℕ) (t : Lexeme) (mid rest : List Lexeme)
         (args : Arguments)
         → Follows ss t mid rest args
-        → AreArguments (Named ∷ ss) (lexeme.Name x ∷ t ∷ mid) rest (named x args)
-    no_values : (ss : List Slot) (t : Lexeme) (mid rest : List Lexeme) (args : Arguments)
+        → AreArguments (NameOfFunction ∷ ss) (lexeme.Name x ∷ t ∷ mid) rest (named x args)
+    no_values : (ss : List ArgumentKind) (t : Lexeme) (mid rest : List Lexeme) (args : Arguments)
         → Follows ss t mid rest args
         → AreArguments (Values ∷ ss) (lexeme.OpenSquare ∷ lexeme.CloseSquare ∷ t
         ∷ mid) rest (list empty args)
-    some_values : (ss : List Slot) (t : Lexeme) (ts mid rest : List Lexeme) (es args : Arguments)
+    some_values : (ss : List ArgumentKind) (t : Lexeme) (ts mid rest : List Lexeme) (es args : Arguments)
         → AreMembers ts (t ∷ mid) es → Follows ss t mid rest args
         → AreArguments (Values ∷ ss) (lexeme.OpenSquare ∷ ts) rest (list es args)
 
   -- what follows an argument, from its first token on
-  pub data Follows : List Slot → Lexeme → List Lexeme → List Lexeme → Arguments → Type 0 where
+  pub data Follows : List ArgumentKind → Lexeme → List Lexeme → List Lexeme → Arguments → Type 0 where
     closes : (rest : List Lexeme) → Follows [] lexeme.CloseRound rest rest empty
-    goes : (s : Slot) (ss : List Slot) (ts rest : List Lexeme) (args : Arguments)
+    goes : (s : ArgumentKind) (ss : List ArgumentKind) (ts rest : List Lexeme) (args : Arguments)
         → AreArguments (s ∷ ss) ts rest args → Follows (s ∷ ss) lexeme.Comma ts rest args
 
   -- the members of a list that is not empty, and the closing bracket

@@ -9,11 +9,11 @@ use Rattle.ocr_tree.specs.declared.tree.Constant as of_constant
 use Rattle.ocr_grammar.specs.declared.lexeme.Lexeme.{Lexeme}
 use Rattle.ocr_grammar.specs.declared.lexeme.Lexeme.TheVariants as lexeme
 use Rattle.ocr_grammar.specs.declared.lexeme.Word.{Word}
-use Rattle.ocr_grammar.specs.declared.slots.Slot.{Slot}
+use Rattle.ocr_grammar.specs.declared.argument_kind.ArgumentKind.{ArgumentKind}
 use Rattle.ocr_grammar.specs.Grammar.{IsExpression, AreArguments}
 use Rattle.ocr_grammar.specs.Lexing.{IsTreeOf}
 use Rattle.ocr_grammar.specs.Limits.{tally}
-use Rattle.ocr_grammar.specs.Texts.{word_text, call_text, constant_text, operator_text, named, symbol}
+use Rattle.ocr_grammar.specs.Texts.{word_text, call_text, constant_text, operator_text, lexeme_of_name, symbol}
 
 -- From the one list to the other stand tokens of which the tally counts each.
 pub record IsCounted (ts rest : List Lexeme) : Type 0 where
@@ -27,14 +27,14 @@ pub record IsCounted (ts rest : List Lexeme) : Type 0 where
 pub record CountLaw : Type 0 where
   pub expression : (l : ℕ) (ts rest : List Lexeme) (e : Expression) → IsExpression l ts rest e
       → IsCounted ts rest
-  pub arguments : (ss : List Slot) (ts rest : List Lexeme) (args : Arguments)
+  pub arguments : (ss : List ArgumentKind) (ts rest : List Lexeme) (args : Arguments)
       → AreArguments ss ts rest args → IsCounted ts rest
 
 -- What is written for a reserved name or an operator is read as that.
 pub record SpellingLaw : Type 0 where
-  pub word : (w : Word) → named (word_text w) ≡ lexeme.Word w
-  pub call : (c : CallName) → named (call_text c) ≡ lexeme.Call c
-  pub constant : (c : of_constant.Constant) → named (constant_text c) ≡ lexeme.Constant c
+  pub word : (w : Word) → lexeme_of_name (word_text w) ≡ lexeme.Word w
+  pub call : (c : CallName) → lexeme_of_name (call_text c) ≡ lexeme.Call c
+  pub constant : (c : of_constant.Constant) → lexeme_of_name (constant_text c) ≡ lexeme.Constant c
   pub operator : (op : BinaryOp) → symbol (operator_text op) ≡ Some (lexeme.Operator op)
 
 -- A program has no more functions than its text has bytes.

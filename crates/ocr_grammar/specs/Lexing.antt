@@ -8,14 +8,14 @@ use Rattle.ocr_text.specs.Tokens.{text_of}
 use Rattle.ocr_tree.specs.Tree.{FunctionTree}
 use Rattle.ocr_grammar.specs.declared.lexeme.Lexeme.{Lexeme}
 use Rattle.ocr_grammar.specs.declared.lexeme.Lexeme.TheVariants as lexeme
-use Rattle.ocr_grammar.specs.Texts.{named, symbol}
+use Rattle.ocr_grammar.specs.Texts.{lexeme_of_name, symbol}
 use Rattle.ocr_grammar.specs.Parsing.{IsTree, IsFault}
 
 abbrev pub lexeme_as : TokenKind → List ℕ → Option Lexeme
 lexeme_as kind.Blank piece = None
 lexeme_as kind.Comment piece = None
 lexeme_as kind.Number piece = Some (lexeme.Number (value_of piece))
-lexeme_as kind.Name piece = Some (named piece)
+lexeme_as kind.Name piece = Some (lexeme_of_name piece)
 lexeme_as kind.Symbol piece = symbol piece
 
 abbrev pub lexeme_of : List ℕ → Token → Option Lexeme

@@ -29,17 +29,17 @@ within d n lexeme.Semicolon = record { tokens = None; depth = d }
 within d n lexeme.OpenBrace = record { tokens = None; depth = d + 1 }
 within d n other = record { tokens = Some (n + 1); depth = d }
 
-abbrev pub tallied_at : ℕ → Option ℕ → Lexeme → Tally
-tallied_at d None t = outside d t
-tallied_at d (Some n) t = within d n t
+abbrev pub tally_step : ℕ → Option ℕ → Lexeme → Tally
+tally_step d None t = outside d t
+tally_step d (Some n) t = within d n t
 
-abbrev pub tallied : Tally → Lexeme → Tally
-tallied before t = tallied_at before.depth before.tokens t
+abbrev pub tally_after : Tally → Lexeme → Tally
+tally_after before t = tally_step before.depth before.tokens t
 
 -- the tally after these tokens
 abbrev pub tally : Tally → List Lexeme → Tally
 tally before [] = before
-tally before (t ∷ ts) = tally (tallied before t) ts
+tally before (t ∷ ts) = tally (tally_after before t) ts
 
 abbrev pub nothing_read : Tally
 nothing_read = record { tokens = None; depth = 0 }

@@ -145,8 +145,8 @@ found_name None None (Some k) text = lexeme.Constant k
 found_name None None None text = lexeme.Name text
 
 -- what these letters are: a reserved name, or one that the program chose
-abbrev pub named : List ℕ → Lexeme
-named text = found_name (word_of text) (call_of text) (constant_of text) text
+abbrev pub lexeme_of_name : List ℕ → Lexeme
+lexeme_of_name text = found_name (word_of text) (call_of text) (constant_of text) text
 
 -- the symbols that are no operators
 abbrev pub marks : List (List ℕ × Lexeme)

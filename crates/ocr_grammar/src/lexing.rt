@@ -4,7 +4,7 @@ ghost use Rattle.ocr_text.specs.Tokens.{IsToken};
 ghost use Rattle.ocr_grammar.specs.Lexing.{lexeme_of};
 
 use crate::lexeme::Lexeme;
-use crate::words::{named, symbol};
+use crate::words::{lexeme_of_name, symbol};
 use ocr_text::{Token, TokenKind, number_value};
 use std::alloc::{AllocError, Global};
 
@@ -24,7 +24,7 @@ pub fn read_token(alloc: Global, bytes: &[u8], token: Token) -> Result<Option<Le
             };
             Ok(Some(Lexeme::Number(value)))
         }
-        TokenKind::Name => Ok(Some(named(alloc, piece)?)),
+        TokenKind::Name => Ok(Some(lexeme_of_name(alloc, piece)?)),
         TokenKind::Symbol => Ok(symbol(piece)),
     }
 }

@@ -196,8 +196,8 @@ fn constant_of(text: &[u8]) -> Option<Constant>
 }
 
 /// What these letters are: a reserved name, or one that the program chose.
-pub fn named(alloc: Global, text: &[u8]) -> Result<Lexeme, AllocError>
-    ensures { IfOk result (λ l. l ≡ texts.named text.now) }
+pub fn lexeme_of_name(alloc: Global, text: &[u8]) -> Result<Lexeme, AllocError>
+    ensures { IfOk result (λ l. l ≡ texts.lexeme_of_name text.now) }
 {
     if let Some(word) = word_of(text) {
         return Ok(Lexeme::Word(word));

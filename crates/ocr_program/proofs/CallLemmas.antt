@@ -8,8 +8,8 @@ use Rattle.ocr_tree.specs.View.{expression_of, members_of}
 use Rattle.ocr_tree.specs.Tree.{Expression, Arguments, empty, value, list, named}
 use Rattle.ocr_grammar.specs.declared.lexeme.Lexeme.{Lexeme}
 use Rattle.ocr_grammar.specs.Grammar.{level}
-use Rattle.ocr_grammar.specs.declared.slots.Slot.{Slot}
-use Rattle.ocr_grammar.specs.declared.slots.Slot.TheVariants.{Value, Values, Named, Flags}
+use Rattle.ocr_grammar.specs.declared.argument_kind.ArgumentKind.{ArgumentKind}
+use Rattle.ocr_grammar.specs.declared.argument_kind.ArgumentKind.TheVariants.{Value, Values, NameOfFunction, FlagsAndOutput}
 use Rattle.ocr_grammar.specs.Shape.{shape}
 use Rattle.ocr_program.specs.Joined.{with}
 use Rattle.ocr_program.specs.Machine as m
@@ -40,9 +40,9 @@ pub pushed_name : (args more : List Arg) (x : List ℕ) → more ≡ args ++ arg
 pushed_name args more x is = is_pushed args more (arg.Named x) is
 
 -- the next argument, by its slot
-begins : (h : m.Position) (c : CallName) (args : List Arg) (k : m.CallSite) (ss : List Slot) → slots_left c args ≡ ss
+begins : (h : m.Position) (c : CallName) (args : List Arg) (k : m.CallSite) (ss : List ArgumentKind) → slots_left c args ≡ ss
     → m.argument h c (args_of args) ss k ≡ m.argument h c (args_of args) (slots_left c args) k
-begins h c args k ss is = ap (λ (l : List Slot). m.argument h c (args_of args) l k) (sym is)
+begins h c args k ss is = ap (λ (l : List ArgumentKind). m.argument h c (args_of args) l k) (sym is)
 
 pub argument_none : (h : m.Position) (c : CallName) (args : List Arg) (k : m.CallSite)
     → slice_get (shape c) (length args) ≡ None
@@ -60,30 +60,30 @@ pub argument_values : (h : m.Position) (c : CallName) (args : List Arg) (k : m.C
 argument_values h c args k is = begins h c args k (Values ∷ slots_after c args) (slots_some c args Values is)
 
 pub argument_named : (h : m.Position) (c : CallName) (args : List Arg) (k : m.CallSite)
-    → slice_get (shape c) (length args) ≡ Some Named
+    → slice_get (shape c) (length args) ≡ Some NameOfFunction
     → m.NameAt h c (args_of args) (slots_after c args) k ≡ m.argument h c (args_of args) (slots_left c args) k
-argument_named h c args k is = begins h c args k (Named ∷ slots_after c args) (slots_some c args Named is)
+argument_named h c args k is = begins h c args k (NameOfFunction ∷ slots_after c args) (slots_some c args NameOfFunction is)
 
 pub argument_flags : (h : m.Position) (c : CallName) (args : List Arg) (k : m.CallSite)
-    → slice_get (shape c) (length args) ≡ Some Flags
+    → slice_get (shape c) (length args) ≡ Some FlagsAndOutput
     → m.Operand h (m.FlagsArgument c (args_of args) k) ≡ m.argument h c (args_of args) (slots_left c args) k
-argument_flags h c args k is = begins h c args k (Flags ∷ slots_after c args) (slots_some c args Flags is)
+argument_flags h c args k is = begins h c args k (FlagsAndOutput ∷ slots_after c args) (slots_some c args FlagsAndOutput is)
 
 -- the token after an argument, by the slot that comes next
-follows : (h : m.Position) (c : CallName) (args : List Arg) (k : m.CallSite) (t : Lexeme) (ss : List Slot) → slots_left c args ≡ ss
+follows : (h : m.Position) (c : CallName) (args : List Arg) (k : m.CallSite) (t : Lexeme) (ss : List ArgumentKind) → slots_left c args ≡ ss
     → m.after_argument h c (args_of args) ss k t ≡ m.after_argument h c (args_of args) (slots_left c args) k t
-follows h c args k t ss is = ap (λ (l : List Slot). m.after_argument h c (args_of args) l k t) (sym is)
+follows h c args k t ss is = ap (λ (l : List ArgumentKind). m.after_argument h c (args_of args) l k t) (sym is)
 
 pub followed_none : (h : m.Position) (c : CallName) (args : List Arg) (k : m.CallSite) (t : Lexeme)
     → slice_get (shape c) (length args) ≡ None
     → m.at_end h c (args_of args) k t ≡ m.after_argument h c (args_of args) (slots_left c args) k t
 followed_none h c args k t is = follows h c args k t [] (slots_none c args is)
 
-pub followed_some : (h : m.Position) (c : CallName) (args : List Arg) (k : m.CallSite) (t : Lexeme) (s : Slot)
+pub followed_some : (h : m.Position) (c : CallName) (args : List Arg) (k : m.CallSite) (t : Lexeme) (s : ArgumentKind)
     → slice_get (shape c) (length args) ≡ Some s
     → m.at_comma h c (args_of args) (slots_left c args) k t ≡ m.after_argument h c (args_of args) (slots_left c args) k t
 followed_some h c args k t s is =
-    ap (λ (l : List Slot). m.at_comma h c (args_of args) l k t) (slots_some c args s is)
+    ap (λ (l : List ArgumentKind). m.at_comma h c (args_of args) l k t) (slots_some c args s is)
     ∙ follows h c args k t (s ∷ slots_after c args) (slots_some c args s is)
 
 pub fits_at_end : (c : CallName) (args : List Arg) → slice_get (shape c) (length args) ≡ None
@@ -102,14 +102,14 @@ pub followed_pushed : (h : m.Position) (c : CallName) (args more : List Arg) (a 
     → m.after_argument h c (args_of more) (slots_left c more) k t ≡ m.after_argument h c (with (args_of args) a) (slots_after c args) k t
 followed_pushed h c args more a k t p =
     ap (λ (g : Arguments). m.after_argument h c g (slots_left c more) k t) p.given
-    ∙ ap (λ (l : List Slot). m.after_argument h c (with (args_of args) a) l k t) (p.slots c)
+    ∙ ap (λ (l : List ArgumentKind). m.after_argument h c (with (args_of args) a) l k t) (p.slots c)
 
 pub after_pushed : (h : m.Position) (c : CallName) (args more : List Arg) (a : Arguments) (k : m.CallSite)
     → IsPushed args more a
     → m.AfterArgument h c (args_of more) (slots_left c more) k ≡ m.AfterArgument h c (with (args_of args) a) (slots_after c args) k
 after_pushed h c args more a k p =
     ap (λ (g : Arguments). m.AfterArgument h c g (slots_left c more) k) p.given
-    ∙ ap (λ (l : List Slot). m.AfterArgument h c (with (args_of args) a) l k) (p.slots c)
+    ∙ ap (λ (l : List ArgumentKind). m.AfterArgument h c (with (args_of args) a) l k) (p.slots c)
 
 pub ending_pushed : (h : m.Position) (c : CallName) (args more : List Arg) (a : Arguments) (k : m.CallSite)
     → IsPushed args more a → m.CallEnd h c (args_of more) k ≡ m.CallEnd h c (with (args_of args) a) k

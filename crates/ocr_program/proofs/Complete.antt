@@ -13,10 +13,10 @@ use Rattle.ocr_tree.specs.Tree.{Expression, Arguments, empty, value, list, named
 use Rattle.ocr_grammar.specs.declared.lexeme.Lexeme.{Lexeme}
 use Rattle.ocr_grammar.specs.declared.lexeme.Lexeme.TheVariants as lexeme
 use Rattle.ocr_grammar.specs.declared.lexeme.Word.TheVariants as word
-use Rattle.ocr_grammar.specs.declared.slots.Slot.{Slot}
+use Rattle.ocr_grammar.specs.declared.argument_kind.ArgumentKind.{ArgumentKind}
 use Rattle.ocr_grammar.specs.Shape.{shape}
 use Rattle.ocr_grammar.specs.Grammar as g
-use Rattle.ocr_grammar.specs.Grammar.{level, spelled, spelled_unary, IsExpression, AreArguments, Follows, AreMembers, IsStatement, AreStatements, IsProgram}
+use Rattle.ocr_grammar.specs.Grammar.{level, lexeme_of_operator, lexeme_of_sign, IsExpression, AreArguments, Follows, AreMembers, IsStatement, AreStatements, IsProgram}
 use Rattle.ocr_program.specs.Joined.{with, ended_by, followed_by}
 use Rattle.ocr_program.specs.Machine as m
 use Rattle.ocr_program.specs.Machine.{State, Position, Purpose, Indexed, Stack, Bottom, CallSite, InExpression, AsStatement, Left, Prefix, Round, Index, Argument, Member, FlagsArgument, Operand, AfterOperand, Held, fold_of, reads, step, operator, at_operand_end, after, at_right_operand, element_of, start, Functions}
@@ -86,7 +86,7 @@ closing h k l ts rest e t other low r =
     ∙ ap (λ (held : Held). reads (at_operand_end h held.pending held.value t) rest) (r.folds 0 (omega arith) ∙ settled 0 k e (omega (arith, low)) (omega arith))
 
 prefixed : (h : Position) (k : Stack) (op : UnaryOp) (ts : List Lexeme)
-    → reads (Some (Operand h k)) (spelled_unary op ∷ ts) ≡ reads (Some (Operand h (Prefix op k))) ts
+    → reads (Some (Operand h k)) (lexeme_of_sign op ∷ ts) ≡ reads (Some (Operand h (Prefix op k))) ts
 prefixed h k unary.Not ts = refl
 prefixed h k unary.Invert ts = refl
 prefixed h k unary.Minus ts = refl
@@ -107,14 +107,14 @@ same_args : {a b : Arguments} (h : Position) (k : CallSite) (c : CallName) (rest
     → reads (Some (m.after_call h c a k)) rest ≡ reads (Some (m.after_call h c b k)) rest
 same_args h k c rest is = ap (λ (args : Arguments). reads (Some (m.after_call h c args k)) rest) is
 
-other_follows : (ss : List Slot) (t : Lexeme) (mid rest : List Lexeme) (args : Arguments) → Follows ss t mid rest args
+other_follows : (ss : List ArgumentKind) (t : Lexeme) (mid rest : List Lexeme) (args : Arguments) → Follows ss t mid rest args
     → operator t ≡ None
 other_follows _ _ _ _ _ (g.closes rest) = refl
 other_follows _ _ _ _ _ (g.goes s ss ts rest args d) = refl
 
 -- no expression begins with a closing bracket
 start_member : (l : ℕ) (ts rest : List Lexeme) (e : Expression) → IsExpression l ts rest e → (h : Position) (k : CallSite)
-    (c : CallName) (done : Arguments) (ss : List Slot)
+    (c : CallName) (done : Arguments) (ss : List ArgumentKind)
     → reads (Some (m.ListStart h c done ss k)) ts ≡ reads (Some (Operand h (Member c done empty ss k))) ts
 start_member _ _ _ _ (g.number l n rest) h k c done ss = refl
 start_member _ _ _ _ (g.constant l v rest) h k c done ss = refl
@@ -128,12 +128,12 @@ start_member _ _ _ _ (g.signed l unary.Not ts rest e d) h k c done ss = refl
 start_member _ _ _ _ (g.signed l unary.Invert ts rest e d) h k c done ss = refl
 start_member _ _ _ _ (g.signed l unary.Minus ts rest e d) h k c done ss = refl
 start_member _ _ _ _ (g.joined l op ts mid rest a b low first second) h k c done ss =
-    start_member (level op) ts (spelled op ∷ mid) a first h k c done ss
+    start_member (level op) ts (lexeme_of_operator op ∷ mid) a first h k c done ss
 start_member _ _ _ _ (g.parentheses l ts rest e d) h k c done ss = refl
 start_member _ _ _ _ (g.invoked l c1 ts rest args d) h k c done ss = refl
 
 start_members : (ts rest : List Lexeme) (es : Arguments) → AreMembers ts rest es → (h : Position) (k : CallSite)
-    (c : CallName) (done : Arguments) (ss : List Slot)
+    (c : CallName) (done : Arguments) (ss : List ArgumentKind)
     → reads (Some (m.ListStart h c done ss k)) ts ≡ reads (Some (Operand h (Member c done empty ss k))) ts
 start_members _ _ _ (g.last ts rest e d) h k c done ss = start_member 0 ts (lexeme.CloseSquare ∷ rest) e d h k c done ss
 start_members _ _ _ (g.member ts mid rest e es d others) h k c done ss =
@@ -179,7 +179,7 @@ mutual
         folds = λ n small. r.folds n (omega arith);
       }
   expression _ _ _ _ (g.joined l op ts mid rest a b low first second) h k f high =
-      let r = expression (level op) ts (spelled op ∷ mid) a first h k (omega arith) (omega (arith, level_low op)) in
+      let r = expression (level op) ts (lexeme_of_operator op ∷ mid) a first h k (omega arith) (omega (arith, level_low op)) in
       let s = expression (level op + 1) mid rest b second h (Left a op k) (omega arith) (omega (arith, level_low op)) in
       let begins : reads (Some (Operand h k)) ts ≡ reads (Some (Operand h (Left a op k))) mid =
       r.reading
@@ -206,7 +206,7 @@ mutual
         folds = λ n _. refl;
       }
 
-  pub arguments : (ss : List Slot) (ts rest : List Lexeme) (args : Arguments) → AreArguments ss ts rest args
+  pub arguments : (ss : List ArgumentKind) (ts rest : List Lexeme) (args : Arguments) → AreArguments ss ts rest args
       → (h : Position) (k : CallSite) (c : CallName) (done : Arguments)
       → reads (Some (m.argument h c done ss k)) ts ≡ reads (Some (m.after_call h c (with done args) k)) rest
   arguments _ _ _ _ (g.no_more rest) h k c done = same_args h k c rest (sym (with_none done))
@@ -229,14 +229,14 @@ mutual
       ∙ follow ss t mid rest args f h k c (with done (list es empty))
       ∙ same_args h k c rest (with_more done (list es empty) args)
 
-  pub follow : (ss : List Slot) (t : Lexeme) (mid rest : List Lexeme) (args : Arguments) → Follows ss t mid rest args
+  pub follow : (ss : List ArgumentKind) (t : Lexeme) (mid rest : List Lexeme) (args : Arguments) → Follows ss t mid rest args
       → (h : Position) (k : CallSite) (c : CallName) (done : Arguments)
       → reads (m.after_argument h c done ss k t) mid ≡ reads (Some (m.after_call h c (with done args) k)) rest
   follow _ _ _ _ _ (g.closes rest) h k c done = same_args h k c rest (sym (with_none done))
   follow _ _ _ _ _ (g.goes s ss ts rest args d) h k c done = arguments (s ∷ ss) ts rest args d h k c done
 
   pub members : (ts rest : List Lexeme) (es : Arguments) → AreMembers ts rest es → (h : Position) (k : CallSite)
-      (c : CallName) (done before : Arguments) (ss : List Slot)
+      (c : CallName) (done before : Arguments) (ss : List ArgumentKind)
       → reads (Some (Operand h (Member c done before ss k))) ts
       ≡ reads (Some (m.AfterArgument h c (with done (list (with before es) empty)) ss k)) rest
   members _ _ _ (g.last ts rest e d) h k c done before ss =

@@ -6,8 +6,8 @@ use Rattle.ocr_tree.specs.Tree as tree
 use Rattle.ocr_tree.specs.Tree.{Expression, Arguments, empty, value, list, named, Statements, nothing, FunctionTree}
 use Rattle.ocr_grammar.specs.declared.lexeme.Lexeme.{Lexeme}
 use Rattle.ocr_grammar.specs.declared.lexeme.Lexeme.TheVariants as lexeme
-use Rattle.ocr_grammar.specs.declared.slots.Slot.{Slot}
-use Rattle.ocr_grammar.specs.declared.slots.Slot.TheVariants.{Value, Values, Named, Flags}
+use Rattle.ocr_grammar.specs.declared.argument_kind.ArgumentKind.{ArgumentKind}
+use Rattle.ocr_grammar.specs.declared.argument_kind.ArgumentKind.TheVariants.{Value, Values, NameOfFunction, FlagsAndOutput}
 use Rattle.ocr_grammar.specs.Shape.{shape}
 use Rattle.ocr_grammar.specs.Grammar.{IsProgram, GoesOn}
 use Rattle.ocr_program.specs.Joined.{with, ended_by}
@@ -72,10 +72,10 @@ abbrev CallEnds : Position → CallSite → CallName → Type 0
 CallEnds h k c = (args : Arguments) → Ends (Some (m.after_call h c args k))
 
 -- an argument and all after it
-abbrev FollowEnd : List Slot → Position → CallSite → CallName → Type 0
+abbrev FollowEnd : List ArgumentKind → Position → CallSite → CallName → Type 0
 FollowEnd ss h k c = (done : Arguments) → (t : Lexeme) × ((operator t ≡ None) × Ends (m.after_argument h c done ss k t))
 
-slot_end : (s : Slot) (ss : List Slot) (h : Position) (k : CallSite) (c : CallName) → CallEnds h k c → FollowEnd ss h k c
+slot_end : (s : ArgumentKind) (ss : List ArgumentKind) (h : Position) (k : CallSite) (c : CallName) → CallEnds h k c → FollowEnd ss h k c
     → (done : Arguments) → Ends (Some (m.argument h c done (s ∷ ss) k))
 slot_end Value ss h k c end go done =
     let w = go (with done (value (tree.Number 0) empty)) in
@@ -83,17 +83,17 @@ slot_end Value ss h k c end go done =
 slot_end Values ss h k c end go done =
     let w = go (with done (list empty empty)) in
     one (m.ListOpen h c done ss k) lexeme.OpenSquare _ refl (one (m.ListStart h c done ss k) lexeme.CloseSquare _ refl (one (m.AfterArgument h c _ ss k) w.0 _ refl w.1.1))
-slot_end Named ss h k c end go done =
+slot_end NameOfFunction ss h k c end go done =
     let w = go (with done (named [] empty)) in
     one (m.NameAt h c done ss k) (lexeme.Name []) _ refl (one (m.AfterArgument h c _ ss k) w.0 _ refl w.1.1)
-slot_end Flags ss h k c end go done =
+slot_end FlagsAndOutput ss h k c end go done =
     one (Operand h (FlagsArgument c done k)) (lexeme.Number 0) _ refl (closes h (FlagsArgument c done k) (FlagsArgument c done k) (tree.Number 0) (tree.Number 0) lexeme.CloseRound refl refl (end _))
 
-after_end : (ss : List Slot) (h : Position) (k : CallSite) (c : CallName) → CallEnds h k c → FollowEnd ss h k c
+after_end : (ss : List ArgumentKind) (h : Position) (k : CallSite) (c : CallName) → CallEnds h k c → FollowEnd ss h k c
 after_end [] h k c end = λ done. (lexeme.CloseRound, (refl, end done))
 after_end (s ∷ ss) h k c end = λ done. (lexeme.Comma, (refl, slot_end s ss h k c end (after_end ss h k c end) done))
 
-arguments_end : (ss : List Slot) (h : Position) (k : CallSite) (c : CallName) → CallEnds h k c → (done : Arguments)
+arguments_end : (ss : List ArgumentKind) (h : Position) (k : CallSite) (c : CallName) → CallEnds h k c → (done : Arguments)
     → Ends (Some (m.argument h c done ss k))
 arguments_end [] h k c end done = one (m.CallEnd h c done k) lexeme.CloseRound _ refl (end done)
 arguments_end (s ∷ ss) h k c end done = slot_end s ss h k c end (after_end ss h k c end) done
@@ -147,7 +147,7 @@ each (m.ListOpen h c done ss k) = arguments_end (Values ∷ ss) h k c (call_ends
 each (m.ListStart h c done ss k) =
     let w = after_end ss h k c (call_ends k h c) (with done (list empty empty)) in
     one (m.ListStart h c done ss k) lexeme.CloseSquare _ refl (one (m.AfterArgument h c _ ss k) w.0 _ refl w.1.1)
-each (m.NameAt h c done ss k) = arguments_end (Named ∷ ss) h k c (call_ends k h c) done
+each (m.NameAt h c done ss k) = arguments_end (NameOfFunction ∷ ss) h k c (call_ends k h c) done
 each (m.AfterArgument h c done ss k) =
     let w = after_end ss h k c (call_ends k h c) done in
     one (m.AfterArgument h c done ss k) w.0 _ refl w.1.1

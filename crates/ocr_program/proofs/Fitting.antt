@@ -11,8 +11,8 @@ use Rattle.ocr_grammar.specs.declared.lexeme.Lexeme.{Lexeme}
 use Rattle.ocr_grammar.specs.declared.lexeme.Lexeme.TheVariants as lexeme
 use Rattle.ocr_grammar.specs.declared.lexeme.Word.TheVariants as word
 use Rattle.ocr_grammar.specs.Grammar.{level}
-use Rattle.ocr_grammar.specs.declared.slots.Slot.{Slot}
-use Rattle.ocr_grammar.specs.declared.slots.Slot.TheVariants.{Value, Values, Named, Flags}
+use Rattle.ocr_grammar.specs.declared.argument_kind.ArgumentKind.{ArgumentKind}
+use Rattle.ocr_grammar.specs.declared.argument_kind.ArgumentKind.TheVariants.{Value, Values, NameOfFunction, FlagsAndOutput}
 use Rattle.ocr_grammar.specs.Shape.{shape}
 use Rattle.ocr_program.specs.Joined.{with}
 use Rattle.ocr_program.specs.Machine as m
@@ -23,15 +23,15 @@ use Rattle.ocr_program.proofs.Complete.{with_none, with_more}
 pub fits_whole : (c : CallName) (done : Arguments) → LeadsTo c done [] → fits (shape c) done ≡ true
 fits_whole c done w = ap (fits (shape c)) (sym (with_none done)) ∙ w empty refl
 
-pub leads_value : (c : CallName) (done : Arguments) (ss : List Slot) (e : Expression) → LeadsTo c done (Value ∷ ss)
+pub leads_value : (c : CallName) (done : Arguments) (ss : List ArgumentKind) (e : Expression) → LeadsTo c done (Value ∷ ss)
     → LeadsTo c (with done (value e empty)) ss
 leads_value c done ss e w args is = ap (fits (shape c)) (with_more done (value e empty) args) ∙ w (value e args) is
 
-pub leads_list : (c : CallName) (done : Arguments) (ss : List Slot) (es : Arguments) → LeadsTo c done (Values ∷ ss)
+pub leads_list : (c : CallName) (done : Arguments) (ss : List ArgumentKind) (es : Arguments) → LeadsTo c done (Values ∷ ss)
     → LeadsTo c (with done (list es empty)) ss
 leads_list c done ss es w args is = ap (fits (shape c)) (with_more done (list es empty) args) ∙ w (list es args) is
 
-pub leads_named : (c : CallName) (done : Arguments) (ss : List Slot) (x : List ℕ) → LeadsTo c done (Named ∷ ss)
+pub leads_named : (c : CallName) (done : Arguments) (ss : List ArgumentKind) (x : List ℕ) → LeadsTo c done (NameOfFunction ∷ ss)
     → LeadsTo c (with done (named x empty)) ss
 leads_named c done ss x w args is = ap (fits (shape c)) (with_more done (named x empty) args) ∙ w (named x args) is
 
@@ -59,15 +59,15 @@ called_fits : (h : m.Position) (c : CallName) (args : Arguments) (k : m.CallSite
 called_fits h c args (m.InExpression k) w = w
 called_fits h c args m.AsStatement w = tt
 
-argument_fits : (h : m.Position) (c : CallName) (done : Arguments) (ss : List Slot) (k : m.CallSite) → LeadsTo c done ss
+argument_fits : (h : m.Position) (c : CallName) (done : Arguments) (ss : List ArgumentKind) (k : m.CallSite) → LeadsTo c done ss
     → IsFittingSite k → IsFittingState (m.argument h c done ss k)
 argument_fits h c done [] k w a = (fits_whole c done w, a)
 argument_fits h c done (Value ∷ ss) k w a = (w, a)
 argument_fits h c done (Values ∷ ss) k w a = (w, a)
-argument_fits h c done (Named ∷ ss) k w a = (w, a)
-argument_fits h c done (Flags ∷ ss) k w a = (λ e args is. w (value e args) is, a)
+argument_fits h c done (NameOfFunction ∷ ss) k w a = (w, a)
+argument_fits h c done (FlagsAndOutput ∷ ss) k w a = (λ e args is. w (value e args) is, a)
 
-followed_fits : (h : m.Position) (c : CallName) (done : Arguments) (ss : List Slot) (k : m.CallSite) (t : Lexeme)
+followed_fits : (h : m.Position) (c : CallName) (done : Arguments) (ss : List ArgumentKind) (k : m.CallSite) (t : Lexeme)
     → LeadsTo c done ss → IsFittingSite k → IsFittingIfAny (m.after_argument h c done ss k t)
 followed_fits h c done [] k lexeme.CloseRound w a = called_fits h c done k a
 followed_fits h c done (s ∷ ss) k lexeme.Comma w a = argument_fits h c done (s ∷ ss) k w a
@@ -89,7 +89,7 @@ operand_fits h k lexeme.OpenRound w = w
 operand_fits h k (lexeme.Call c) w = w
 operand_fits h k other w = tt
 
-list_fits : (h : m.Position) (c : CallName) (done : Arguments) (ss : List Slot) (k : m.CallSite) (t : Lexeme)
+list_fits : (h : m.Position) (c : CallName) (done : Arguments) (ss : List ArgumentKind) (k : m.CallSite) (t : Lexeme)
     → LeadsTo c done (Values ∷ ss) → IsFittingSite k → IsFittingIfAny (m.list_start h c done ss k t)
 list_fits h c done ss k lexeme.CloseSquare w a = (leads_list c done ss empty w, a)
 list_fits h c done ss k other w a = operand_fits h (m.Member c done empty ss k) other (w, a)

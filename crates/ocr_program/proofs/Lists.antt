@@ -8,7 +8,7 @@ use Rattle.ocr_tree.specs.declared.tree.Expr.{Expr}
 use Rattle.ocr_tree.specs.Tree as tree
 use Rattle.ocr_tree.specs.Tree.{Arguments, empty, value, list, named}
 use Rattle.ocr_tree.specs.View.{expression_of, members_of, statement_of, statements_of, function_of, functions_of}
-use Rattle.ocr_grammar.specs.declared.slots.Slot.{Slot}
+use Rattle.ocr_grammar.specs.declared.argument_kind.ArgumentKind.{ArgumentKind}
 use Rattle.ocr_grammar.specs.Shape.{shape}
 use Rattle.ocr_program.specs.Joined.{with, ended_by}
 use Rattle.ocr_program.specs.Machine as m
@@ -44,7 +44,7 @@ pub members_more : (es : List Expr) (e : Expr) → members_of (es ++ e ∷ []) �
 members_more [] e = refl
 members_more (d ∷ es) e = ap (value (expression_of d)) (members_more es e)
 
-drop_first : (ss : List Slot) (n : ℕ) → drop (suc n) ss ≡ but_first (drop n ss)
+drop_first : (ss : List ArgumentKind) (n : ℕ) → drop (suc n) ss ≡ but_first (drop n ss)
 drop_first [] zero = refl
 drop_first [] (suc n) = refl
 drop_first (s ∷ ss) zero = refl
@@ -58,19 +58,19 @@ length_more (b ∷ args) a = ap (λ (n : ℕ). suc n) (length_more args a)
 pub slots_more : (c : CallName) (args : List Arg) (a : Arg) → slots_left c (args ++ a ∷ []) ≡ slots_after c args
 slots_more c args a = ap (λ (n : ℕ). drop n (shape c)) (length_more args a) ∙ drop_first (shape c) (length args)
 
-get_some : (ss : List Slot) (n : ℕ) (s : Slot) → slice_get ss n ≡ Some s → drop n ss ≡ s ∷ but_first (drop n ss)
+get_some : (ss : List ArgumentKind) (n : ℕ) (s : ArgumentKind) → slice_get ss n ≡ Some s → drop n ss ≡ s ∷ but_first (drop n ss)
 get_some [] zero s is = cc
 get_some [] (suc n) s is = cc
-get_some (t ∷ ss) zero s is = let same : t ≡ s = cc in ap (λ (u : Slot). u ∷ ss) same
+get_some (t ∷ ss) zero s is = let same : t ≡ s = cc in ap (λ (u : ArgumentKind). u ∷ ss) same
 get_some (t ∷ ss) (suc n) s is = get_some ss n s is
 
-get_none : (ss : List Slot) (n : ℕ) → slice_get ss n ≡ None → drop n ss ≡ []
+get_none : (ss : List ArgumentKind) (n : ℕ) → slice_get ss n ≡ None → drop n ss ≡ []
 get_none [] zero is = refl
 get_none [] (suc n) is = refl
 get_none (t ∷ ss) zero is = cc
 get_none (t ∷ ss) (suc n) is = get_none ss n is
 
-pub slots_some : (c : CallName) (args : List Arg) (s : Slot) → slice_get (shape c) (length args) ≡ Some s
+pub slots_some : (c : CallName) (args : List Arg) (s : ArgumentKind) → slice_get (shape c) (length args) ≡ Some s
     → slots_left c args ≡ s ∷ slots_after c args
 slots_some c args s is = get_some (shape c) (length args) s is
 

@@ -10,7 +10,7 @@ use Rattle.ocr_tree.specs.Tree.{Expression, Arguments, Statements, FunctionTree,
 use Rattle.ocr_grammar.specs.declared.lexeme.Lexeme.{Lexeme}
 use Rattle.ocr_grammar.specs.declared.lexeme.Lexeme.TheVariants as lexeme
 use Rattle.ocr_grammar.specs.declared.lexeme.Word.TheVariants as word
-use Rattle.ocr_grammar.specs.declared.slots.Slot.{Slot}
+use Rattle.ocr_grammar.specs.declared.argument_kind.ArgumentKind.{ArgumentKind}
 use Rattle.ocr_program.specs.Joined.{with}
 use Rattle.ocr_program.specs.Machine as m
 use Rattle.ocr_program.specs.Marks.{is_else, is_close_square}
@@ -29,13 +29,13 @@ pub no_else_comes : (h : m.Position) (e : Expression) (first : Statements) (t : 
 no_else_comes h e first (lexeme.Word word.Else) is = cc
 no_else_comes h e first other is = refl
 
-pub list_closes : (h : m.Position) (c : CallName) (done : Arguments) (ss : List Slot) (k : m.CallSite) (t : Lexeme)
+pub list_closes : (h : m.Position) (c : CallName) (done : Arguments) (ss : List ArgumentKind) (k : m.CallSite) (t : Lexeme)
     → is_close_square t ≡ true
     → Some (m.AfterArgument h c (with done (list empty empty)) ss k) ≡ m.list_start h c done ss k t
 list_closes h c done ss k lexeme.CloseSquare is = refl
 list_closes h c done ss k other is = cc
 
-pub list_begins : (h : m.Position) (c : CallName) (done : Arguments) (ss : List Slot) (k : m.CallSite) (t : Lexeme)
+pub list_begins : (h : m.Position) (c : CallName) (done : Arguments) (ss : List ArgumentKind) (k : m.CallSite) (t : Lexeme)
     → is_close_square t ≡ false
     → m.operand h (m.Member c done empty ss k) t ≡ m.list_start h c done ss k t
 list_begins h c done ss k lexeme.CloseSquare is = cc
@@ -47,7 +47,7 @@ answers (Ok s) a b is h = h ∙ is
 answers (Err e) a b is h = tt
 
 -- a list whose first member begins
-pub list_goes : (h : m.Position) (c : CallName) (done : Arguments) (es : List Expr) (ss : List Slot) (k : m.CallSite) (t : Lexeme)
+pub list_goes : (h : m.Position) (c : CallName) (done : Arguments) (es : List Expr) (ss : List ArgumentKind) (k : m.CallSite) (t : Lexeme)
     (r : Result (Option State) AllocError) → es ≡ [] → is_close_square t ≡ false
     → IfOk r (λ s. state_if_any s ≡ m.operand h (m.Member c done (members_of es) ss k) t)
     → IfOk r (λ s. state_if_any s ≡ m.list_start h c done ss k t)

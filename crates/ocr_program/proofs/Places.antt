@@ -7,7 +7,7 @@ use Rattle.ocr_text.specs.Tokens.{IsToken, Tile, AreTokens}
 use Rattle.ocr_tree.specs.Tree.{FunctionTree}
 use Rattle.ocr_grammar.specs.declared.lexeme.Lexeme.{Lexeme}
 use Rattle.ocr_grammar.specs.Grammar.{IsProgram, GoesOn}
-use Rattle.ocr_grammar.specs.Limits.{Tally, tally, tallied, nothing_read, is_over, IsOver}
+use Rattle.ocr_grammar.specs.Limits.{Tally, tally, tally_after, nothing_read, is_over, IsOver}
 use Rattle.ocr_grammar.specs.Parsing.{Fits, IsTree, IsFault}
 use Rattle.ocr_grammar.specs.Lexing.{lexeme_of, lexeme_onto, lexemes_of, place_onto, places_of, IsTreeOf, IsSyntaxFault}
 use Rattle.ocr_program.specs.Machine.{State, reads, step, next, start, Functions, program_of}
@@ -25,7 +25,7 @@ pub record Read (front : List Lexeme) (s : State) (y : Tally) : Type 0 where
 
 tally_append : (y : Tally) (a b : List Lexeme) → tally y (a ++ b) ≡ tally (tally y a) b
 tally_append y [] b = refl
-tally_append y (t ∷ a) b = tally_append (tallied y t) a b
+tally_append y (t ∷ a) b = tally_append (tally_after y t) a b
 
 pub nothing_is_read : Read [] (Functions []) nothing_read
 nothing_is_read = record {
@@ -70,9 +70,9 @@ not_over front s y r =
     ] refl
 
 tally_next : (front : List Lexeme) (s : State) (y : Tally) (t : Lexeme) → Read front s y
-    → tallied y t ≡ tally nothing_read (front ++ t ∷ [])
+    → tally_after y t ≡ tally nothing_read (front ++ t ∷ [])
 tally_next front s y t r =
-    ap (λ (y1 : Tally). tallied y1 t) r.tallying ∙ sym (tally_append nothing_read front (t ∷ []))
+    ap (λ (y1 : Tally). tally_after y1 t) r.tallying ∙ sym (tally_append nothing_read front (t ∷ []))
 
 read_next : (front : List Lexeme) (s : State) (y : Tally) (t : Lexeme) → Read front s y
     → reads start (front ++ t ∷ []) ≡ step s t
@@ -83,7 +83,7 @@ length_less front back t = omega (arith, length-append front (t ∷ back))
 
 -- one token too many
 over_fault : (front back : List Lexeme) (s : State) (y : Tally) (t : Lexeme) → Read front s y
-    → is_over (tallied y t) ≡ true → IsFault (front ++ t ∷ back) (length front)
+    → is_over (tally_after y t) ≡ true → IsFault (front ++ t ∷ back) (length front)
 over_fault front back s y t r over = record {
   inside = omega (arith, length_less front back t);
   goes_on = subst GoesOn (sym (take_just front (t ∷ back))) (goes_on front s r.reading);
@@ -127,7 +127,7 @@ fits_one_more front t before here k small =
     ]
 
 further : (front : List Lexeme) (s s1 : State) (y : Tally) (t : Lexeme) → Read front s y
-    → step s t ≡ Some s1 → is_over (tallied y t) ≡ false → Read (front ++ t ∷ []) s1 (tallied y t)
+    → step s t ≡ Some s1 → is_over (tally_after y t) ≡ false → Read (front ++ t ∷ []) s1 (tally_after y t)
 further front s s1 y t r is low = record {
   reading = read_next front s y t r ∙ is;
   tallying = tally_next front s y t r;
@@ -244,14 +244,14 @@ passed bytes tokens n s y d p inside is = record {
 
 pub stepped : (bytes : List ℕ) (tokens : List Token) (n : ℕ) (s s1 : State) (y : Tally) (d : Token) (l : Lexeme)
     → Progress bytes tokens n s y → n < length tokens → lexeme_of bytes (get_or tokens n d) ≡ Some l
-    → step s l ≡ Some s1 → is_over (tallied y l) ≡ false → Progress bytes tokens (n + 1) s1 (tallied y l)
+    → step s l ≡ Some s1 → is_over (tally_after y l) ≡ false → Progress bytes tokens (n + 1) s1 (tally_after y l)
 stepped bytes tokens n s s1 y d l p inside is on low = record {
-  read = subst (λ (ls : List Lexeme). Read ls s1 (tallied y l)) (sym (lexemes_more bytes tokens n d (Some l) inside is)) (further _ s s1 y l p.read on low);
+  read = subst (λ (ls : List Lexeme). Read ls s1 (tally_after y l)) (sym (lexemes_more bytes tokens n d (Some l) inside is)) (further _ s s1 y l p.read on low);
 }
 
 pub over_at : (bytes : List ℕ) (tokens : List Token) (n : ℕ) (s : State) (y : Tally) (d : Token) (l : Lexeme)
     → Progress bytes tokens n s y → n < length tokens → lexeme_of bytes (get_or tokens n d) ≡ Some l
-    → is_over (tallied y l) ≡ true → IsSyntaxFault bytes tokens (get_or tokens n d).start
+    → is_over (tally_after y l) ≡ true → IsSyntaxFault bytes tokens (get_or tokens n d).start
 over_at bytes tokens n s y d l p inside is over = record {
   before = length (lexemes_of bytes (take n tokens));
   fault = subst (λ (ls : List Lexeme). IsFault ls (length (lexemes_of bytes (take n tokens)))) (sym (lexemes_split bytes tokens n d l inside is)) (over_fault _ _ s y l p.read over);

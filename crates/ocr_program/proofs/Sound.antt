@@ -12,23 +12,23 @@ use Rattle.ocr_tree.specs.Tree.{Expression, Arguments, empty, value, list, named
 use Rattle.ocr_grammar.specs.declared.lexeme.Lexeme.{Lexeme}
 use Rattle.ocr_grammar.specs.declared.lexeme.Lexeme.TheVariants as lexeme
 use Rattle.ocr_grammar.specs.declared.lexeme.Word.TheVariants as word
-use Rattle.ocr_grammar.specs.declared.slots.Slot.{Slot}
-use Rattle.ocr_grammar.specs.declared.slots.Slot.TheVariants.{Value, Values, Named, Flags}
+use Rattle.ocr_grammar.specs.declared.argument_kind.ArgumentKind.{ArgumentKind}
+use Rattle.ocr_grammar.specs.declared.argument_kind.ArgumentKind.TheVariants.{Value, Values, NameOfFunction, FlagsAndOutput}
 use Rattle.ocr_grammar.specs.Shape.{shape}
 use Rattle.ocr_grammar.specs.Grammar as g
-use Rattle.ocr_grammar.specs.Grammar.{level, spelled, spelled_unary, IsExpression, AreArguments, Follows, AreMembers, IsStatement, AreStatements, IsProgram}
+use Rattle.ocr_grammar.specs.Grammar.{level, lexeme_of_operator, lexeme_of_sign, IsExpression, AreArguments, Follows, AreMembers, IsStatement, AreStatements, IsProgram}
 use Rattle.ocr_program.specs.Joined.{with, ended_by}
 use Rattle.ocr_program.specs.Machine as m
 use Rattle.ocr_program.specs.Machine.{State, Position, Purpose, Indexed, Stack, Bottom, CallSite, InExpression, AsStatement, Left, Prefix, Round, Index, Argument, Member, FlagsArgument, Operand, AfterOperand, Held, fold_of, reads, step, operator, at_operand_end, after, at_right_operand, start, Functions}
 use Rattle.ocr_program.proofs.Complete.{with_none, with_more, floor, level_low}
 
 -- the arguments so far, where those of the slots left stand next
-abbrev Before : CallName → Arguments → List Slot → List Lexeme → List Lexeme → Type 0
+abbrev Before : CallName → Arguments → List ArgumentKind → List Lexeme → List Lexeme → Type 0
 Before c done ss t0 ts =
     (rest : List Lexeme) (args : Arguments) → AreArguments ss ts rest args → AreArguments (shape c) t0 rest (with done args)
 
 -- the same after an argument
-abbrev After : CallName → Arguments → List Slot → List Lexeme → List Lexeme → Type 0
+abbrev After : CallName → Arguments → List ArgumentKind → List Lexeme → List Lexeme → Type 0
 After c done ss t0 ts =
     (t : Lexeme) (mid rest : List Lexeme) (args : Arguments) → ts ≡ t ∷ mid → Follows ss t mid rest args
     → AreArguments (shape c) t0 rest (with done args)
@@ -41,7 +41,7 @@ Naming c done t0 ts =
     (x : List ℕ) (rest : List Lexeme) → ts ≡ lexeme.Name x ∷ lexeme.CloseRound ∷ rest
     → AreArguments (shape c) t0 rest (with done (named x empty))
 
-abbrev Joining : CallName → Arguments → Arguments → List Slot → List Lexeme → List Lexeme → Type 0
+abbrev Joining : CallName → Arguments → Arguments → List ArgumentKind → List Lexeme → List Lexeme → Type 0
 Joining c done es ss t0 ts =
     (mid : List Lexeme) (others : Arguments) → AreMembers ts mid others
     → After c (with done (list (with es others) empty)) ss t0 mid
@@ -85,8 +85,8 @@ abbrev mutual
   Waits : Position → List Lexeme → Stack → List Lexeme → Type 0
   Waits h all (Bottom p) ts = At h all (begun p ts)
   Waits h all (Left a op k) ts =
-      (t0 : List Lexeme) × (Waits h all k t0 × (floor k ≤ level op) × IsExpression (level op) t0 (spelled op ∷ ts) a)
-  Waits h all (Prefix op k) ts = Waits h all k (spelled_unary op ∷ ts)
+      (t0 : List Lexeme) × (Waits h all k t0 × (floor k ≤ level op) × IsExpression (level op) t0 (lexeme_of_operator op ∷ ts) a)
+  Waits h all (Prefix op k) ts = Waits h all k (lexeme_of_sign op ∷ ts)
   Waits h all (Round k) ts = Waits h all k (lexeme.OpenRound ∷ ts)
   Waits h all (Index i k) ts = Waits h all k (indexing i ∷ lexeme.OpenSquare ∷ ts)
   Waits h all (Argument c done ss a) ts =
@@ -94,7 +94,7 @@ abbrev mutual
   Waits h all (Member c done es ss a) ts =
       (t0 : List Lexeme) × (Stands h all a (lexeme.Call c ∷ lexeme.OpenRound ∷ t0) × Joining c done es ss t0 ts)
   Waits h all (FlagsArgument c done a) ts =
-      (t0 : List Lexeme) × ((ss : List Slot) × (Stands h all a (lexeme.Call c ∷ lexeme.OpenRound ∷ t0) × Before c done (Flags ∷ ss) t0 ts))
+      (t0 : List Lexeme) × ((ss : List ArgumentKind) × (Stands h all a (lexeme.Call c ∷ lexeme.OpenRound ∷ t0) × Before c done (FlagsAndOutput ∷ ss) t0 ts))
 
   Stands : Position → List Lexeme → CallSite → List Lexeme → Type 0
   Stands h all (InExpression k) ts = Waits h all k ts
@@ -132,7 +132,7 @@ fold l b h all (Left a op k) ts e small high w = cond_both (nat_le l (level op))
     (w.1.0.0, (w.1.0.1.0, λ n low. g.joined n op w.1.0.0 w.0 ts a e low w.1.0.1.2 (w.1.1 (level op + 1) high))))
     (λ low. (lower b l h all (Left a op k) ts e small w, elim (leb_tells l (level op)) as (λ _. level op + 1 ≤ l) [ inl p ↦ absurd (true≢false (sym p.0 ∙ low)) | inr p ↦ omega (arith, p.1) ]))
 fold l b h all (Prefix op k) ts e small high w =
-    fold l b h all k ts (tree.Unary op e) small (omega (arith, floor_high k)) (spelled_unary op ∷ w.0, (w.1.0, λ n low. g.signed n op w.0 ts e (w.1.1 8 high)))
+    fold l b h all k ts (tree.Unary op e) small (omega (arith, floor_high k)) (lexeme_of_sign op ∷ w.0, (w.1.0, λ n low. g.signed n op w.0 ts e (w.1.1 8 high)))
 fold l b h all (Round k) ts e small high w = (lower b l h all (Round k) ts e small w, omega arith)
 fold l b h all (Index i k) ts e small high w = (lower b l h all (Index i k) ts e small w, omega arith)
 fold l b h all (Argument c done ss k) ts e small high w = (lower b l h all (Argument c done ss k) ts e small w, omega arith)
@@ -167,7 +167,7 @@ Reached (m.CallEnd h c done k) all ts = Calls h k c all (λ t0. Ending c done t0
 Reached (m.ListOpen h c done ss k) all ts = Calls h k c all (λ t0. Before c done (Values ∷ ss) t0 ts)
 Reached (m.ListStart h c done ss k) all ts =
     Calls h k c all (λ t0. Before c done (Values ∷ ss) t0 (lexeme.OpenSquare ∷ ts))
-Reached (m.NameAt h c done ss k) all ts = Calls h k c all (λ t0. Before c done (Named ∷ ss) t0 ts)
+Reached (m.NameAt h c done ss k) all ts = Calls h k c all (λ t0. Before c done (NameOfFunction ∷ ss) t0 ts)
 Reached (m.AfterArgument h c done ss k) all ts = Calls h k c all (λ t0. After c done ss t0 ts)
 Reached (m.OutputAnd h c done k) all ts =
     Calls h k c all (λ t0. (x : List ℕ) (rest : List Lexeme) → ts ≡ lexeme.Operator binary.And ∷ lexeme.Name x ∷ lexeme.CloseRound ∷ rest → AreArguments (shape c) t0 rest (with done (named x empty)))
@@ -218,7 +218,7 @@ whole_reached h m.ToPrint e lexeme.Semicolon all from ts a d = one_more h all _ 
 whole_reached h m.ToReturn e lexeme.Semicolon all from ts a d = one_more h all _ ts (tree.Return e) a (g.give from ts e d)
 whole_reached h p e t all from ts a d = tt
 
-args_are : {ss : List Slot} {t0 rest : List Lexeme} {a b : Arguments} → a ≡ b → AreArguments ss t0 rest b
+args_are : {ss : List ArgumentKind} {t0 rest : List Lexeme} {a b : Arguments} → a ≡ b → AreArguments ss t0 rest b
     → AreArguments ss t0 rest a
 args_are {ss = ss} {t0 = t0} {rest = rest} is d = subst (λ (l : Arguments). AreArguments ss t0 rest l) (sym is) d
 
@@ -229,16 +229,16 @@ called_reached : (h : Position) (k : CallSite) (c : CallName) (args : Arguments)
 called_reached h (InExpression k) c args all t0 ts w d = (_, (w, λ l _. g.invoked l c t0 ts args d))
 called_reached h AsStatement c args all t0 ts w d = (t0, (w, d))
 
-argument_reached : (h : Position) (k : CallSite) (c : CallName) (done : Arguments) (ss : List Slot) (all ts : List Lexeme)
+argument_reached : (h : Position) (k : CallSite) (c : CallName) (done : Arguments) (ss : List ArgumentKind) (all ts : List Lexeme)
     → Calls h k c all (λ t0. Before c done ss t0 ts) → Reached (m.argument h c done ss k) all ts
 argument_reached h k c done [] all ts w =
     (w.0, (w.1.0, λ rest is. args_are (sym (with_none done)) (w.1.1 rest empty (subst (λ (l : List Lexeme). AreArguments [] l rest empty) (sym is) (g.no_more rest)))))
 argument_reached h k c done (Value ∷ ss) all ts w = w
 argument_reached h k c done (Values ∷ ss) all ts w = w
-argument_reached h k c done (Named ∷ ss) all ts w = w
-argument_reached h k c done (Flags ∷ ss) all ts w = (w.0, (ss, (w.1.0, w.1.1)))
+argument_reached h k c done (NameOfFunction ∷ ss) all ts w = w
+argument_reached h k c done (FlagsAndOutput ∷ ss) all ts w = (w.0, (ss, (w.1.0, w.1.1)))
 
-followed_reached : (h : Position) (k : CallSite) (c : CallName) (done : Arguments) (ss : List Slot) (t : Lexeme)
+followed_reached : (h : Position) (k : CallSite) (c : CallName) (done : Arguments) (ss : List ArgumentKind) (t : Lexeme)
     (all ts : List Lexeme) → Calls h k c all (λ t0. After c done ss t0 (t ∷ ts)) → Reaches (m.after_argument h c done ss k t) all ts
 followed_reached h k c done [] lexeme.CloseRound all ts w =
     called_reached h k c done all w.0 ts w.1.0 (args_are (sym (with_none done)) (w.1.1 lexeme.CloseRound ts ts empty refl (g.closes ts)))
@@ -246,7 +246,7 @@ followed_reached h k c done (s ∷ ss) lexeme.Comma all ts w =
     argument_reached h k c done (s ∷ ss) all ts (w.0, (w.1.0, λ rest args d. w.1.1 lexeme.Comma ts rest args refl (g.goes s ss ts rest args d)))
 followed_reached h k c done ss t all ts w = tt
 
-list_reached : (h : Position) (k : CallSite) (c : CallName) (done : Arguments) (ss : List Slot) (t : Lexeme)
+list_reached : (h : Position) (k : CallSite) (c : CallName) (done : Arguments) (ss : List ArgumentKind) (t : Lexeme)
     (all ts : List Lexeme) → Calls h k c all (λ t0. Before c done (Values ∷ ss) t0 (lexeme.OpenSquare ∷ t ∷ ts))
     → Reaches (m.list_start h c done ss k t) all ts
 list_reached h k c done ss lexeme.CloseSquare all ts w = (
@@ -297,10 +297,10 @@ closed_reached h (FlagsArgument c done k) e lexeme.Comma all ts w =
 closed_reached h (Bottom p) e t all ts w = whole_reached h p e t all w.0 ts w.1.0 (w.1.1 0 (omega arith))
 closed_reached h other e t all ts w = tt
 
-spelled_some : (a b : BinaryOp) → Some a ≡ Some b → spelled a ≡ spelled b
-spelled_some a b is = let same : a ≡ b = cc in ap spelled same
+spelled_some : (a b : BinaryOp) → Some a ≡ Some b → lexeme_of_operator a ≡ lexeme_of_operator b
+spelled_some a b is = let same : a ≡ b = cc in ap lexeme_of_operator same
 
-operator_is : (t : Lexeme) (op : BinaryOp) → operator t ≡ Some op → t ≡ spelled op
+operator_is : (t : Lexeme) (op : BinaryOp) → operator t ≡ Some op → t ≡ lexeme_of_operator op
 operator_is (lexeme.Operator o) op is = spelled_some o op is
 operator_is other op is = cc
 
@@ -378,7 +378,7 @@ step_reached (m.NameAt h c done ss k) (lexeme.Name x) all ts w = (
   (
     w.1.0,
     λ t1 mid rest args is f.
-        args_are (with_more done (named x empty) args) (w.1.1 rest (named x args) (subst (λ (l : List Lexeme). AreArguments (Named ∷ ss) (lexeme.Name x ∷ l) rest (named x args)) (sym is) (g.one_name ss x t1 mid rest args f))),
+        args_are (with_more done (named x empty) args) (w.1.1 rest (named x args) (subst (λ (l : List Lexeme). AreArguments (NameOfFunction ∷ ss) (lexeme.Name x ∷ l) rest (named x args)) (sym is) (g.one_name ss x t1 mid rest args f))),
   ),
 )
 step_reached (m.AfterArgument h c done ss k) t all ts w = followed_reached h k c done ss t all ts w

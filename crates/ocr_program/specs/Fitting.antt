@@ -2,8 +2,8 @@
 use Rattle.std.specs.Prelude.{◌≡◌, ℕ, List, [], ◌∷◌, Bool, true, false, Option, Some, None}
 use Rattle.ocr_tree.specs.declared.tree.CallName.{CallName}
 use Rattle.ocr_tree.specs.Tree.{Expression, Arguments, empty, value, list, named}
-use Rattle.ocr_grammar.specs.declared.slots.Slot.{Slot}
-use Rattle.ocr_grammar.specs.declared.slots.Slot.TheVariants.{Value, Values, Named, Flags}
+use Rattle.ocr_grammar.specs.declared.argument_kind.ArgumentKind.{ArgumentKind}
+use Rattle.ocr_grammar.specs.declared.argument_kind.ArgumentKind.TheVariants.{Value, Values, NameOfFunction, FlagsAndOutput}
 use Rattle.ocr_grammar.specs.Shape.{shape}
 use Rattle.ocr_program.specs.Joined.{with}
 use Rattle.ocr_program.specs.Machine as m
@@ -14,16 +14,16 @@ is_output empty = true
 is_output (named x empty) = true
 is_output other = false
 
-abbrev pub fits : List Slot → Arguments → Bool
+abbrev pub fits : List ArgumentKind → Arguments → Bool
 fits [] empty = true
 fits (Value ∷ ss) (value e args) = fits ss args
 fits (Values ∷ ss) (list es args) = fits ss args
-fits (Named ∷ ss) (named x args) = fits ss args
-fits (Flags ∷ ss) (value e args) = is_output args
+fits (NameOfFunction ∷ ss) (named x args) = fits ss args
+fits (FlagsAndOutput ∷ ss) (value e args) = is_output args
 fits ss args = false
 
 -- with what fits these slots behind them, the arguments fit the call
-abbrev pub LeadsTo : CallName → Arguments → List Slot → Type 0
+abbrev pub LeadsTo : CallName → Arguments → List ArgumentKind → Type 0
 LeadsTo c done ss =
     (args : Arguments) → fits ss args ≡ true → fits (shape c) (with done args) ≡ true
 
@@ -58,7 +58,7 @@ IsFittingState (m.CallOpen h c k) = IsFittingSite k
 IsFittingState (m.CallEnd h c done k) = (fits (shape c) done ≡ true) × IsFittingSite k
 IsFittingState (m.ListOpen h c done ss k) = LeadsTo c done (Values ∷ ss) × IsFittingSite k
 IsFittingState (m.ListStart h c done ss k) = LeadsTo c done (Values ∷ ss) × IsFittingSite k
-IsFittingState (m.NameAt h c done ss k) = LeadsTo c done (Named ∷ ss) × IsFittingSite k
+IsFittingState (m.NameAt h c done ss k) = LeadsTo c done (NameOfFunction ∷ ss) × IsFittingSite k
 IsFittingState (m.AfterArgument h c done ss k) = LeadsTo c done ss × IsFittingSite k
 IsFittingState (m.OutputAnd h c done k) = LeadsToOutput c done × IsFittingSite k
 IsFittingState (m.OutputName h c done k) = LeadsToOutput c done × IsFittingSite k

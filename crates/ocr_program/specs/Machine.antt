@@ -14,8 +14,8 @@ use Rattle.ocr_grammar.specs.declared.lexeme.Lexeme.TheVariants as lexeme
 use Rattle.ocr_grammar.specs.declared.lexeme.Word.{Word}
 use Rattle.ocr_grammar.specs.declared.lexeme.Word.TheVariants as word
 use Rattle.ocr_grammar.specs.Grammar.{level}
-use Rattle.ocr_grammar.specs.declared.slots.Slot.{Slot}
-use Rattle.ocr_grammar.specs.declared.slots.Slot.TheVariants.{Value, Values, Named, Flags}
+use Rattle.ocr_grammar.specs.declared.argument_kind.ArgumentKind.{ArgumentKind}
+use Rattle.ocr_grammar.specs.declared.argument_kind.ArgumentKind.TheVariants.{Value, Values, NameOfFunction, FlagsAndOutput}
 use Rattle.ocr_grammar.specs.Shape.{shape}
 use Rattle.ocr_program.specs.Joined.{with, ended_by}
 
@@ -42,8 +42,8 @@ mutual
     Round : Stack → Stack
     Index : Indexed → Stack → Stack
     -- an argument of a call: the arguments before it, the slots after it
-    Argument : (c : CallName) (done : Arguments) (slots : List Slot) → CallSite → Stack
-    Member : (c : CallName) (done members : Arguments) (slots : List Slot) → CallSite → Stack
+    Argument : (c : CallName) (done : Arguments) (slots : List ArgumentKind) → CallSite → Stack
+    Member : (c : CallName) (done members : Arguments) (slots : List ArgumentKind) → CallSite → Stack
     FlagsArgument : (c : CallName) (done : Arguments) → CallSite → Stack
 
   -- where a call stands: in an expression, or as a statement
@@ -85,10 +85,10 @@ pub data State : Type 0 where
   IndexOpen : Position → Indexed → Stack → State
   CallOpen : Position → CallName → CallSite → State
   CallEnd : Position → CallName → Arguments → CallSite → State
-  ListOpen : Position → CallName → Arguments → List Slot → CallSite → State
-  ListStart : Position → CallName → Arguments → List Slot → CallSite → State
-  NameAt : Position → CallName → Arguments → List Slot → CallSite → State
-  AfterArgument : Position → CallName → Arguments → List Slot → CallSite → State
+  ListOpen : Position → CallName → Arguments → List ArgumentKind → CallSite → State
+  ListStart : Position → CallName → Arguments → List ArgumentKind → CallSite → State
+  NameAt : Position → CallName → Arguments → List ArgumentKind → CallSite → State
+  AfterArgument : Position → CallName → Arguments → List ArgumentKind → CallSite → State
   OutputAnd : Position → CallName → Arguments → CallSite → State
   OutputName : Position → CallName → Arguments → CallSite → State
   AfterOperand : Position → Stack → Expression → State
@@ -162,12 +162,12 @@ after_call h c args (InExpression k) = AfterOperand h k (tree.Invoked c args)
 after_call h c args AsStatement = AfterCall h c args
 
 -- an argument of the first slot begins
-abbrev pub argument : Position → CallName → Arguments → List Slot → CallSite → State
+abbrev pub argument : Position → CallName → Arguments → List ArgumentKind → CallSite → State
 argument h c done [] k = CallEnd h c done k
 argument h c done (Value ∷ ss) k = Operand h (Argument c done ss k)
 argument h c done (Values ∷ ss) k = ListOpen h c done ss k
-argument h c done (Named ∷ ss) k = NameAt h c done ss k
-argument h c done (Flags ∷ ss) k = Operand h (FlagsArgument c done k)
+argument h c done (NameOfFunction ∷ ss) k = NameAt h c done ss k
+argument h c done (FlagsAndOutput ∷ ss) k = Operand h (FlagsArgument c done k)
 
 -- the token after the last argument
 abbrev pub at_end : Position → CallName → Arguments → CallSite → Lexeme → Option State
@@ -175,18 +175,18 @@ at_end h c done k lexeme.CloseRound = Some (after_call h c done k)
 at_end h c done k other = None
 
 -- the token after another argument
-abbrev pub at_comma : Position → CallName → Arguments → List Slot → CallSite → Lexeme → Option State
+abbrev pub at_comma : Position → CallName → Arguments → List ArgumentKind → CallSite → Lexeme → Option State
 at_comma h c done ss k lexeme.Comma = Some (argument h c done ss k)
 at_comma h c done ss k other = None
 
 -- the token after an argument
-abbrev pub after_argument : Position → CallName → Arguments → List Slot → CallSite → Lexeme
+abbrev pub after_argument : Position → CallName → Arguments → List ArgumentKind → CallSite → Lexeme
     → Option State
 after_argument h c done [] k t = at_end h c done k t
 after_argument h c done (s ∷ ss) k t = at_comma h c done (s ∷ ss) k t
 
 -- the token after a member of a list
-abbrev pub after_member : Position → CallName → Arguments → Arguments → List Slot → CallSite
+abbrev pub after_member : Position → CallName → Arguments → Arguments → List ArgumentKind → CallSite
     → Lexeme → Option State
 after_member h c done es ss k lexeme.Comma = Some (Operand h (Member c done es ss k))
 after_member h c done es ss k lexeme.CloseSquare =
@@ -234,7 +234,7 @@ operand h k (lexeme.Call c) = Some (CallOpen h c (InExpression k))
 operand h k other = None
 
 -- the first token after the opening bracket of a list
-abbrev pub list_start : Position → CallName → Arguments → List Slot → CallSite → Lexeme
+abbrev pub list_start : Position → CallName → Arguments → List ArgumentKind → CallSite → Lexeme
     → Option State
 list_start h c done ss k lexeme.CloseSquare =
     Some (AfterArgument h c (with done (list empty empty)) ss k)

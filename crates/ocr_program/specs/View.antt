@@ -6,7 +6,7 @@ use Rattle.ocr_tree.specs.declared.tree.Invoke.{Invoke}
 use Rattle.ocr_tree.specs.Tree as tree
 use Rattle.ocr_tree.specs.Tree.{Arguments, empty, value, list, named}
 use Rattle.ocr_tree.specs.View.{name_of, expression_of, arguments_of, members_of, statements_of, functions_of}
-use Rattle.ocr_grammar.specs.declared.slots.Slot.{Slot}
+use Rattle.ocr_grammar.specs.declared.argument_kind.ArgumentKind.{ArgumentKind}
 use Rattle.ocr_grammar.specs.Shape.{shape}
 use Rattle.ocr_program.specs.Joined.{with}
 use Rattle.ocr_program.specs.Machine as m
@@ -60,15 +60,15 @@ in_order (parsed.List' es p rest) = list (members_of es.items) (in_order rest)
 in_order (parsed.Named' x p rest) = named x (in_order rest)
 
 -- the slots that these arguments leave
-abbrev pub slots_left : CallName → List Arg → List Slot
+abbrev pub slots_left : CallName → List Arg → List ArgumentKind
 slots_left c args = drop (length args) (shape c)
 
-abbrev pub but_first : List Slot → List Slot
+abbrev pub but_first : List ArgumentKind → List ArgumentKind
 but_first [] = []
 but_first (s ∷ ss) = ss
 
 -- the slots after the one that is being read
-abbrev pub slots_after : CallName → List Arg → List Slot
+abbrev pub slots_after : CallName → List Arg → List ArgumentKind
 slots_after c args = but_first (slots_left c args)
 
 abbrev mutual

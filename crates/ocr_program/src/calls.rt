@@ -12,12 +12,12 @@ ghost use Rattle.ocr_program.specs.View.{IsPushed, args_of, slots_left, slots_af
 use crate::expressions::operand;
 use crate::invoking::invoke;
 use crate::states::{Arg, CallSite, Position, Stack, State, Wanted};
-use ocr_grammar::{Lexeme, Slot, shape};
+use ocr_grammar::{ArgumentKind, Lexeme, shape};
 use ocr_tree::{CallName, Expr, Name};
 use std::alloc::{AllocError, Global};
 
 /// The slot that comes after so many arguments.
-fn next_slot(call: CallName, place: usize) -> Option<Slot>
+fn next_slot(call: CallName, place: usize) -> Option<ArgumentKind>
     ensures { result ≡ slice_get (slots_of call) place }
 {
     shape(call).get(place).copied()
@@ -66,10 +66,12 @@ pub fn argument(position: Position, call: CallName, args: Vec<Arg>, site: CallSi
 {
     let wanted = match next_slot(call, args.len()) {
         None => Wanted::CallEnd(call, args, site),
-        Some(Slot::Value) => Wanted::Operand(Stack::Argument(call, args, site)),
-        Some(Slot::Values) => Wanted::ListOpen(call, args, site),
-        Some(Slot::Named) => Wanted::NameAt(call, args, site),
-        Some(Slot::Flags) => Wanted::Operand(Stack::FlagsArgument(call, args, site)),
+        Some(ArgumentKind::Value) => Wanted::Operand(Stack::Argument(call, args, site)),
+        Some(ArgumentKind::Values) => Wanted::ListOpen(call, args, site),
+        Some(ArgumentKind::NameOfFunction) => Wanted::NameAt(call, args, site),
+        Some(ArgumentKind::FlagsAndOutput) => Wanted::Operand(Stack::FlagsArgument(
+            call, args, site,
+        )),
     };
     State::InFunction(position, wanted)
 }

@@ -2,7 +2,7 @@
 ghost use Rattle.std.specs.Prelude.{◌≡◌, ◌∷◌, IfOk};
 ghost use Rattle.ocr_tree.specs.View.{expression_of, members_of};
 ghost use Rattle.ocr_tree.specs.Tree as tree;
-ghost use Rattle.ocr_grammar.specs.declared.slots.Slot.TheVariants as slot;
+ghost use Rattle.ocr_grammar.specs.declared.argument_kind.ArgumentKind.TheVariants as slot;
 ghost use Rattle.ocr_program.specs.Joined.{with};
 ghost use Rattle.ocr_program.specs.Machine as machine;
 ghost use Rattle.ocr_program.specs.Fitting.{LeadsTo, LeadsToFlags, IsFitting};

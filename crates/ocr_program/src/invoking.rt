@@ -3,7 +3,7 @@ ghost use Rattle.std.specs.Prelude.{◌≡◌, ◌∷◌, [], IfOk, true};
 ghost use Rattle.ocr_tree.specs.Tree.{empty, value, list, named};
 ghost use Rattle.ocr_tree.specs.View.{expression_of, members_of, output_of};
 ghost use Rattle.ocr_grammar.specs.Shape.{shape};
-ghost use Rattle.ocr_grammar.specs.declared.slots.Slot.TheVariants as slot;
+ghost use Rattle.ocr_grammar.specs.declared.argument_kind.ArgumentKind.TheVariants as slot;
 ghost use Rattle.ocr_program.specs.Fitting.{fits};
 ghost use Rattle.ocr_program.specs.View.{args_of, in_order, argument_onto, Invokes};
 
@@ -153,7 +153,7 @@ fn template_create(args: ParsedArguments) -> Invoke
 
 // The flags of a new EDT, and the variable of its output event.
 fn flags(args: ParsedArguments) -> (Box<Expr>, Option<Name>)
-    requires { fits (slot.Flags ∷ []) (in_order args) ≡ true }
+    requires { fits (slot.FlagsAndOutput ∷ []) (in_order args) ≡ true }
     ensures { in_order args ≡ value (expression_of result.0.value) (output_of result.1) }
 {
     let ParsedArguments::Value(flags, rest) = args else {

@@ -21,9 +21,9 @@ impl Tally {
 }
 
 /// The tally with one more token.
-pub fn tallied(tally: Tally, lexeme: &Lexeme) -> Tally
+pub fn tally_after(tally: Tally, lexeme: &Lexeme) -> Tally
     requires { limits.is_over (tally_of tally) ≡ false }
-    ensures { tally_of result ≡ limits.tallied (tally_of tally) lexeme.now }
+    ensures { tally_of result ≡ limits.tally_after (tally_of tally) lexeme.now }
 {
     let Tally { tokens, depth } = tally;
     match tokens {

@@ -8,7 +8,7 @@ ghost use Rattle.ocr_program.specs.Answers.{Answers, IsFaultOrNoMemory, IsTreeOr
 ghost use Rattle.ocr_program.specs.Machine as machine;
 ghost use Rattle.ocr_program.specs.View.{state_of};
 
-use crate::limits::{Tally, is_over, tallied};
+use crate::limits::{Tally, is_over, tally_after};
 use crate::states::State;
 use crate::steps::step;
 use ocr_grammar::read_token;
@@ -97,7 +97,7 @@ fn read(alloc: Global, bytes: &[u8], tokens: &[Token]) -> Result<Parsed, AllocEr
         let Some(lexeme) = read_token(alloc, bytes, token)? else {
             continue
         };
-        tally = tallied(tally, &lexeme);
+        tally = tally_after(tally, &lexeme);
         if is_over(tally) {
             drop(state);
             return Ok(Parsed::Fault(token.start));

@@ -11,13 +11,13 @@ pub loop-place-preserved-in_default : goal.loop-place-preserved-in_default
 loop-place-preserved-in_default c =
     passed _ _ _ _ _ _ c.loop-place.invariant c.loop-place-test.true (sym c.in_ok-lexeme.ensures ∙ c.in_default.is)
 
-pub tallied-tally-requires : goal.tallied-tally-requires
-tallied-tally-requires c = within_limits _ _ _ _ _ c.loop-place.invariant
+pub tally_after-tally-requires : goal.tally_after-tally-requires
+tally_after-tally-requires c = within_limits _ _ _ _ _ c.loop-place.invariant
 
 pub returns-then-is_over : goal.returns-then-is_over
 returns-then-is_over c =
     over_at _ _ _ _ _ _ _ c.loop-place.invariant c.loop-place-test.true (sym c.in_ok-lexeme.ensures ∙ c.in-Some.is)
-    (sym (ap limits.is_over c.tallied-tally.ensures) ∙ sym c.is_over.ensures ∙ c.if-is_over.true)
+    (sym (ap limits.is_over c.tally_after-tally.ensures) ∙ sym c.is_over.ensures ∙ c.if-is_over.true)
 
 pub returns-in_default-2 : goal.returns-in_default-2
 returns-in_default-2 c =
@@ -26,9 +26,9 @@ returns-in_default-2 c =
 
 pub loop-place-preserved : goal.loop-place-preserved
 loop-place-preserved c =
-    subst (λ (y : limits.Tally). Progress c.args.bytes.now c.args.tokens.now (c.loop-place.place + 1) (state_of c.in-Some-2.next) y) (sym c.tallied-tally.ensures)
+    subst (λ (y : limits.Tally). Progress c.args.bytes.now c.args.tokens.now (c.loop-place.place + 1) (state_of c.in-Some-2.next) y) (sym c.tally_after-tally.ensures)
     (stepped _ _ _ _ _ _ _ _ c.loop-place.invariant c.loop-place-test.true (sym c.in_ok-lexeme.ensures ∙ c.in-Some.is)
-    (sym c.in_ok-next.ensures ∙ ap state_if_any c.in-Some-2.is) (sym (ap limits.is_over c.tallied-tally.ensures) ∙ sym c.is_over.ensures ∙ c.if-is_over.false))
+    (sym c.in_ok-next.ensures ∙ ap state_if_any c.in-Some-2.is) (sym (ap limits.is_over c.tally_after-tally.ensures) ∙ sym c.is_over.ensures ∙ c.if-is_over.false))
 
 pub returns-in-Some-finished : goal.returns-in-Some-finished
 returns-in-Some-finished c = tree_at_end _ _ _ _ _ _ c.loop-place.invariant (omega arith) (search rules)
