@@ -1,19 +1,18 @@
-//! Replays a journal in which so many EDTs run side by side as its word says, and their entries take turns one by one.
+//! Replays a journal in which so many EDTs run side by side as its word says, and their entries
+//! take turns one by one.
 #![tactic(auto)]
 
-ghost use Rattle.std.specs.Prelude.{◌≡◌, ◌<◌, ◌≤◌, ◌+◌, ◌^◌, length, true, IfOk};
-ghost use Rattle.ocr_tree.specs.Built.{is_built, is_statement_built, are_built};
-ghost use Rattle.ocr_body.specs.Checked.{checked_tree};
-ghost use Rattle.ocr_tree.specs.Runnable.{IsRunnable};
-ghost use Rattle.ocr_tree.specs.View.{expression_of, statement_of, tree_of};
+ghost use Rattle.std.specs.Prelude.{◌≡◌, ◌<◌, ◌+◌, ◌^◌, length, IfOk};
 
 use ocr_base::{NoMemory, Seq};
 use ocr_body::{Answer, Call, Checked};
+use ocr_check::check;
 use ocr_guid::{Code, Guid};
 use ocr_machine::{Entry, Writes};
+use ocr_program::parse;
 use ocr_replay::replay;
-use ocr_tree::{Expr, Function, Invoke, Name, Program, Stmt};
-use std::alloc::{AllocError, Global};
+use ocr_text::tokens;
+use std::alloc::Global;
 use std::io::{Error, ErrorKind};
 use std::{env, io};
 
@@ -23,65 +22,30 @@ const TEMPLATE: u64 = 3;
 
 const TURNS: u64 = 5;
 
-fn template(alloc: Global) -> Result<Stmt, AllocError>
-    ensures { IfOk result (λ s. is_statement_built (statement_of s) ≡ true) }
-{
-    Ok(Stmt::Invoke(Invoke::TemplateCreate {
-        function: Name::from_vec(Vec::from_slice(alloc, b"one")?),
-        paramc: Box::new(alloc, Expr::Number(0))?,
-        depc: Box::new(alloc, Expr::Number(0))?,
-    }))
-}
-
-#[tactic(auto, using(crate::proofs::Rows::hidden_is))]
-fn creation(alloc: Global) -> Result<Stmt, AllocError>
-    ensures { IfOk result (λ s. is_statement_built (statement_of s) ≡ true) }
-{
-    Ok(Stmt::Invoke(Invoke::EdtCreate {
-        template: Box::new(alloc, Expr::Number(TEMPLATE))?,
-        paramc: Box::new(alloc, Expr::Number(0))?,
-        params: Vec::new(alloc),
-        depc: Box::new(alloc, Expr::Number(0))?,
-        deps: Vec::new(alloc),
-        flags: Box::new(alloc, Expr::Number(0))?,
-        output: None,
-    }))
-}
-
-fn print() -> Stmt
-    ensures { is_statement_built (statement_of result) ≡ true }
-{
-    Stmt::Print {
-        value: Expr::Number(7),
-    }
-}
-
 // mainEdt makes the first EDT, and each of these makes the next one and then prints.
-fn program(alloc: Global) -> Result<Program, AllocError>
-    ensures { IfOk result (λ p. IsRunnable (tree_of p)) }
-{
-    let main = vec![in alloc; template(alloc)?, creation(alloc)?]?;
-    let one = vec![in alloc;
-        creation(alloc)?,
-        print(),
-        print(),
-        print(),
-        print(),
-        print(),
-    ]?;
-    let main_name = Name::from_vec(Vec::from_slice(alloc, b"mainEdt")?);
-    let one_name = Name::from_vec(Vec::from_slice(alloc, b"one")?);
-    let main = Function {
-        name: main_name,
-        body: main,
+const TEXT: &[u8] = b"fn mainEdt {
+  ocrEdtTemplateCreate(one, 0, 0);
+  ocrEdtCreate(3, 0, [], 0, [], 0);
+}
+fn one {
+  ocrEdtCreate(3, 0, [], 0, [], 0);
+  print 7; print 7; print 7; print 7; print 7;
+}";
+
+fn program(alloc: Global) -> io::Result<Checked> {
+    let Ok(tokens) = tokens(alloc, TEXT) else {
+        return Err(Error::from(ErrorKind::InvalidData));
     };
-    let one = Function {
-        name: one_name,
-        body: one,
+    let Ok(program) = parse(alloc, TEXT, &tokens) else {
+        return Err(Error::from(ErrorKind::InvalidData));
     };
-    Ok(Program {
-        functions: vec![in alloc; main, one]?,
-    })
+    if program.functions.len() > 2 {
+        return Err(Error::from(ErrorKind::InvalidData));
+    }
+    let Ok(checked) = check(alloc, program) else {
+        return Err(Error::from(ErrorKind::InvalidData));
+    };
+    Ok(checked)
 }
 
 #[derive(Drop)]
@@ -186,9 +150,7 @@ fn side_by_side(alloc: Global, edts: u64) -> Result<Journal, NoMemory>
 fn replayed(rt: &HostRuntime, edts: u64) -> io::Result<()>
     requires { edts < 65536 }
 {
-    let Ok(checked) = Checked::new(rt.alloc(), program(rt.alloc())?) else {
-        return Err(Error::from(ErrorKind::OutOfMemory));
-    };
+    let checked = program(rt.alloc())?;
     let Ok(journal) = side_by_side(rt.alloc(), edts) else {
         return Err(Error::from(ErrorKind::OutOfMemory));
     };
