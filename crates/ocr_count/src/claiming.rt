@@ -1,0 +1,59 @@
+// Claims, and the payloads that a claim lets be read.
+ghost use Rattle.std.specs.Prelude.{◌≡◌, ◌<◌, ◌≤◌};
+ghost use Rattle.ocr_turns.specs.Contract.{IsOf, SameHand};
+ghost use Rattle.ocr_turns.specs.Words.{HasClaim, HasSlot, OwesResume, Waits, learning, resuming, unclaiming};
+ghost use Rattle.ocr_count.specs.Counts.{ClaimTells, IsNumber};
+
+use crate::answers::Claimed;
+use ocr_guid::Guid;
+use ocr_turns::{Clerk, Machine, Turns, WordStep};
+
+/// Claims the EDT where it is ready. `Lost` carries its word, which is not that of a ready EDT.
+pub fn claim<M: Machine>(turns: &Turns<M>, clerk: &mut Clerk<M>, edt: Guid) -> Claimed
+    requires table { IsOf turns.now clerk.old }
+    requires edt { IsNumber turns.now.1 edt }
+    ensures hand { SameHand clerk.old clerk.new }
+    ensures told { ClaimTells M.meaning result clerk.old.view clerk.new.view edt }
+{
+    let found = turns.step_word(clerk, edt.0, WordStep::Claim);
+    if found == 0 {
+        Claimed::Won
+    } else {
+        Claimed::Lost(found)
+    }
+}
+
+/// The payload of a slot of an EDT that this clerk has claimed.
+pub fn payload<M: Machine>(turns: &Turns<M>, clerk: &mut Clerk<M>, edt: Guid, slot: u32) -> u64
+    requires table { IsOf turns.now clerk.old }
+    requires edt { IsNumber turns.now.1 edt × (slot < 32) }
+    requires claimed { HasClaim clerk.old.view edt }
+    requires slot { HasSlot M.meaning turns.now.1 clerk.old.view edt slot }
+    ensures hand { SameHand clerk.old clerk.new }
+    ensures view { clerk.new.view ≡ learning clerk.old.view (M.meaning.counting.is_set edt slot result) }
+{
+    turns.step_word(clerk, edt.0, WordStep::Read { slot })
+}
+
+/// Gives up the claim of an EDT that waits, so that whoever resumes it makes it ready.
+pub fn park<M: Machine>(turns: &Turns<M>, clerk: &mut Clerk<M>, edt: Guid)
+    requires table { IsOf turns.now clerk.old }
+    requires edt { IsNumber turns.now.1 edt }
+    requires claimed { HasClaim clerk.old.view edt }
+    requires waits { Waits M.meaning turns.now.1 clerk.old.view edt }
+    ensures hand { SameHand clerk.old clerk.new }
+    ensures view { clerk.new.view ≡ unclaiming clerk.old.view edt }
+{
+    turns.step_word(clerk, edt.0, WordStep::Park);
+}
+
+/// Makes an EDT ready that an entry of this clerk resumed.
+pub fn resume<M: Machine>(turns: &Turns<M>, clerk: &mut Clerk<M>, edt: Guid)
+    requires table { IsOf turns.now clerk.old }
+    requires edt { IsNumber turns.now.1 edt }
+    requires owes { OwesResume clerk.old.view edt }
+    ensures hand { SameHand clerk.old clerk.new }
+    ensures view { clerk.new.view ≡ resuming clerk.old.view edt }
+{
+    turns.step_word(clerk, edt.0, WordStep::Resume);
+}

@@ -1,0 +1,63 @@
+use Rattle.std.proofs.Common.{sym, ap, subst, arith, ◌∙◌, ◌≡◌, ◌≤◌, ◌<◌, ◌+◌, ◌-◌, ◌++◌, ◌∷◌, [], length, length-append, vec_capacity, refl, None, Some, Option, ℕ}
+use Rattle.ocr_mail.specs.Mail.{without, named}
+use Rattle.ocr_turns.specs.Clerks.{HasKeys}
+use Rattle.ocr_turns.specs.Contract.{MayCommit}
+use Rattle.ocr_turns.specs.Rule.{OPEN}
+use Rattle.ocr_turns.specs.Steps.{Deed, deed, logged}
+use Rattle.ocr_turns.specs.Sums.{weigh, one_at, as_some, replace_all}
+use Rattle.ocr_turns.proofs.Clerks.{true_same, shut_true, logged_true, committed, commit_sees, commit_shut}
+use Rattle.ocr_turns.proofs.Numbered.{weigh_keys, length_replace_all}
+use Rattle.ocr_turns.proofs.Totals.{weigh_at}
+use Rattle.ocr_turns.proofs.turns.Turns.commit.Goals as goal
+
+pub invariant_of-clerk : goal.invariant_of-clerk
+invariant_of-clerk g c =
+    let m = g.M.Machine.meaning in let me = c.clerk.inside.seat.me in let n = c.step_commit-found.result in
+    let d = deed m c.args.self.now.1.limit me.0 c.args.entry c.args.change.parts.items c.args.change.messages.items in
+    let past : OPEN ≤ n = omega (arith, c.if-found-ge-ENDED.true) in
+    true_same (sym (commit_shut m me c.step_commit-found.new.seat.me n d c.step_commit-found.ensures.told past)) refl refl refl refl refl refl refl (shut_true c.clerk.invariant n past)
+
+pub put_all-requires : goal.put_all-requires
+put_all-requires g c =
+    let view = ap (λ x. x.view) c.clerk.view_is in
+    let may = c.requires.may (sym (ap (λ v. v.closed) view) ∙ (sym c.clerk.invariant.closed_is ∙ c.in_default.is)) in
+    λ k p a there.
+    let one = weigh_at c.args.change.parts.items k p a there in let le = (may.keeps p).1 in
+    let same = weigh_keys (one_at p) c.clerk.inside.parts.items c.clerk.inside.seat.me.0.parts c.clerk.invariant.keeps in
+    let is = ap (λ v. weigh (one_at p) v.parts) view in omega arith
+
+pub overflow_add-clerk : goal.overflow_add-clerk
+overflow_add-clerk g c =
+    let view = ap (λ x. x.view) c.clerk.view_is in
+    let may = c.requires.may (sym (ap (λ v. v.closed) view) ∙ (sym c.clerk.invariant.closed_is ∙ c.in_default.is)) in
+    let share = may.share in let same = ap (λ v. v.weight) view in let own = c.clerk.invariant.weight_is in let w = c.weight-weight.ensures in
+    let loads = c.self.invariant.loads in let key = ap (λ x. x.1.share) c.self.view_is in omega arith
+
+pub invariant_of-clerk-2 : goal.invariant_of-clerk-2
+invariant_of-clerk-2 g c =
+    let m = g.M.Machine.meaning in let me = c.clerk.inside.seat.me in let n = c.step_commit-found.result in
+    let d = deed m c.args.self.now.1.limit me.0 c.args.entry c.args.change.parts.items c.args.change.messages.items in
+    let under : n < OPEN = omega (arith, c.if-found-ge-ENDED.false) in
+    true_same (sym (committed m me c.step_commit-found.new.seat.me n d c.step_commit-found.ensures.told under)) (sym c.push_reserved.ensures.items) refl (sym c.put_all.ensures.parts)
+    (sym (c.owe_all.ensures.owed ∙ ap (λ l. l ++ named n 0 c.args.change.messages.items) (c.forget.ensures.owed ∙ ap (λ o. without o c.clerk.inside.owed.items) c.delivers-delivered.ensures)))
+    (ap (λ w. c.clerk.inside.weight + w) (sym c.weight-weight.ensures)) refl refl (logged_true c.clerk.invariant n d)
+
+pub returns : goal.returns
+returns g c =
+    let m = g.M.Machine.meaning in let is = c.clerk.view_is in let me = c.clerk.inside.seat.me in let n = c.step_commit-found.result in let limit = c.args.self.now.1.limit in
+    let e = c.args.entry in let ps = c.args.change.parts.items in let ms = c.args.change.messages.items in let hand = c.clerk.inside.parts.items in let log = c.clerk.inside.log.items in
+    let d = deed m limit me.0 e ps ms in let old = c.step_commit-found.ensures in
+    let under : n < OPEN = omega (arith, c.if-found-ge-ENDED.false) in
+    let room : vec_capacity c.push_reserved.new.self - length c.push_reserved.new.self.items + 1 ≡ c.args.clerk.now.room =
+    (let cap = c.push_reserved.ensures.capacity in let len = ap length c.push_reserved.ensures.items in let more = length-append log ((n, e) ∷ []) in let was = ap (λ x. x.room) is in let had = c.requires.room.0 in omega arith) in
+    let spare : vec_capacity c.put_all.new.hand - length c.put_all.new.hand.items ≡ c.args.clerk.now.spare =
+    (let cap = c.put_all.ensures.room in let len = ap length c.put_all.ensures.parts in let same = length_replace_all (as_some ps) hand in let was = ap (λ x. x.spare) is in omega arith) in (
+      sym (ap (λ x. x.view.closed) is) ∙ (sym c.clerk.invariant.closed_is ∙ c.in_default.is),
+      under,
+      old.table.0 ∙ ap (λ x. x.table) is,
+      ap (λ z. z.0) (committed m me c.step_commit-found.new.seat.me n d old.told under) ∙ ap (λ x. logged x.view n (deed m limit x.view e ps ms)) is,
+      c.put_all.ensures.parts ∙ ap (λ x. replace_all (as_some ps) x.parts) is,
+      room,
+      spare,
+      commit_sees m me c.step_commit-found.new.seat.me n d old.told under,
+    )

@@ -1,0 +1,13 @@
+use Rattle.std.proofs.Common.{sym, ap, subst, ◌∙◌, arith, ◌<◌, ◌≡◌}
+use Rattle.ocr_turns.proofs.Splits.{splits}
+use Rattle.ocr_turns.proofs.turns.Turns.split.Goals as goal
+
+pub split_seat-seat-requires : goal.split_seat-seat-requires
+split_seat-seat-requires g c =
+    let m = g.M.Machine.meaning in let id = ap (λ x. x.0) c.self.view_is in let view = sym (ap (λ x. x.view) c.root.view_is) in (
+      ap (λ x. x.table) c.root.view_is ∙ (c.requires.table.0 ∙ sym id),
+      (let a = c.self.invariant.words in omega arith),
+      splits m c.self.inside.table.shared.key c.root.inside.seat.id c.root.inside.seat.me.0
+          (subst (λ v. v.root ≡ 1) view c.requires.root.0)
+          (subst (λ v. 0 < v.quota) view c.requires.root.1),
+    )

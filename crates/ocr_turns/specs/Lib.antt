@@ -1,0 +1,11 @@
+pub mod Sums
+pub mod Meaning
+pub mod Rule
+pub mod Steps
+pub mod Contract
+pub mod Clerks
+pub mod Openings
+pub mod Owing
+pub mod Counting
+pub mod Words
+pub mod Beginning

@@ -1,0 +1,124 @@
+// A clerk: a seat at the table, with what it keeps.
+ghost use Rattle.std.specs.Prelude.{◌≡◌, ◌<◌, ◌≤◌, ◌+◌, ℕ, Option, Some, None, vec_capacity, length};
+ghost use Rattle.ocr_turns.specs.Clerks.{IsFirst};
+ghost use Rattle.ocr_turns.specs.Sums.{find, replace};
+ghost use Rattle.ocr_turns.specs.Contract.{SameRoom};
+
+use crate::machine::Machine;
+use crate::view::View;
+use atomic_table::Seat;
+use std::marker::Model;
+
+/// The parts that a clerk keeps, by place. `None` stands where a part was lifted.
+pub(crate) type Hand<P> = Vec<(u64, Option<P>)>;
+
+/// A clerk of a table: it keeps parts, logs the entries that it makes, and owes the messages that
+/// these sent until it delivers them.
+#[derive(Drop)]
+pub struct Clerk<M: Machine> {
+    pub(crate) seat: Seat<
+        Option<M::Part>,
+        View<M::Setting, M::Entry, M::Part, M::Message, M::Fact>,
+    >,
+    pub(crate) log: Vec<(u64, M::Entry)>,
+    pub(crate) joined: Vec<Vec<(u64, M::Entry)>>,
+    pub(crate) parts: Hand<M::Part>,
+    pub(crate) owed: Vec<(u64, u32, M::Message)>,
+    pub(crate) weight: u64,
+    pub(crate) closed: Option<u64>,
+    pub(crate) full: Option<u64>,
+}
+
+impl<M: Machine> Model for Clerk<M> {
+    ghost use Rattle.std.specs.Prelude.{◌≡◌, ◌≤◌, ◌⊎◌, ℕ, List, vec_capacity, ◌-◌, length, map, [], None, MatchOption};
+    ghost use Rattle.ocr_turns.specs.declared.view.View.{View};
+    ghost use Rattle.atomic_table.specs.Seated.{TableId};
+    ghost use Rattle.ocr_turns.specs.Contract.{Known};
+    ghost use Rattle.ocr_turns.specs.Clerks.{IsTrueTo};
+
+    ghost Value = { Known M.Setting M.Entry M.Part M.Message M.Fact };
+
+    ghost view = { λ c. record { table = c.seat.table_id; view = c.seat.me.0; parts = c.parts.items; room = vec_capacity c.log - length c.log.items; spare = vec_capacity c.parts - length c.parts.items; space = vec_capacity c.owed - length c.owed.items } };
+
+    ghost invariant = { λ c. IsTrueTo c.seat.me c.log.items (map (λ l. l.items) c.joined.items) c.parts.items c.owed.items c.weight c.closed c.full };
+}
+
+impl<M: Machine> Clerk<M> {
+    /// Its entries with their numbers, in its order.
+    pub fn log(&self) -> &[(u64, M::Entry)]
+        ensures { result.now ≡ self.now.view.log }
+    {
+        self.log.as_slice()
+    }
+
+    /// What its log weighs.
+    pub fn weight(&self) -> u64
+        ensures { result ≡ self.now.view.weight }
+    {
+        self.weight
+    }
+
+    /// The undelivered messages that it owes, each with the number of its entry and its index there.
+    pub fn owed(&self) -> &[(u64, u32, M::Message)]
+        ensures { result.now ≡ self.now.view.owed }
+    {
+        self.owed.as_slice()
+    }
+
+    /// The part of a place that it keeps and has not lifted.
+    pub fn part(&self, place: u64) -> &M::Part
+        requires { (x : M.Part) × (find place self.now.parts ≡ Some (Some x)) }
+        ensures { find place self.now.parts ≡ Some (Some result.now) }
+    {
+        match &self.parts[position(self.parts.as_slice(), place)].1 {
+            Some(part) => part,
+            None => unreachable!(),
+        }
+    }
+
+    /// Hands out the part of a place. It still counts as kept, and comes back by `put` or by a commit.
+    pub fn lift(&mut self, place: u64) -> M::Part
+        requires { (x : M.Part) × (find place self.old.parts ≡ Some (Some x)) }
+        ensures part { find place self.old.parts ≡ Some (Some result) }
+        ensures parts { self.new.parts ≡ replace place None self.old.parts }
+        ensures rest { (self.new.table ≡ self.old.table) × (self.new.view ≡ self.old.view) × SameRoom self.old self.new }
+    {
+        match swap_part(&mut self.parts, place, None) {
+            Some(part) => part,
+            None => unreachable!(),
+        }
+    }
+
+    /// Puts a lifted part back at hand.
+    pub fn put(&mut self, place: u64, part: M::Part)
+        requires { find place self.old.parts ≡ Some None }
+        ensures parts { self.new.parts ≡ replace place (Some part) self.old.parts }
+        ensures rest { (self.new.table ≡ self.old.table) × (self.new.view ≡ self.old.view) × SameRoom self.old self.new }
+    {
+        drop(swap_part(&mut self.parts, place, Some(part)));
+    }
+}
+
+/// Where the place first stands.
+pub(crate) fn position<P>(parts: &[(u64, Option<P>)], place: u64) -> usize
+    requires { (x : Option P) × (find place parts.now ≡ Some x) }
+    ensures within { result < length parts.now }
+    ensures first { IsFirst place parts.now result }
+{
+    let mut i = 0;
+    while parts[i].0 != place {
+        i += 1;
+    }
+    i
+}
+
+/// Puts another value where the place first stands, and hands out what stood there.
+pub(crate) fn swap_part<P>(parts: &mut Hand<P>, place: u64, part: Option<P>) -> Option<P>
+    requires { (x : Option P) × (find place parts.old.items ≡ Some x) }
+    ensures found { find place parts.old.items ≡ Some result }
+    ensures replaced { parts.new.items ≡ replace place part parts.old.items }
+    ensures room { vec_capacity parts.new ≡ vec_capacity parts.old }
+{
+    let i = position(parts.as_slice(), place);
+    std::mem::replace(&mut parts[i].1, part)
+}

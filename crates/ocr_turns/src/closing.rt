@@ -1,0 +1,98 @@
+// The end: the logs of all clerks.
+ghost use Rattle.std.specs.Prelude.{◌≡◌, ◌<◌, ◌≤◌, ◌+◌, ◌^◌, map, length, IfOk};
+ghost use Rattle.std.specs.Slots.{IsFull};
+ghost use Rattle.ocr_turns.specs.Sums.{weigh_all};
+ghost use Rattle.ocr_turns.specs.Contract.{Finished, IsOf};
+
+use crate::clerk::Clerk;
+use crate::machine::Machine;
+use crate::turns::Turns;
+use atomic_table::Closed;
+use ocr_base::NoMemory;
+use std::alloc::Global;
+use std::marker::Model;
+
+/// The logs of a table whose clerks have all come home: by number they are one run of the machine.
+#[derive(Drop)]
+pub struct Closing<M: Machine> {
+    logs: Vec<Vec<(u64, M::Entry)>>,
+    entries: u64,
+}
+
+impl<M: Machine> Model for Closing<M> {
+    ghost use Rattle.std.specs.Prelude.{List, ℕ, map};
+
+    ghost Value = { List (List (ℕ × M.Entry)) × ℕ };
+
+    ghost view = { λ c. (map (λ l. l.items) c.logs.items, c.entries) };
+}
+
+impl<M: Machine> Closing<M> {
+    /// The logs, the root's first and then those of the clerks in the order in which they were joined.
+    pub fn logs(self) -> Vec<Vec<(u64, M::Entry)>>
+        ensures { map (λ l. l.items) result.items ≡ self.0 }
+    {
+        self.logs
+    }
+
+    /// How many entries the run has.
+    pub fn entries(&self) -> u64
+        ensures { result ≡ self.now.1 }
+    {
+        self.entries
+    }
+}
+
+impl<M: Machine> Turns<M> {
+    /// All logs, once every other clerk has come home.
+    pub fn finish(self, _alloc: Global, root: Clerk<M>) -> Result<Closing<M>, NoMemory>
+        requires table { IsOf self root }
+        requires root { (root.view.root ≡ 1) × (root.view.out ≡ 0) }
+        ensures { IfOk result (λ c. (f : Finished M.meaning self.1 root.view c.0) × (c.1 ≡ length f.history)) }
+    {
+        let Turns {
+            table,
+            limit: _,
+            share: _,
+        } = self;
+        let Clerk {
+            seat,
+            log,
+            joined: mut logs,
+            parts: _,
+            owed: _,
+            weight: _,
+            closed: _,
+            full: _,
+        } = root;
+        logs.insert(0, log)?;
+        let closed = table.close_with(seat);
+        let entries = count_entries(logs.as_slice());
+        free_slots(closed);
+        Ok(Closing { logs, entries })
+    }
+}
+
+// How many entries the logs have in all.
+fn count_entries<E>(logs: &[Vec<(u64, E)>]) -> u64
+    requires { weigh_all (λ _. 1) (map (λ l. l.items) logs.now) < 2 ^ 48 }
+    ensures { result ≡ weigh_all (λ _. 1) (map (λ l. l.items) logs.now) }
+{
+    let mut count = 0;
+    for i in 0..logs.len() {
+        count += logs[i].len() as u64;
+    }
+    count
+}
+
+// Drops the parts in their slots, and frees the table's memory.
+fn free_slots<P: Drop>(mut closed: Closed<Option<P>, Global>)
+    requires { IsFull closed.slots }
+{
+    let mut i = 0;
+    while i < closed.slot_count() {
+        drop(closed.take(i));
+        i += 1;
+    }
+    closed.free();
+}

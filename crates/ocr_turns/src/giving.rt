@@ -1,0 +1,68 @@
+// Giving back a part.
+ghost use Rattle.std.specs.Prelude.{◌≡◌, ◌<◌, ◌≤◌, ◌+◌, ◌*◌, ◌-◌, ℕ, [], Option, None, Some, length, vec_capacity};
+ghost use Rattle.ocr_turns.specs.Sums.{find, remove_at};
+ghost use Rattle.ocr_turns.specs.Steps.{without_part};
+ghost use Rattle.ocr_turns.specs.Contract.{GiveTells, IsOf, Loose, MayGive, Rests, SeenAs};
+
+use crate::clerk::{Clerk, Hand, position};
+use crate::machine::Machine;
+use crate::rule::{Fetches, Returns};
+use crate::taking::TURNS;
+use crate::turns::Turns;
+use crate::view::View;
+use atomic_table::Seat;
+
+impl<M: Machine> Turns<M> {
+    /// Puts a kept part back into its slot, and frees its turn. A clerk that knows that the run has
+    /// ended makes no step, and keeps the part.
+    pub fn give_back(&self, clerk: &mut Clerk<M>, place: u64)
+        requires table { IsOf self.now clerk.old }
+        requires place { place ≤ 2 * self.now.1.limit }
+        requires may { clerk.old.view.closed ≡ None → MayGive M.meaning self.now.1 clerk.old.view clerk.old.parts place }
+        ensures { GiveTells clerk.old clerk.new place }
+    {
+        let None = clerk.closed else {
+            return;
+        };
+        let Some(part) = remove_part(&mut clerk.parts, place) else {
+            unreachable!()
+        };
+        self.put_back(&mut clerk.seat, place as usize, part);
+    }
+
+    // Puts a part back into its slot, and frees its turn.
+    fn put_back(
+        &self,
+        seat: &mut Seat<Option<M::Part>, View<M::Setting, M::Entry, M::Part, M::Message, M::Fact>>,
+        place: usize,
+        part: M::Part,
+    )
+        requires table { seat.old.table_id ≡ self.now.0 }
+        requires open { seat.old.me.0.closed ≡ None }
+        requires keeps { SeenAs M.meaning self.now.1 seat.old.me.0 place part }
+        requires seat { 0 < seat.old.me.0.root + seat.old.me.0.seat }
+        requires hand { (seat.old.me.0.carried ≡ None) × (seat.old.me.1 ≡ []) }
+        requires place { place ≤ 2 * self.now.1.limit }
+        requires rests { Rests M.meaning self.now.1 seat.old.me.0 place }
+        requires loose { Loose M.meaning self.now.1 seat.old.me.0 place }
+        ensures table { (seat.new.table_id ≡ seat.old.table_id) × (seat.new.id ≡ seat.old.id) }
+        ensures given { seat.new.me ≡ (without_part seat.old.me.0 place, []) }
+    {
+        self.table.shared.load::<Fetches>(seat, place + TURNS);
+        let empty = self.table.shared.exchange(seat, place, Some(part));
+        self.table.shared.store::<Returns>(seat, place + TURNS, 0);
+        drop(empty);
+    }
+}
+
+// Takes out what first stands at the place.
+fn remove_part<P>(parts: &mut Hand<P>, place: u64) -> Option<P>
+    requires { (x : Option P) × (find place parts.old.items ≡ Some x) }
+    ensures found { find place parts.old.items ≡ Some result }
+    ensures removed { parts.new.items ≡ remove_at place parts.old.items }
+    ensures room { vec_capacity parts.new - length parts.new.items ≡ vec_capacity parts.old - length parts.old.items + 1 }
+{
+    let i = position(parts.as_slice(), place);
+    let (_, part) = parts.remove(i);
+    part
+}

@@ -1,0 +1,130 @@
+// The rule of the table, and what each kind of step tells.
+ghost use Rattle.std.specs.Prelude.{None};
+ghost use Rattle.ocr_turns.specs.Rule as rule;
+ghost use Rattle.ocr_turns.specs.Steps as steps;
+
+use crate::machine::Machine;
+use crate::view::{Terms, View};
+use atomic_table::{Join, Play, Split, TableRule};
+use std::marker::{Brand, PhantomData};
+
+pub struct Rules<M> {
+    machine: PhantomData<M>,
+}
+
+impl<M: Machine> TableRule<
+    Option<M::Part>,
+    View<M::Setting, M::Entry, M::Part, M::Message, M::Fact>,
+    Terms<M::Setting>,
+> for Rules<M> {
+    ghost holds = { λ t. rule.Holds M.meaning t };
+
+    ghost first = { λ t. steps.rooted t };
+}
+
+// What a commit will write, for the proof alone. A call at `Brand` picks it.
+pub(crate) trait Told<E, P, N, F> {
+    ghost use Rattle.std.specs.Prelude.{Option};
+    ghost use Rattle.ocr_turns.specs.Steps.{Deed};
+
+    ghost deed: { Option (Deed E P N F) };
+}
+
+impl<E, P, N, F> Told<E, P, N, F> for Brand {
+    ghost deed = { None };
+}
+
+pub(crate) struct Commits<M, W> {
+    machine: PhantomData<M>,
+    told: PhantomData<W>,
+}
+
+impl<M: Machine, W: Told<M::Entry, M::Part, M::Message, M::Fact>> Play<
+    Option<M::Part>,
+    View<M::Setting, M::Entry, M::Part, M::Message, M::Fact>,
+> for Commits<M, W> {
+    ghost then = { λ s m n w. steps.commits M.meaning W.deed m n w };
+}
+
+// The entry with which a close ends the run, for the proof alone.
+pub(crate) trait Stops<E> {
+    ghost use Rattle.std.specs.Prelude.{Option};
+
+    ghost stop: { Option E };
+}
+
+impl<E> Stops<E> for Brand {
+    ghost stop = { None };
+}
+
+pub(crate) struct Closes<M, W> {
+    machine: PhantomData<M>,
+    told: PhantomData<W>,
+}
+
+impl<M: Machine, W: Stops<M::Entry>> Play<
+    Option<M::Part>,
+    View<M::Setting, M::Entry, M::Part, M::Message, M::Fact>,
+> for Closes<M, W> {
+    ghost then = { λ s m n w. steps.closes M.meaning W.stop m n w };
+}
+
+pub(crate) struct Looks<M> {
+    machine: PhantomData<M>,
+}
+
+impl<M: Machine> Play<Option<M::Part>, View<M::Setting, M::Entry, M::Part, M::Message, M::Fact>>
+    for Looks<M> {
+    ghost then = { λ s m n w. steps.looks M.meaning m n w };
+}
+
+pub(crate) struct Draws<M> {
+    machine: PhantomData<M>,
+}
+
+impl<M: Machine> Play<Option<M::Part>, View<M::Setting, M::Entry, M::Part, M::Message, M::Fact>>
+    for Draws<M> {
+    ghost then = { λ s m n w. steps.draws_from M.meaning m n w };
+}
+
+pub(crate) struct Takes<M> {
+    machine: PhantomData<M>,
+}
+
+impl<M: Machine> Play<Option<M::Part>, View<M::Setting, M::Entry, M::Part, M::Message, M::Fact>>
+    for Takes<M> {
+    ghost then = { steps.takes_part M.meaning };
+}
+
+pub(crate) struct Settles;
+
+impl<G, E, P, N, F> Play<Option<P>, View<G, E, P, N, F>> for Settles {
+    ghost then = { λ s m n w. steps.settles m w };
+}
+
+pub(crate) struct Fetches;
+
+impl<G, E, P, N, F> Play<Option<P>, View<G, E, P, N, F>> for Fetches {
+    ghost then = { λ s m n w. steps.fetches s m w };
+}
+
+pub(crate) struct Returns;
+
+impl<G, E, P, N, F> Play<Option<P>, View<G, E, P, N, F>> for Returns {
+    ghost then = { λ s m n w. steps.gives_back s m w };
+}
+
+// A new seat, and a seat that comes home.
+pub(crate) struct Cut;
+
+impl<G, E, P, N, F> Split<View<G, E, P, N, F>> for Cut {
+    ghost left = { steps.parted };
+
+    ghost right = { steps.fresh };
+}
+
+impl<G, E, P, N, F> Join<View<G, E, P, N, F>> for Cut {
+    ghost both = { steps.gathered };
+
+    ghost spent = { steps.spent_view };
+}

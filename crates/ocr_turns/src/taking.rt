@@ -1,0 +1,78 @@
+// Taking a part, and waiting for its turn.
+ghost use Rattle.std.specs.Prelude.{◌≡◌, ◌<◌, ◌≤◌, ◌+◌, ◌*◌, [], None, MatchOption};
+ghost use Rattle.ocr_turns.specs.Steps.{Sees, with_part};
+ghost use Rattle.ocr_turns.specs.Contract.{TakeTells, IsOf};
+
+use crate::answers::Taken;
+use crate::clerk::Clerk;
+use crate::machine::Machine;
+use crate::rule::{Settles, Takes};
+use crate::turns::Turns;
+use crate::view::View;
+use atomic_table::Seat;
+use std::sync::Wait;
+use std::thread;
+
+/// The first turn word.
+pub(crate) const TURNS: usize = 2;
+
+impl<M: Machine> Turns<M> {
+    /// Waits for the turn of a part, and reads the commit word before each try.
+    pub fn take<R: Wait>(&self, rt: &R, clerk: &mut Clerk<M>, place: u64) -> Taken
+        requires table { IsOf self.now clerk.old }
+        requires place { place ≤ 2 * self.now.1.limit }
+        requires room { 0 < clerk.old.spare }
+        ensures { TakeTells M.meaning result clerk.old clerk.new place }
+    {
+        for _ in rt.forever() {
+            if let Some(answer) = self.attempt(clerk, place) {
+                return answer;
+            }
+            thread::yield_now();
+        }
+        unreachable!()
+    }
+
+    // One look at the commit word, and one try.
+    fn attempt(&self, clerk: &mut Clerk<M>, place: u64) -> Option<Taken>
+        requires table { IsOf self.now clerk.old }
+        requires place { place ≤ 2 * self.now.1.limit }
+        requires room { 0 < clerk.old.spare }
+        ensures { MatchOption result (clerk.new ≡ clerk.old) (λ answer. TakeTells M.meaning answer clerk.old clerk.new place) }
+    {
+        if let Some(word) = self.look(clerk) {
+            return Some(Taken::Closed(word));
+        }
+        let part = self.try_take(&mut clerk.seat, place as usize)?;
+        clerk.parts.push_reserved((place, Some(part)));
+        Some(Taken::Mine)
+    }
+
+    // Takes a part if its turn is free.
+    fn try_take(
+        &self,
+        seat: &mut Seat<Option<M::Part>, View<M::Setting, M::Entry, M::Part, M::Message, M::Fact>>,
+        place: usize,
+    ) -> Option<M::Part>
+        requires table { seat.old.table_id ≡ self.now.0 }
+        requires place { place ≤ 2 * self.now.1.limit }
+        requires seat { 0 < seat.old.me.0.root + seat.old.me.0.seat }
+        requires hand { (seat.old.me.0.carried ≡ None) × (seat.old.me.1 ≡ []) }
+        ensures table { (seat.new.table_id ≡ seat.old.table_id) × (seat.new.id ≡ seat.old.id) }
+        ensures part { MatchOption result (seat.new.me ≡ seat.old.me) (λ x. (seat.new.me ≡ (with_part seat.old.me.0 place x, [])) × Sees M.meaning seat.new.me.0) }
+    {
+        let found = self
+            .table
+            .shared
+            .compare_exchange::<Takes<M>>(seat, place + TURNS, 0, 1);
+        if found != 0 {
+            return None;
+        }
+        let held = self.table.shared.exchange(seat, place, None);
+        self.table.shared.load::<Settles>(seat, place + TURNS);
+        match held {
+            Some(part) => Some(part),
+            None => unreachable!(),
+        }
+    }
+}

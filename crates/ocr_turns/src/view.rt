@@ -1,0 +1,55 @@
+// What the rule sees of a seat. No value of `View` is made.
+use crate::debts::Debts;
+use std::collections::LinkedList;
+use std::snapshot::Snapshot;
+
+/// What a table is told once: the setting of its machine, the greatest number of an object, the
+/// weight that one log may reach, and how many clerks there may be in all.
+#[derive(Drop)]
+pub struct Terms<G> {
+    pub setting: Snapshot<G>,
+    pub limit: u64,
+    pub share: u64,
+    pub seats: u64,
+}
+
+/// What a clerk knows of the table, for proofs alone.
+pub struct View<G, E, P, N, F> {
+    pub terms: Option<Terms<G>>,
+    /// Its own entries with their numbers, and the logs of clerks that were joined into it.
+    pub log: LinkedList<(u64, E)>,
+    pub joined: LinkedList<LinkedList<(u64, E)>>,
+    /// The parts that it keeps, by place.
+    pub parts: LinkedList<(u64, P)>,
+    /// The undelivered messages that it owes, each by its entry's number and its index there.
+    pub owed: LinkedList<(u64, u32, N)>,
+    /// The standing facts that it learnt.
+    pub facts: LinkedList<F>,
+    /// The numbers that it drew and did not use.
+    pub drawn: LinkedList<u64>,
+    /// The count that it read where no number was left.
+    pub full: Option<u64>,
+    /// Such a count that it or a clerk joined into it read.
+    pub reached: Option<u64>,
+    /// How many clerks, joined ones among them, read such a count.
+    pub filled: u64,
+    /// How many entries that end the run it made.
+    pub ended: u64,
+    /// The place whose slot it has in hand, within a step.
+    pub carried: Option<u64>,
+    /// What its log weighs.
+    pub weight: u64,
+    /// How many clerks it stands for, and how many it may still make.
+    pub seats: u64,
+    pub quota: u64,
+    /// How many of these learnt that the run has ended, and the commit word that it read so.
+    pub shut: u64,
+    pub closed: Option<u64>,
+    /// 1 for the root; 1 for another clerk that is not joined; how many such clerks are out, in the root.
+    pub root: u64,
+    pub seat: u64,
+    pub out: u64,
+    /// What it owes to the words that count, and the EDTs that it has claimed.
+    pub debts: Debts,
+    pub claims: LinkedList<u64>,
+}

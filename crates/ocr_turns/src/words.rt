@@ -1,0 +1,129 @@
+// The words that count an EDT's open slots, behind the turn words.
+ghost use Rattle.std.specs.Prelude.{◌≡◌, ◌<◌, ◌≤◌, ◌+◌, ◌*◌, ◌-◌, Some};
+ghost use Rattle.ocr_turns.specs.Counting.{state_at};
+ghost use Rattle.ocr_turns.specs.Words.{MayStep, StepTells, steps_word};
+ghost use Rattle.ocr_turns.specs.Contract.{IsOf, SameHand};
+
+use crate::clerk::Clerk;
+use crate::machine::Machine;
+use crate::turns::Turns;
+use crate::view::View;
+use atomic_table::{Play, Seat};
+use std::marker::{Brand, PhantomData};
+
+/// The words of an EDT that can be claimed, that is claimed, and that waits.
+const READY: u64 = 0;
+
+const BUSY: u64 = 64;
+
+const PARKED: u64 = 65;
+/// An EDT that is not made, and that can have no slot more: one unit a slot, and one for its making.
+const UNMADE: u64 = 33;
+
+/// A step on the words of one EDT.
+pub enum WordStep {
+    /// Puts the payload of a slot into its word.
+    Put { slot: u32, payload: u64 },
+    /// Counts a slot whose payload was put.
+    Count,
+    /// Counts the making of the EDT, which has so many slots.
+    CountMade { slots: u32 },
+    /// Reads the payload of a slot.
+    Read { slot: u32 },
+    /// Claims the EDT, where it is ready.
+    Claim,
+    /// Gives up the claim of an EDT that waits.
+    Park,
+    /// Makes an EDT ready that was parked and was resumed.
+    Resume,
+}
+
+// Which step is made, for the proof alone. A call at `Brand` picks it.
+pub(crate) trait Chosen {
+    ghost use Rattle.std.specs.Prelude.{Option, ℕ};
+    ghost use Rattle.ocr_turns.specs.declared.words.WordStep.{WordStep};
+
+    ghost step: { Option (ℕ × WordStep) };
+}
+
+impl Chosen for Brand {
+    ghost use Rattle.std.specs.Prelude.{None};
+
+    ghost step = { None };
+}
+
+pub(crate) struct Counts<M, W> {
+    machine: PhantomData<M>,
+    chosen: PhantomData<W>,
+}
+
+impl<M: Machine, W: Chosen> Play<
+    Option<M::Part>,
+    View<M::Setting, M::Entry, M::Part, M::Message, M::Fact>,
+> for Counts<M, W> {
+    ghost then = { λ s me n w. steps_word M.meaning W.step me n w };
+}
+
+impl<M: Machine> Turns<M> {
+    /// A step on the words of an EDT, and what stood in the word, where the step reads it. The crate
+    /// `ocr_count` has a call for each step; nothing else uses this.
+    pub fn step_word(&self, clerk: &mut Clerk<M>, edt: u64, step: WordStep) -> u64
+        requires table { IsOf self.now clerk.old }
+        requires edt { (1 ≤ edt) × (edt ≤ self.now.1.limit) }
+        requires may { MayStep M.meaning self.now.1 clerk.old.view edt step }
+        ensures hand { SameHand clerk.old clerk.new }
+        ensures told { StepTells M.meaning edt step clerk.old.view result clerk.new.view }
+    {
+        self.take_step::<Brand>(&mut clerk.seat, edt, step)
+    }
+
+    fn take_step<W: Chosen>(
+        &self,
+        seat: &mut Seat<Option<M::Part>, View<M::Setting, M::Entry, M::Part, M::Message, M::Fact>>,
+        edt: u64,
+        step: WordStep,
+    ) -> u64
+        requires chosen { W.step ≡ Some (edt, step) }
+        requires table { seat.old.table_id ≡ self.now.0 }
+        requires edt { (1 ≤ edt) × (edt ≤ self.now.1.limit) }
+        requires seat { 0 < seat.old.me.0.root + seat.old.me.0.seat }
+        requires may { MayStep M.meaning self.now.1 seat.old.me.0 edt step }
+        ensures table { (seat.new.table_id ≡ seat.old.table_id) × (seat.new.id ≡ seat.old.id) }
+        ensures told { steps_word M.meaning (Some (edt, step)) seat.old.me result seat.new.me }
+    {
+        let state = self.state_word(edt);
+        let words = &self.table.shared;
+        match step {
+            WordStep::Put { slot, payload } => {
+                words.store::<Counts<M, W>>(seat, state + 1 + slot as usize, payload);
+                payload
+            }
+            WordStep::Count => words.fetch_sub::<Counts<M, W>>(seat, state, 1),
+            WordStep::CountMade { slots } => {
+                words.fetch_sub::<Counts<M, W>>(seat, state, UNMADE - slots as u64)
+            }
+            WordStep::Read { slot } => {
+                words.load::<Counts<M, W>>(seat, state + 1 + slot as usize)
+            }
+            WordStep::Claim => words.compare_exchange::<Counts<M, W>>(seat, state, READY, BUSY),
+            WordStep::Park => {
+                words.store::<Counts<M, W>>(seat, state, PARKED);
+                PARKED
+            }
+            WordStep::Resume => {
+                words.store::<Counts<M, W>>(seat, state, READY);
+                READY
+            }
+        }
+    }
+
+    // Where the state word of an EDT lies. Its payload words come after it.
+    fn state_word(&self, edt: u64) -> usize
+        requires { (1 ≤ edt) × (edt ≤ self.now.1.limit) }
+        ensures word { result ≡ state_at self.now.0.slots edt }
+        ensures within { result + 33 ≤ self.now.0.words }
+    {
+        let slots = 2 * self.limit as usize + 1;
+        2 + slots + 33 * (edt as usize - 1)
+    }
+}
