@@ -20,8 +20,8 @@ TICKS = os.sysconf("SC_CLK_TCK")
 
 
 def kind_of(words):
-    """Which crate a process checks, and for what."""
-    if "check" not in words or "--crate-name" not in words:
+    """Which crate a process checks or builds, and for what: a library is built as it is proved."""
+    if "--crate-name" not in words or not {"check", "build"} & set(words[:3]):
         return None
     crate = words[words.index("--crate-name") + 1]
     if any("rt-edits-" in word for word in words):

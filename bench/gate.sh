@@ -1,3 +1,6 @@
 #!/usr/bin/env bash
-# Runs the merge gate and prints what each crate cost it, in processor minutes: see gate.py.
-exec python3 "$(dirname "$0")/gate.py" "$@"
+# Sees that the examples that the tests run are those of examples/, runs the merge gate, and prints what each crate cost it,
+# in processor minutes: see gate.py.
+here=$(dirname "$0")
+python3 "$here/examples.py" --check || exit 1
+exec python3 "$here/gate.py" "$@"
