@@ -1,8 +1,8 @@
 // Claims, and the payloads that a claim lets be read.
 ghost use Rattle.std.specs.Prelude.{◌≡◌, ◌<◌, ◌≤◌};
 ghost use Rattle.ocr_turns.specs.Contract.{IsOf, SameHand};
-ghost use Rattle.ocr_turns.specs.Words.{HasClaim, HasSlot, OwesResume, Waits, learning, resuming, unclaiming};
-ghost use Rattle.ocr_count.specs.Counts.{ClaimTells, IsNumber};
+ghost use Rattle.ocr_turns.specs.Words.{HasClaim, HasSlot, OwesResume, Waits, resuming, unclaiming};
+ghost use Rattle.ocr_count.specs.Counts.{ClaimTells, IsNumber, PayloadTells};
 
 use crate::answers::Claimed;
 use ocr_guid::Guid;
@@ -23,14 +23,15 @@ pub fn claim<M: Machine>(turns: &Turns<M>, clerk: &mut Clerk<M>, edt: Guid) -> C
     }
 }
 
-/// The payload of a slot of an EDT that this clerk has claimed.
+/// The payload of a slot of an EDT that this clerk has claimed. The clerk knows from then on that
+/// the slot is set to it.
 pub fn payload<M: Machine>(turns: &Turns<M>, clerk: &mut Clerk<M>, edt: Guid, slot: u32) -> u64
     requires table { IsOf turns.now clerk.old }
     requires edt { IsNumber turns.now.1 edt × (slot < 32) }
     requires claimed { HasClaim clerk.old.view edt }
     requires slot { HasSlot M.meaning turns.now.1 clerk.old.view edt slot }
     ensures hand { SameHand clerk.old clerk.new }
-    ensures view { clerk.new.view ≡ learning clerk.old.view (M.meaning.counting.is_set edt slot result) }
+    ensures told { PayloadTells M.meaning result clerk.old.view clerk.new.view edt slot }
 {
     turns.step_word(clerk, edt.0, WordStep::Read { slot })
 }
