@@ -11,7 +11,9 @@ use Rattle.ocr_turns.specs.Sums.{keys, weigh, one_at}
 use Rattle.ocr_turns.specs.declared.view.View.{View}
 use Rattle.ocr_turns.specs.declared.view.Terms.{Terms}
 
-pub record IsTrueTo {G E P N F : Type 0} (me : Me (Option P) (View G E P N F)) (log : List (ℕ × E)) (joined : List (List (ℕ × E))) (parts : List (ℕ × Option P)) (owed : List (ℕ × ℕ × N)) (weight : ℕ) (closed full : Option ℕ) : Type 0 where
+pub record IsTrueTo {G E P N F : Type 0} (me : Me (Option P) (View G E P N F)) (log : List (ℕ × E))
+    (joined : List (List (ℕ × E))) (parts : List (ℕ × Option P)) (owed : List (ℕ × ℕ × N))
+    (weight : ℕ) (closed full : Option ℕ) : Type 0 where
   pub log_is : log ≡ me.0.log
   pub joined_are : joined ≡ me.0.joined
   pub keeps : keys parts ≡ keys me.0.parts
@@ -23,7 +25,8 @@ pub record IsTrueTo {G E P N F : Type 0} (me : Me (Option P) (View G E P N F)) (
   pub past_limit : MatchOption full (Unit {0}) (λ n. limit_of me.0.terms ≤ n)
   -- it has no slot in hand, and is the root or another clerk that is out
   pub rests : (me.1 ≡ []) × (me.0.carried ≡ None)
-  pub seat : ((me.0.root ≡ 1) × (me.0.seat ≡ 0)) ⊎ ((me.0.root ≡ 0) × (me.0.seat ≡ 1) × (me.0.joined ≡ []))
+  pub seat : ((me.0.root ≡ 1) × (me.0.seat ≡ 0)) ⊎ ((me.0.root ≡ 0) × (me.0.seat ≡ 1) ×
+      (me.0.joined ≡ []))
 
 -- the place first stands at i
 pub record IsFirst {A : Type 0} (place : ℕ) (parts : List (ℕ × A)) (i : ℕ) : Type 0 where
@@ -31,7 +34,8 @@ pub record IsFirst {A : Type 0} (place : ℕ) (parts : List (ℕ × A)) (i : ℕ
   pub here : get_elem? parts i ≡ some (place, item)
   pub first : (k p : ℕ) (x : A) → k < i → get_elem? parts k ≡ some (p, x) → place ≢ p
 
--- the table has a slot and a turn word for each place, and its real limit and share are those of its terms
+-- the table has a slot and a turn word for each place, and its real limit and share are those of
+-- its terms
 pub record IsLaidFor {G : Type 0} (id : TableId) (t : Terms G) (limit share : ℕ) : Type 0 where
   pub words : id.words ≡ 2 + id.slots + 33 * t.limit
   pub slots : id.slots ≡ 2 * t.limit + 1

@@ -19,7 +19,8 @@ use Rattle.ocr_turns.specs.declared.answers.Taken.TheVariants as taken
 use Rattle.ocr_turns.specs.declared.view.View.{View}
 use Rattle.ocr_turns.specs.declared.view.Terms.{Terms}
 
--- What contracts see of a clerk: its table, its view, its parts (None where it was lifted), and its free room for
+-- What contracts see of a clerk: its table, its view, its parts (None where it was lifted), and its
+-- free room for
 -- entries, for parts and for messages.
 pub record Known (G E P N F : Type 0) : Type 0 where
   pub table : TableId
@@ -34,12 +35,14 @@ module _ {G E P N F : Type 0} (m : Meaning G E P N F) (t : Terms G) where
   -- what is so once the entry has come after the history
   pub record Next (J : List E) (v : View G E P N F) (d : Deed E P N F) : Type 0 where
     pub legal : m.legal t.setting.value t.limit J d.entry
-    pub parts : PartsOf (m.seen t.limit) (m.part t.setting.value t.limit (J ++ d.entry ∷ [])) d.parts
+    pub parts : PartsOf (m.seen t.limit) (m.part t.setting.value t.limit
+        (J ++ d.entry ∷ [])) d.parts
     pub sends : m.sends t.setting.value t.limit J d.entry ≡ d.sends
     pub facts : FactsOf (m.stands t.setting.value t.limit (J ++ d.entry ∷ [])) d.learns
     pub wakes : m.counting.resumes t.setting.value t.limit J d.entry ≡ d.debts.resumes
 
-  -- Whatever the history is, where it fits the view and has not ended, the entry may come next, and the parts, the
+  -- Whatever the history is, where it fits the view and has not ended, the entry may come next, and
+  -- the parts, the
   -- messages and the facts are these then.
   abbrev pub Legal : View G E P N F → Deed E P N F → Type 0
   Legal v d = (J : List E) → Open m.stops J → Fits m t J v → Next J v d
@@ -49,13 +52,15 @@ module _ {G E P N F : Type 0} (m : Meaning G E P N F) (t : Terms G) where
 
   -- the view keeps the entry's places, and the parts are those of these places
   abbrev pub Keeps : View G E P N F → E → List (ℕ × P) → Type 0
-  Keeps v e ps = (p : ℕ) → (weigh (one_at p) ps ≡ m.touches t.limit e p) × (weigh (one_at p) ps ≤ weigh (one_at p) v.parts)
+  Keeps v e ps = (p : ℕ) → (weigh (one_at p) ps ≡ m.touches t.limit e p) × (weigh
+      (one_at p) ps ≤ weigh (one_at p) v.parts)
 
   -- the place is no core of an EDT that runs by the log
   abbrev pub Rests : View G E P N F → ℕ → Type 0
   Rests v p = (u : ℕ) → RunsIn m.starts m.ends v.log u → m.core t.limit u ≢ p
 
-  -- The view has the claim of each EDT that the entry starts or lets wait, and of none that it resumes.
+  -- The view has the claim of each EDT that the entry starts or lets wait, and of none that it
+  -- resumes.
   pub record Claims (v : View G E P N F) (d : Deed E P N F) : Type 0 where
     pub starts : (n : ℕ) → m.starts d.entry n ≡ true → 1 ≤ times n v.claims
     pub waits : (n p : ℕ) → m.counting.waits d.entry n ≡ Some p → 1 ≤ times n v.claims
@@ -63,7 +68,8 @@ module _ {G E P N F : Type 0} (m : Meaning G E P N F) (t : Terms G) where
 
   -- no EDT that the view has claimed waits for the part, or runs on it
   abbrev pub Loose : View G E P N F → ℕ → Type 0
-  Loose v p = (J : List E) → Fits m t J v → (n : ℕ) → 1 ≤ times n v.claims → tied_to m t (reverse J) n ≢ Some p
+  Loose v p = (J : List E) → Fits m t J v → (n : ℕ) → 1 ≤ times n v.claims → tied_to m t
+      (reverse J) n ≢ Some p
 
   -- what a commit asks of an entry, its parts and its messages
   pub record MayCommit (v : View G E P N F) (e : E) (ps : List (ℕ × P)) (ms : List N) : Type 0 where
@@ -108,48 +114,70 @@ module _ {G E P N F : Type 0} where
   -- THE ANSWERS
   -- The clerk knows by the commit word n that the run has ended: it knew it, or this call read it.
   abbrev pub ClosedBy : Meaning G E P N F → ℕ → Known G E P N F → Known G E P N F → Type 0
-  ClosedBy m n old new = (OPEN ≤ n) × SameHand old new × MatchOption old.view.closed ((new.view ≡ shut_by old.view n) × SeesEnd m new.view) (λ w. (w ≡ n) × (new.view ≡ old.view))
+  ClosedBy m n old new = (OPEN ≤ n) × SameHand old new × MatchOption old.view.closed
+      ((new.view ≡ shut_by old.view n) × SeesEnd m new.view) (λ w. (w ≡ n) × (new.view ≡ old.view))
 
-  abbrev pub CommitTells : Meaning G E P N F → Committed → Known G E P N F → Known G E P N F → Deed E P N F → Type 0
-  CommitTells m (committed.At n) old new d = (old.view.closed ≡ None) × (n < OPEN) × (new.table ≡ old.table) × (new.view ≡ logged old.view n d) × (new.parts ≡ replace_all (as_some d.parts) old.parts) × (new.room + 1 ≡ old.room) × (new.spare ≡ old.spare) × Sees m new.view
+  abbrev pub CommitTells : Meaning G E P N F → Committed → Known G E P N F → Known G E P N F
+      → Deed E P N F → Type 0
+  CommitTells m (committed.At n) old new d = (old.view.closed ≡ None) × (n < OPEN) ×
+      (new.table ≡ old.table) × (new.view ≡ logged old.view n d) × (new.parts ≡ replace_all
+      (as_some d.parts) old.parts) × (new.room + 1 ≡ old.room) × (new.spare ≡ old.spare)
+      × Sees m new.view
   CommitTells m (committed.Closed n) old new d = ClosedBy m n old new
 
-  abbrev pub CloseTells : Meaning G E P N F → Committed → Known G E P N F → Known G E P N F → E → Type 0
-  CloseTells m (committed.At n) old new e = (old.view.closed ≡ None) × (n < OPEN) × (new.table ≡ old.table) × (new.view ≡ ended_by old.view n e) × (new.parts ≡ old.parts) × SeesEnd m new.view
+  abbrev pub CloseTells : Meaning G E P N F → Committed → Known G E P N F → Known G E P N F → E
+      → Type 0
+  CloseTells m (committed.At n) old new e = (old.view.closed ≡ None) × (n < OPEN) ×
+      (new.table ≡ old.table) × (new.view ≡ ended_by old.view n e) × (new.parts ≡ old.parts)
+      × SeesEnd m new.view
   CloseTells m (committed.Closed n) old new e = ClosedBy m n old new
 
   abbrev pub DrawTells : Meaning G E P N F → ℕ → Drawn → Known G E P N F → Known G E P N F → Type 0
-  DrawTells m limit (drawn.Place n) old new = (old.view.full ≡ None) × (1 ≤ n) × (n ≤ limit) × SameHand old new × (new.view ≡ with_drawn old.view n) × Sees m new.view
-  DrawTells m limit (drawn.Full n) old new = (limit ≤ n) × SameHand old new × MatchOption old.view.full (new.view ≡ filled_by old.view n) (λ w. (w ≡ n) × (new.view ≡ old.view))
+  DrawTells m limit (drawn.Place n) old new = (old.view.full ≡ None) × (1 ≤ n) × (n ≤ limit)
+      × SameHand old new × (new.view ≡ with_drawn old.view n) × Sees m new.view
+  DrawTells m limit (drawn.Full n) old new = (limit ≤ n) × SameHand old new
+      × MatchOption old.view.full (new.view ≡ filled_by old.view n) (λ w. (w ≡ n) ×
+      (new.view ≡ old.view))
 
   abbrev pub LookTells : Meaning G E P N F → Option ℕ → Known G E P N F → Known G E P N F → Type 0
-  LookTells m None old new = (old.view.closed ≡ None) × SameHand old new × (new.view ≡ old.view) × Sees m new.view
+  LookTells m None old new = (old.view.closed ≡ None) × SameHand old new × (new.view ≡ old.view)
+      × Sees m new.view
   LookTells m (Some n) old new = ClosedBy m n old new
 
   abbrev pub TakeTells : Meaning G E P N F → Taken → Known G E P N F → Known G E P N F → ℕ → Type 0
-  TakeTells m taken.Mine old new p = (x : P) × (old.view.closed ≡ None) × (new.table ≡ old.table) × (new.view ≡ with_part old.view p x) × (new.parts ≡ old.parts ++ (p, Some x) ∷ []) × (new.room ≡ old.room) × (new.spare + 1 ≡ old.spare) × (new.space ≡ old.space) × Sees m new.view
+  TakeTells m taken.Mine old new p = (x : P) × (old.view.closed ≡ None) × (new.table ≡ old.table) ×
+      (new.view ≡ with_part old.view p x) × (new.parts ≡ old.parts ++ (p, Some x) ∷ []) ×
+      (new.room ≡ old.room) × (new.spare + 1 ≡ old.spare) × (new.space ≡ old.space)
+      × Sees m new.view
   TakeTells m (taken.Closed n) old new p = ClosedBy m n old new
 
   -- the part goes home; a closed clerk keeps it
   abbrev pub GiveTells : Known G E P N F → Known G E P N F → ℕ → Type 0
-  GiveTells old new p = MatchOption old.view.closed ((new.table ≡ old.table) × (new.view ≡ without_part old.view p) × (new.parts ≡ remove_at p old.parts) × (new.room ≡ old.room) × (new.spare ≡ old.spare + 1) × (new.space ≡ old.space)) (λ _. new ≡ old)
+  GiveTells old new p = MatchOption old.view.closed ((new.table ≡ old.table) ×
+      (new.view ≡ without_part old.view p) × (new.parts ≡ remove_at p old.parts) ×
+      (new.room ≡ old.room) × (new.spare ≡ old.spare + 1) × (new.space ≡ old.space))
+      (λ _. new ≡ old)
 
 -- THE ENDS
--- The logs by number are one run, each number once, each log rises, and nothing comes after an entry that ends the
+-- The logs by number are one run, each number once, each log rises, and nothing comes after an
+-- entry that ends the
 -- run. Where no number was left, each up to the limit is made or stands as drawn in the root.
-pub record Finished {G E P N F : Type 0} (m : Meaning G E P N F) (t : Terms G) (v : View G E P N F) (logs : List (List (ℕ × E))) : Type 0 where
+pub record Finished {G E P N F : Type 0} (m : Meaning G E P N F) (t : Terms G) (v : View G E P N F)
+    (logs : List (List (ℕ × E))) : Type 0 where
   pub history : List E
   pub run : Run (m.legal t.setting.value t.limit) history
   pub few : length history < OPEN
   pub ends : Open m.stops history ⊎ Ended m.stops history
   pub closed : MatchOption v.closed (Unit {0}) (λ _. Ended m.stops history)
   pub logs_are : logs ≡ v.log ∷ v.joined
-  -- the words of each number are those of the history, and the root's view has all that was owed, claimed and counted
+  -- the words of each number are those of the history, and the root's view has all that was owed,
+  -- claimed and counted
   pub counted : (n : ℕ) → 1 ≤ n → n ≤ t.limit → (word : ℕ) × Found m t (reverse history) v n word
   pub once : (f : ℕ → ℕ) → weigh_all f logs ≡ below f (length history)
   pub of_run : LogsOf history logs
   pub rise : AllRise logs
-  pub full : MatchOption v.reached (Unit {0}) (λ _. (f : ℕ → ℕ) → sum_of f v.drawn + (up_to f m.opened + made_sum m.makes f history) ≡ up_to f t.limit)
+  pub full : MatchOption v.reached (Unit {0}) (λ _. (f : ℕ → ℕ) → sum_of f v.drawn +
+      (up_to f m.opened + made_sum m.makes f history) ≡ up_to f t.limit)
 
 -- what a table is told
 pub record TermsAre {G : Type 0} (t : Terms G) (g : G) (most load clerks : ℕ) : Type 0 where
@@ -163,9 +191,11 @@ abbrev pub faces : {P : Type 0} → ℕ → List (ℕ × P) → ℕ
 faces limit ps = weigh (λ p. if leb p limit then 1 else 0) ps
 
 -- the parts that stand at the opening, and the bounds of the terms
-pub record OpensWith {G E P N F : Type 0} (m : Meaning G E P N F) (t : Terms G) (opening : List (ℕ × P)) : Type 0 where
+pub record OpensWith {G E P N F : Type 0} (m : Meaning G E P N F) (t : Terms G) (opening : List (ℕ
+    × P)) : Type 0 where
   pub parts : PartsOf (m.seen t.limit) (m.part t.setting.value t.limit []) opening
-  pub others : (p : ℕ) → weigh (one_at p) opening ≡ 0 → m.part t.setting.value t.limit [] p ≡ m.seen t.limit p m.vacant
+  pub others : (p : ℕ) → weigh (one_at p) opening ≡ 0
+      → m.part t.setting.value t.limit [] p ≡ m.seen t.limit p m.vacant
   pub places : (p : ℕ) → 1 ≤ weigh (one_at p) opening → p ≤ 2 * t.limit
   pub opened : faces t.limit opening ≡ m.opened
   pub few : m.opened ≤ t.limit
@@ -174,4 +204,5 @@ pub record OpensWith {G E P N F : Type 0} (m : Meaning G E P N F) (t : Terms G) 
   pub seats : (1 ≤ t.seats) × (t.seats ≤ 128)
 
 abbrev pub SoleLaw : {G E P N F : Type 0} → Meaning G E P N F → Type 0
-SoleLaw {G = G} m = (t : Terms G) (v : View _ _ _ _ _) (J K : List _) → v.root ≡ 1 → v.out ≡ 0 → Fits m t J v → Fits m t K v → J ≡ K
+SoleLaw {G = G} m = (t : Terms G) (v : View _ _ _ _ _) (J K : List _) → v.root ≡ 1 → v.out ≡ 0
+    → Fits m t J v → Fits m t K v → J ≡ K

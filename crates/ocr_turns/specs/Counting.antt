@@ -62,11 +62,14 @@ module _ {G E P N F : Type 0} (m : Meaning G E P N F) (t : Terms G) where
   awaited [] n = None
   awaited (e ∷ past) n =
       if m.starts e n || m.ends e n then None
-      else place_or (m.counting.waits e n) (if is_in n (m.counting.resumes t.setting.value t.limit (reverse past) e) then None else awaited past n)
+      else place_or (m.counting.waits e n) (if is_in n (m.counting.resumes t.setting.value t.limit
+      (reverse past) e) then None else awaited past n)
 
-  -- the place that whoever has the EDT's claim keeps: its core while it runs, and the part that it waits for
+  -- the place that whoever has the EDT's claim keeps: its core while it runs, and the part that it
+  -- waits for
   abbrev pub tied_to : List E → ℕ → Option ℕ
-  tied_to past n = if is_started past n then (if is_ended past n then None else Some (m.core t.limit n)) else awaited past n
+  tied_to past n = if is_started past n then (if is_ended past n then None else Some
+      (m.core t.limit n)) else awaited past n
 
   -- the EDT is made, and all its slots are set
   pub record IsSet (past : List E) (n : ℕ) : Type 0 where
@@ -83,10 +86,14 @@ module _ {G E P N F : Type 0} (m : Meaning G E P N F) (t : Terms G) where
 
   -- what the entries so far made and set
   pub record Consistent (past : List E) : Type 0 where
-    pub made : (n d : ℕ) → slots_of past n ≡ Some d → (1 ≤ n) × (n ≤ t.limit) × (d ≤ 32) × (1 ≤ up_to (one_at n) m.opened + made_sum m.makes (one_at n) (reverse past))
-    pub set : (n k x : ℕ) → payload_of past n k ≡ Some x → (d : ℕ) × (slots_of past n ≡ Some d) × (k < d)
-    pub rests : (n p : ℕ) → awaited past n ≡ Some p → (is_started past n ≡ false) × (is_ended past n ≡ false) × ((d : ℕ) × (slots_of past n ≡ Some d))
-    pub facts : (n k x : ℕ) → payload_of past n k ≡ Some x → m.stands t.setting.value t.limit (reverse past) (m.counting.is_set n k x)
+    pub made : (n d : ℕ) → slots_of past n ≡ Some d → (1 ≤ n) × (n ≤ t.limit) × (d ≤ 32) ×
+        (1 ≤ up_to (one_at n) m.opened + made_sum m.makes (one_at n) (reverse past))
+    pub set : (n k x : ℕ) → payload_of past n k ≡ Some x → (d : ℕ) × (slots_of past n ≡ Some d) ×
+        (k < d)
+    pub rests : (n p : ℕ) → awaited past n ≡ Some p → (is_started past n ≡ false) ×
+        (is_ended past n ≡ false) × ((d : ℕ) × (slots_of past n ≡ Some d))
+    pub facts : (n k x : ℕ) → payload_of past n k ≡ Some x → m.stands t.setting.value t.limit
+        (reverse past) (m.counting.is_set n k x)
 
 -- THE LAWS of what the words see, for an entry that is legal after a run
 module _ {G E P N F : Type 0} (m : Meaning G E P N F) (t : Terms G) where
@@ -98,15 +105,24 @@ module _ {G E P N F : Type 0} (m : Meaning G E P N F) (t : Terms G) where
 
 pub record CountingLaws {G E P N F : Type 0} (m : Meaning G E P N F) : Type 0 where
   pub first_made : (1 ≤ m.first.0) × (m.first.0 ≤ m.opened)
-  pub first_set : (t : Terms G) → m.stands t.setting.value t.limit [] (m.counting.is_set m.first.0 0 m.first.1)
-  pub creating : (t : Terms G) (past : List E) (e : E) (n d : ℕ) → MayCome m t past e → m.counting.creates e ≡ Some (n, d) → (1 ≤ sum_of (one_at n) (m.makes e)) × (d ≤ 32)
-  pub setting : (t : Terms G) (past : List E) (e : E) (n k x : ℕ) → MayCome m t past e → m.counting.sets e ≡ Some (n, k, x)
-      → ((d : ℕ) × (slots_of m t past n ≡ Some d) × (k < d)) × (payload_of m t past n k ≡ None) × m.stands t.setting.value t.limit (reverse (e ∷ past)) (m.counting.is_set n k x)
-  pub starting : (t : Terms G) (past : List E) (e : E) (n : ℕ) → MayCome m t past e → m.starts e n ≡ true → IsReady m t past n
-  pub waiting : (t : Terms G) (past : List E) (e : E) (n p : ℕ) → MayCome m t past e → m.counting.waits e n ≡ Some p → IsReady m t past n × (1 ≤ m.touches t.limit e p)
-  pub resuming : (t : Terms G) (past : List E) (e : E) (n : ℕ) → MayCome m t past e → 1 ≤ sum_of (one_at n) (m.counting.resumes t.setting.value t.limit (reverse past) e)
-      → (sum_of (one_at n) (m.counting.resumes t.setting.value t.limit (reverse past) e) ≡ 1) × ((p : ℕ) × (awaited m t past n ≡ Some p) × (1 ≤ m.touches t.limit e p))
-  pub ending : (t : Terms G) (past : List E) (e : E) (n : ℕ) → MayCome m t past e → m.ends e n ≡ true → awaited m t past n ≡ None
+  pub first_set : (t : Terms G) → m.stands t.setting.value t.limit []
+      (m.counting.is_set m.first.0 0 m.first.1)
+  pub creating : (t : Terms G) (past : List E) (e : E) (n d : ℕ) → MayCome m t past e
+      → m.counting.creates e ≡ Some (n, d) → (1 ≤ sum_of (one_at n) (m.makes e)) × (d ≤ 32)
+  pub setting : (t : Terms G) (past : List E) (e : E) (n k x : ℕ) → MayCome m t past e
+      → m.counting.sets e ≡ Some (n, k, x)
+      → ((d : ℕ) × (slots_of m t past n ≡ Some d) × (k < d)) × (payload_of m t past n k ≡ None)
+      × m.stands t.setting.value t.limit (reverse (e ∷ past)) (m.counting.is_set n k x)
+  pub starting : (t : Terms G) (past : List E) (e : E) (n : ℕ) → MayCome m t past e
+      → m.starts e n ≡ true → IsReady m t past n
+  pub waiting : (t : Terms G) (past : List E) (e : E) (n p : ℕ) → MayCome m t past e
+      → m.counting.waits e n ≡ Some p → IsReady m t past n × (1 ≤ m.touches t.limit e p)
+  pub resuming : (t : Terms G) (past : List E) (e : E) (n : ℕ) → MayCome m t past e → 1 ≤ sum_of
+      (one_at n) (m.counting.resumes t.setting.value t.limit (reverse past) e)
+      → (sum_of (one_at n) (m.counting.resumes t.setting.value t.limit (reverse past) e) ≡ 1) ×
+      ((p : ℕ) × (awaited m t past n ≡ Some p) × (1 ≤ m.touches t.limit e p))
+  pub ending : (t : Terms G) (past : List E) (e : E) (n : ℕ) → MayCome m t past e
+      → m.ends e n ≡ true → awaited m t past n ≡ None
 
 -- THE WORDS of an EDT, behind the turn words
 abbrev pub state_at : ℕ → ℕ → ℕ
@@ -179,7 +195,14 @@ IsInOrder (Some d) a = IsCounting a ⊎ (IsBusy a ⊎ IsParked a)
 
 -- what an entry adds to what is owed, where it resumes these
 abbrev pub debts_by : {G E P N F : Type 0} → Meaning G E P N F → E → List ℕ → Debts
-debts_by m e rs = record { unput = listed (m.counting.sets e); put = []; made = listed (m.counting.creates e); resumes = rs; lasts = [] }
+debts_by m e rs = record {
+  unput = listed (m.counting.sets e);
+  put = [];
+  made = listed
+      (m.counting.creates e);
+  resumes = rs;
+  lasts = [];
+}
 
 -- the EDTs whose claim an entry ends
 abbrev pub leaves : {G E P N F : Type 0} → Meaning G E P N F → E → ℕ → Bool
@@ -202,24 +225,32 @@ module _ {G E P N F : Type 0} (m : Meaning G E P N F) (t : Terms G) where
 
   -- what a view's debts and claims say
   pub record Stakes (past : List E) (v : View G E P N F) : Type 0 where
-    pub unput : (i n k x : ℕ) → get_elem? v.debts.unput i ≡ some (n, k, x) → payload_of m t past n k ≡ Some x
+    pub unput : (i n k x : ℕ) → get_elem? v.debts.unput i ≡ some (n, k, x)
+        → payload_of m t past n k ≡ Some x
     pub made : (i n d : ℕ) → get_elem? v.debts.made i ≡ some (n, d) → slots_of m t past n ≡ Some d
     pub claims : (n : ℕ) → 1 ≤ times n v.claims → (1 ≤ n) × (n ≤ t.limit)
-    -- who has the claim of an EDT that runs keeps its core, and of one that waits the part that it waits for
-    pub tied : (n p : ℕ) → 1 ≤ times n v.claims → tied_to m t past n ≡ Some p → 1 ≤ weigh (one_at p) v.parts
+    -- who has the claim of an EDT that runs keeps its core, and of one that waits the part that it
+    -- waits for
+    pub tied : (n p : ℕ) → 1 ≤ times n v.claims → tied_to m t past n ≡ Some p → 1 ≤ weigh
+        (one_at p) v.parts
     pub spent : v.root + v.seat ≡ 0 → (v.debts ≡ no_debts) × (v.claims ≡ [])
 
   pub record Counted (past : List E) (s : State (Option P) (View G E P N F)) : Type 0 where
     pub words : length s.words ≡ 2 + length s.homes + 33 * t.limit
     pub told : Consistent m t past
-    pub each : (n : ℕ) → 1 ≤ n → n ≤ t.limit → IsInOrder (slots_of m t past n) (account s.words (length s.homes) s.views past n)
+    pub each : (n : ℕ) → 1 ≤ n → n ≤ t.limit → IsInOrder (slots_of m t past n) (account s.words
+        (length s.homes) s.views past n)
     -- a slot is owed only where it is set, and by one view
-    pub stage : (n k : ℕ) → total (λ v. owed_slots (of_slot n k) v.debts) s.views + is_none (payload_of m t past n k) ≤ 1
+    pub stage : (n k : ℕ) → total (λ v. owed_slots (of_slot n k) v.debts) s.views + is_none
+        (payload_of m t past n k) ≤ 1
     -- from the putting on its word holds the payload
-    pub payload : (n k x : ℕ) → payload_of m t past n k ≡ Some x → total (λ v. tally (of_slot n k) v.debts.unput) s.views ≡ 0 → slice_index s.words (payload_at (length s.homes) n k) ≡ x
+    pub payload : (n k x : ℕ) → payload_of m t past n k ≡ Some x → total (λ v. tally
+        (of_slot n k) v.debts.unput) s.views ≡ 0 → slice_index s.words (payload_at
+        (length s.homes) n k) ≡ x
     pub seated : (id : ℕ) (v : View G E P N F) → get_elem? s.views id ≡ some v → Stakes past v
 
-  -- What the word of an EDT tells of the history: the rule holds of an account that has this word and is the history's.
+  -- What the word of an EDT tells of the history: the rule holds of an account that has this word
+  -- and is the history's.
   -- What it has besides stands in this view, where no other is out.
   pub record Found (past : List E) (v : View G E P N F) (n word : ℕ) : Type 0 where
     pub account : Account
@@ -230,4 +261,7 @@ module _ {G E P N F : Type 0} (m : Meaning G E P N F) (t : Terms G) where
     pub started : account.started ≡ is_true (is_started m t past n)
     pub ended : account.ended ≡ is_true (is_ended m t past n)
     pub mine : times n v.claims ≤ account.claims
-    pub alone : v.root ≡ 1 → v.out ≡ 0 → (account.making ≡ making n v.debts.made) × (account.owed ≡ owed_slots (of_edt n) v.debts) × (account.claims ≡ times n v.claims) × (account.resumes ≡ times n v.debts.resumes) × (account.lasts ≡ times n v.debts.lasts + one_at m.first.0 n)
+    pub alone : v.root ≡ 1 → v.out ≡ 0 → (account.making ≡ making n v.debts.made) ×
+        (account.owed ≡ owed_slots (of_edt n) v.debts) × (account.claims ≡ times n v.claims) ×
+        (account.resumes ≡ times n v.debts.resumes) ×
+        (account.lasts ≡ times n v.debts.lasts + one_at m.first.0 n)

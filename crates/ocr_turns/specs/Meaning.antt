@@ -18,7 +18,8 @@ pub record Counting (G E P F : Type 0) : Type 1 where
   -- the fact that a slot is set to a payload
   pub is_set : ℕ → ℕ → ℕ → F
 
--- G settings, E entries, P parts, N messages, F standing facts. A history has its first entry first.
+-- G settings, E entries, P parts, N messages, F standing facts. A history has its first entry
+-- first.
 pub record Meaning (G E P N F : Type 0) : Type 1 where
   -- the entry may come after the history
   pub legal : G → ℕ → List E → E → Type 0
@@ -86,11 +87,17 @@ pub record Lawful {G E P N F : Type 0} (m : Meaning G E P N F) : Type 0 where
   pub weighs : (e : E) → m.stops e ≡ false → 1 ≤ m.heavy e
   pub bare : (e : E) → m.stops e ≡ true → IsBare m e
   -- no later entry undoes a standing fact
-  pub lasting : (g : G) (limit : ℕ) (J : List E) (e : E) (f : F) → Run (m.legal g limit) J → m.legal g limit J e → m.stands g limit J f → m.stands g limit (J ++ e ∷ []) f
+  pub lasting : (g : G) (limit : ℕ) (J : List E) (e : E) (f : F) → Run (m.legal g limit) J
+      → m.legal g limit J e → m.stands g limit J f → m.stands g limit (J ++ e ∷ []) f
   -- an entry changes its own places
-  pub local : (g : G) (limit : ℕ) (J : List E) (e : E) (p : ℕ) → 2 ≤ limit → Run (m.legal g limit) J → m.legal g limit J e → m.touches limit e p ≡ 0 → m.part g limit (J ++ e ∷ []) p ≡ m.part g limit J p
+  pub local : (g : G) (limit : ℕ) (J : List E) (e : E) (p : ℕ) → 2 ≤ limit → Run
+      (m.legal g limit) J → m.legal g limit J e → m.touches limit e p ≡ 0 → m.part g limit
+      (J ++ e ∷ []) p ≡ m.part g limit J p
   -- an entry of an EDT has the EDT's core among its places
-  pub on_core : (g : G) (limit : ℕ) (J : List E) (e : E) (t : ℕ) → 2 ≤ limit → Run (m.legal g limit) J → m.legal g limit J e → m.runs e t ≡ true → 1 ≤ m.touches limit e (m.core limit t)
+  pub on_core : (g : G) (limit : ℕ) (J : List E) (e : E) (t : ℕ) → 2 ≤ limit → Run
+      (m.legal g limit) J → m.legal g limit J e → m.runs e t ≡ true → 1 ≤ m.touches limit e
+      (m.core limit t)
   -- an EDT has no entry of its own before its first
-  pub first : (g : G) (limit : ℕ) (J : List E) (e : E) (t : ℕ) → Run (m.legal g limit) J → m.legal g limit J e → m.starts e t ≡ true → picked (λ x. m.runs x t) J ≡ []
+  pub first : (g : G) (limit : ℕ) (J : List E) (e : E) (t : ℕ) → Run (m.legal g limit) J
+      → m.legal g limit J e → m.starts e t ≡ true → picked (λ x. m.runs x t) J ≡ []
   pub starting : (e : E) (t : ℕ) → m.starts e t ≡ true → m.runs e t ≡ true

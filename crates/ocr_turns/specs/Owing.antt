@@ -8,7 +8,13 @@ abbrev pub no_debts : Debts
 no_debts = record { unput = []; put = []; made = []; resumes = []; lasts = [] }
 
 abbrev pub both_debts : Debts → Debts → Debts
-both_debts a b = record { unput = a.unput ++ b.unput; put = a.put ++ b.put; made = a.made ++ b.made; resumes = a.resumes ++ b.resumes; lasts = a.lasts ++ b.lasts }
+both_debts a b = record {
+  unput = a.unput ++ b.unput;
+  put = a.put ++ b.put;
+  made = a.made ++ b.made;
+  resumes = a.resumes ++ b.resumes;
+  lasts = a.lasts ++ b.lasts;
+}
 
 -- the numbers that fail a test
 abbrev pub without_all : (ℕ → Bool) → List ℕ → List ℕ
@@ -33,7 +39,8 @@ of_slot n k name = if (n == name.0) && (k == name.1) then 1 else 0
 abbrev pub owed_slots : (ℕ × ℕ → ℕ) → Debts → ℕ
 owed_slots f d = tally f d.unput + tally f d.put
 
--- what is owed to the word of an EDT for its making: the unit of its making, and one a slot that it does not have
+-- what is owed to the word of an EDT for its making: the unit of its making, and one a slot that it
+-- does not have
 abbrev pub making : ℕ → List (ℕ × ℕ) → ℕ
 making n [] = 0
 making n (x ∷ xs) = (if n == x.0 then 33 - x.1 else 0) + making n xs

@@ -56,11 +56,13 @@ pub record Roster {G E P N F : Type 0} (views : List (View G E P N F)) : Type 0 
 module _ {G E P N F : Type 0} (m : Meaning G E P N F) (t : Terms G) where
   -- the undelivered messages of a history
   abbrev pub mail : List E → List (ℕ × ℕ × N)
-  mail J = pending (λ (before : List E). m.sends t.setting.value t.limit (reverse before)) m.delivers (reverse J)
+  mail J = pending (λ (before : List E). m.sends t.setting.value t.limit
+      (reverse before)) m.delivers (reverse J)
 
   -- the message was sent by the entry of this number, as the one of this index
   abbrev pub SentAs : List E → ℕ → ℕ → N → Type 0
-  SentAs J n i x = (e : E) × (get_elem? J n ≡ some e) × (get_elem? (m.sends t.setting.value t.limit (take n J) e) i ≡ some x)
+  SentAs J n i x = (e : E) × (get_elem? J n ≡ some e) × (get_elem? (m.sends t.setting.value t.limit
+      (take n J) e) i ≡ some x)
 
   abbrev pub AllSent : List E → List (ℕ × ℕ × N) → Type 0
   AllSent J xs = (k n i : ℕ) (x : N) → get_elem? xs k ≡ some (n, i, x) → SentAs J n i x
@@ -108,26 +110,33 @@ module _ {G E P N F : Type 0} (m : Meaning G E P N F) (t : Terms G) where
     pub is_part : m.part t.setting.value t.limit J p ≡ m.seen t.limit p item
 
   -- how the view of one seat stands to the history
-  pub record Seated (homes : List (maybe.Option (Option P))) (J : List E) (v : View G E P N F) : Type 0 where
+  pub record Seated (homes : List (maybe.Option (Option P))) (J : List E)
+      (v : View G E P N F) : Type 0 where
     pub log : LogOf J v.log
     pub joined : LogsOf J v.joined
     pub rises : Rises v.log
     pub all_rise : AllRise v.joined
-    pub parts : v.closed ≡ None → PartsOf (m.seen t.limit) (m.part t.setting.value t.limit J) v.parts
+    pub parts : v.closed ≡ None → PartsOf (m.seen t.limit)
+        (m.part t.setting.value t.limit J) v.parts
     pub facts : FactsOf (m.stands t.setting.value t.limit J) v.facts
     pub sent : AllSent J v.owed
     -- the EDTs that run by this log have all their entries in it, and their cores are kept
-    pub own : (u : ℕ) → RunsIn m.starts m.ends v.log u → OwnsAll J v.log u × (1 ≤ weigh (one_at (m.core t.limit u)) v.parts)
+    pub own : (u : ℕ) → RunsIn m.starts m.ends v.log u → OwnsAll J v.log u × (1 ≤ weigh (one_at
+        (m.core t.limit u)) v.parts)
     -- what the log weighs, and that no log weighs more than the share
     pub weight : v.weight ≡ load_of m.heavy v.log
     pub light : v.weight ≤ t.share
-    pub bounded : 0 < v.root + v.seat → weighed (λ _. 1) v + t.share ≤ v.seats * t.share + v.weight + v.ended
-    pub filled : MatchOption v.full (v.filled + (v.root + v.seat) ≤ v.seats) (λ _. v.filled ≤ v.seats)
+    pub bounded : 0 < v.root + v.seat → weighed
+        (λ _. 1) v + t.share ≤ v.seats * t.share + v.weight + v.ended
+    pub filled : MatchOption v.full (v.filled + (v.root + v.seat) ≤ v.seats)
+        (λ _. v.filled ≤ v.seats)
     pub shut : MatchOption v.closed (v.shut + 1 ≤ v.seats) (λ _. v.shut ≤ v.seats)
     -- a seat that knows that the run has ended is right
     pub over : 0 < v.root + v.seat → MatchOption v.closed (Unit {0}) (λ _. Ended m.stops J)
-    pub empty : (p : ℕ) → 1 ≤ weigh (one_at p) v.parts → (p < length homes) × EmptyAt homes v.carried p
-    pub spent : v.root + v.seat ≡ 0 → (v.log ≡ []) × (v.joined ≡ []) × (v.parts ≡ []) × (v.facts ≡ []) × (v.drawn ≡ []) × (v.owed ≡ [])
+    pub empty : (p : ℕ) → 1 ≤ weigh (one_at p) v.parts → (p < length homes)
+        × EmptyAt homes v.carried p
+    pub spent : v.root + v.seat ≡ 0 → (v.log ≡ []) × (v.joined ≡ []) × (v.parts ≡ []) ×
+        (v.facts ≡ []) × (v.drawn ≡ []) × (v.owed ≡ [])
     pub terms : 0 < v.root + v.seat → v.terms ≡ Some t
     pub not_root : v.root ≡ 0 → v.out ≡ 0
 
@@ -137,7 +146,8 @@ module _ {G E P N F : Type 0} (m : Meaning G E P N F) (t : Terms G) where
     -- each number of the history stands in one log
     pub once : (f : ℕ → ℕ) → total (λ v. weighed f v) s.views ≡ below f (length J)
     -- the commit word counts the entries, until it tells that the last one ended the run
-    pub word : ((slice_index s.words 0 ≡ length J) × Open m.stops J × (total (λ v. v.ended) s.views ≡ 0)) ⊎ ((OPEN ≤ slice_index s.words 0) × Ended m.stops J)
+    pub word : ((slice_index s.words 0 ≡ length J) × Open m.stops J × (total
+        (λ v. v.ended) s.views ≡ 0)) ⊎ ((OPEN ≤ slice_index s.words 0) × Ended m.stops J)
     pub ended : total (λ v. v.ended) s.views ≤ 1
     pub high : slice_index s.words 0 ≤ (length J + OPEN) + total (λ v. v.shut) s.views * (OPEN + 1)
 
@@ -145,18 +155,22 @@ module _ {G E P N F : Type 0} (m : Meaning G E P N F) (t : Terms G) where
   pub record Numbers (J : List E) (s : State (Option P) (View G E P N F)) : Type 0 where
     -- so many numbers were drawn; each is made, or drawn and unused in one view
     pub drawn : ℕ
-    pub draws : ((slice_index s.words 1 ≡ drawn) × (drawn ≤ t.limit)) ⊎ ((drawn ≡ t.limit) × (t.limit ≤ slice_index s.words 1))
-    pub numbers : (f : ℕ → ℕ) → total (λ v. sum_of f v.drawn) s.views + (up_to f m.opened + made_sum m.makes f J) ≡ up_to f drawn
+    pub draws : ((slice_index s.words 1 ≡ drawn) × (drawn ≤ t.limit)) ⊎ ((drawn ≡ t.limit) ×
+        (t.limit ≤ slice_index s.words 1))
+    pub numbers : (f : ℕ → ℕ) → total (λ v. sum_of f v.drawn) s.views +
+        (up_to f m.opened + made_sum m.makes f J) ≡ up_to f drawn
     pub fulls : slice_index s.words 1 ≤ t.limit + total (λ v. v.filled) s.views
     -- where a view knows that the draw word reached the limit, it did
-    pub reached : (id : ℕ) (v : View G E P N F) → get_elem? s.views id ≡ some v → MatchOption v.reached (Unit {0}) (λ _. t.limit ≤ slice_index s.words 1)
+    pub reached : (id : ℕ) (v : View G E P N F) → get_elem? s.views id ≡ some v
+        → MatchOption v.reached (Unit {0}) (λ _. t.limit ≤ slice_index s.words 1)
 
   -- the turn words, the slots and the parts kept
   pub record Places (J : List E) (s : State (Option P) (View G E P N F)) : Type 0 where
     -- behind the commit word and the draw word each place has its turn word
     pub words : 2 + length s.homes ≤ length s.words
     -- each part has one keeper: its slot, where its turn word is 0, or one seat
-    pub keeper : (p : ℕ) → p < length s.homes → total (λ v. weigh (one_at p) v.parts) s.views + is_free (slice_index s.words (p + 2)) ≡ 1
+    pub keeper : (p : ℕ) → p < length s.homes → total (λ v. weigh
+        (one_at p) v.parts) s.views + is_free (slice_index s.words (p + 2)) ≡ 1
     pub home : (p : ℕ) → p < length s.homes → slice_index s.words (p + 2) ≡ 0 → HomeOf s.homes J p
 
   -- the first rule, of a table whose history is J

@@ -16,7 +16,8 @@ abbrev pub limit_of : {G : Type 0} → Option (Terms G) → ℕ
 limit_of None = 0
 limit_of (Some t) = t.limit
 
--- what a commit writes: its entry, the parts of the entry's places, the messages sent, and what follows from the entry
+-- what a commit writes: its entry, the parts of the entry's places, the messages sent, and what
+-- follows from the entry
 pub record Deed (E P N F : Type 0) : Type 0 where
   pub entry : E
   pub weight : ℕ
@@ -29,18 +30,61 @@ pub record Deed (E P N F : Type 0) : Type 0 where
   pub debts : Debts
   pub leaves : ℕ → Bool
 
-abbrev pub deed : {G E P N F : Type 0} → Meaning G E P N F → ℕ → View G E P N F → E → List (ℕ × P) → List N → Deed E P N F
-deed m limit v e ps ms = record { entry = e; weight = m.heavy e; parts = ps; delivers = m.delivers e; sends = ms; makes = m.makes e; learns = m.learns limit e v.parts; debts = debts_by m e (m.counting.wakes limit e v.parts); leaves = leaves m e }
+abbrev pub deed : {G E P N F : Type 0} → Meaning G E P N F → ℕ → View G E P N F → E → List (ℕ × P)
+    → List N → Deed E P N F
+deed m limit v e ps ms = record {
+  entry = e;
+  weight = m.heavy e;
+  parts = ps;
+  delivers = m.delivers e;
+  sends = ms;
+  makes = m.makes e;
+  learns = m.learns limit e v.parts;
+  debts = debts_by m e (m.counting.wakes limit e v.parts);
+  leaves = leaves m e;
+}
 
 module _ {G E P N F : Type 0} where
   -- THE VIEWS
   -- of the first seat, the root's
   abbrev pub rooted : Terms G → View G E P N F
-  rooted t = record { terms = Some t; log = []; joined = []; parts = []; owed = []; facts = []; drawn = []; full = None; reached = None; filled = 0; ended = 0; carried = None; weight = 0; seats = 1; quota = t.seats - 1; shut = 0; closed = None; root = 1; seat = 0; out = 0; debts = no_debts; claims = [] }
+  rooted t = record {
+    terms = Some t;
+    log = [];
+    joined = [];
+    parts = [];
+    owed = [];
+    facts = [];
+    drawn = [];
+    full = None;
+    reached = None;
+    filled = 0;
+    ended = 0;
+    carried = None;
+    weight = 0;
+    seats = 1;
+    quota = t.seats - 1;
+    shut = 0;
+    closed = None;
+    root = 1;
+    seat = 0;
+    out = 0;
+    debts = no_debts;
+    claims = [];
+  }
 
   -- after an entry
   abbrev pub logged : View G E P N F → ℕ → Deed E P N F → View G E P N F
-  logged v n d = record v { log = v.log ++ (n, d.entry) ∷ []; weight = v.weight + d.weight; parts = replace_all d.parts v.parts; owed = without d.delivers v.owed ++ named n 0 d.sends; drawn = less_all d.makes v.drawn; facts = v.facts ++ d.learns; debts = both_debts v.debts d.debts; claims = without_all d.leaves v.claims }
+  logged v n d = record v {
+    log = v.log ++ (n, d.entry) ∷ [];
+    weight = v.weight + d.weight;
+    parts = replace_all d.parts v.parts;
+    owed = without d.delivers v.owed ++ named n 0 d.sends;
+    drawn = less_all d.makes v.drawn;
+    facts = v.facts ++ d.learns;
+    debts = both_debts v.debts d.debts;
+    claims = without_all d.leaves v.claims;
+  }
 
   -- after an entry that ends the run
   abbrev pub ended_by : View G E P N F → ℕ → E → View G E P N F
@@ -65,7 +109,30 @@ module _ {G E P N F : Type 0} where
 
   -- of a new seat, and of the root that made it
   abbrev pub fresh : View G E P N F → View G E P N F
-  fresh v = record { terms = v.terms; log = []; joined = []; parts = []; owed = []; facts = []; drawn = []; full = None; reached = None; filled = 0; ended = 0; carried = None; weight = 0; seats = 1; quota = 0; shut = 0; closed = None; root = 0; seat = 1; out = 0; debts = no_debts; claims = [] }
+  fresh v = record {
+    terms = v.terms;
+    log = [];
+    joined = [];
+    parts = [];
+    owed = [];
+    facts = [];
+    drawn = [];
+    full = None;
+    reached = None;
+    filled = 0;
+    ended = 0;
+    carried = None;
+    weight = 0;
+    seats = 1;
+    quota = 0;
+    shut = 0;
+    closed = None;
+    root = 0;
+    seat = 1;
+    out = 0;
+    debts = no_debts;
+    claims = [];
+  }
 
   abbrev pub parted : View G E P N F → View G E P N F
   parted v = record v { quota = v.quota - 1; out = v.out + 1 }
@@ -91,7 +158,30 @@ module _ {G E P N F : Type 0} where
   }
 
   abbrev pub spent_view : View G E P N F
-  spent_view = record { terms = None; log = []; joined = []; parts = []; owed = []; facts = []; drawn = []; full = None; reached = None; filled = 0; ended = 0; carried = None; weight = 0; seats = 0; quota = 0; shut = 0; closed = Some 0; root = 0; seat = 0; out = 0; debts = no_debts; claims = [] }
+  spent_view = record {
+    terms = None;
+    log = [];
+    joined = [];
+    parts = [];
+    owed = [];
+    facts = [];
+    drawn = [];
+    full = None;
+    reached = None;
+    filled = 0;
+    ended = 0;
+    carried = None;
+    weight = 0;
+    seats = 0;
+    quota = 0;
+    shut = 0;
+    closed = Some 0;
+    root = 0;
+    seat = 0;
+    out = 0;
+    debts = no_debts;
+    claims = [];
+  }
 
   -- WHAT A STEP TELLS of the history
   -- some history so far is one that the view fits
@@ -103,30 +193,45 @@ module _ {G E P N F : Type 0} where
   SeesEnd m w = (t : Terms G) → w.terms ≡ Some t → (J : List E) × Over m t J w
 
   -- THE STEPS, from the seat m to the seat w, where the word was n
-  abbrev pub stays_open : Meaning G E P N F → View G E P N F → Me (Option P) (View G E P N F) → ℕ → Me (Option P) (View G E P N F) → Type 0
+  abbrev pub stays_open : Meaning G E P N F → View G E P N F → Me (Option P) (View G E P N F) → ℕ
+      → Me (Option P) (View G E P N F) → Type 0
   stays_open mg after m n w = (n < OPEN) × (w.0 ≡ after) × Sees mg w.0
 
-  abbrev pub is_shut : Meaning G E P N F → Me (Option P) (View G E P N F) → ℕ → Me (Option P) (View G E P N F) → Type 0
+  abbrev pub is_shut : Meaning G E P N F → Me (Option P) (View G E P N F) → ℕ → Me (Option P)
+      (View G E P N F) → Type 0
   is_shut mg m n w = (OPEN ≤ n) × (w.0 ≡ shut_by m.0 n) × SeesEnd mg w.0
 
-  abbrev pub commits : Meaning G E P N F → Option (Deed E P N F) → Me (Option P) (View G E P N F) → ℕ → Me (Option P) (View G E P N F) → Type 0
+  abbrev pub commits : Meaning G E P N F → Option (Deed E P N F) → Me (Option P) (View G E P N F)
+      → ℕ → Me (Option P) (View G E P N F) → Type 0
   commits mg None m n w = Unit {0}
-  commits mg (Some d) m n w = (w.1 ≡ m.1) × (stays_open mg (logged m.0 n d) m n w ⊎ is_shut mg m n w)
+  commits mg (Some d) m n w = (w.1 ≡ m.1) × (stays_open mg (logged m.0 n d) m n w
+      ⊎ is_shut mg m n w)
 
-  abbrev pub closes : Meaning G E P N F → Option E → Me (Option P) (View G E P N F) → ℕ → Me (Option P) (View G E P N F) → Type 0
+  abbrev pub closes : Meaning G E P N F → Option E → Me (Option P) (View G E P N F) → ℕ → Me
+      (Option P) (View G E P N F) → Type 0
   closes mg None m n w = Unit {0}
-  closes mg (Some e) m n w = (w.1 ≡ m.1) × (((n < OPEN) × (w.0 ≡ ended_by m.0 n e) × SeesEnd mg w.0) ⊎ is_shut mg m n w)
+  closes mg (Some e) m n w = (w.1 ≡ m.1) × (((n < OPEN) × (w.0 ≡ ended_by m.0 n e)
+      × SeesEnd mg w.0) ⊎ is_shut mg m n w)
 
-  abbrev pub looks : Meaning G E P N F → Me (Option P) (View G E P N F) → ℕ → Me (Option P) (View G E P N F) → Type 0
+  abbrev pub looks : Meaning G E P N F → Me (Option P) (View G E P N F) → ℕ → Me (Option P)
+      (View G E P N F) → Type 0
   looks mg m n w = (w.1 ≡ m.1) × (stays_open mg m.0 m n w ⊎ is_shut mg m n w)
 
-  abbrev pub draws_from : Meaning G E P N F → Me (Option P) (View G E P N F) → ℕ → Me (Option P) (View G E P N F) → Type 0
-  draws_from mg m n w = (w.1 ≡ m.1) × (((n < limit_of m.0.terms) × (w.0 ≡ with_drawn m.0 (n + 1)) × Sees mg w.0) ⊎ ((limit_of m.0.terms ≤ n) × (w.0 ≡ filled_by m.0 n)))
+  abbrev pub draws_from : Meaning G E P N F → Me (Option P) (View G E P N F) → ℕ → Me (Option P)
+      (View G E P N F) → Type 0
+  draws_from mg m n w = (w.1 ≡ m.1) × (((n < limit_of m.0.terms) × (w.0 ≡ with_drawn m.0 (n + 1))
+      × Sees mg w.0) ⊎ ((limit_of m.0.terms ≤ n) × (w.0 ≡ filled_by m.0 n)))
 
-  -- A try to take a part: where the word was 0 the place is kept, with the part that stands there, and its slot is carried.
-  abbrev pub takes_part : Meaning G E P N F → Step (Option P) → Me (Option P) (View G E P N F) → ℕ → Me (Option P) (View G E P N F) → Type 0
+  -- A try to take a part: where the word was 0 the place is kept, with the part that stands there,
+  -- and its slot is carried.
+  abbrev pub takes_part : Meaning G E P N F → Step (Option P) → Me (Option P) (View G E P N F) → ℕ
+      → Me (Option P) (View G E P N F) → Type 0
   takes_part mg s m n w =
-      (n ≡ 0 → (p : ℕ) × (x : P) × (s.word ≡ p + 2) × (w.0 ≡ record m.0 { parts = m.0.parts ++ (p, x) ∷ []; carried = Some p }) × (w.1 ≡ (p, Some x) ∷ m.1) × Sees mg w.0)
+      (n ≡ 0 → (p : ℕ) × (x : P) × (s.word ≡ p + 2) × (w.0 ≡ record m.0 {
+        parts = m.0.parts ++
+            (p, x) ∷ [];
+        carried = Some p;
+      }) × (w.1 ≡ (p, Some x) ∷ m.1) × Sees mg w.0)
       × (n ≢ 0 → w ≡ m)
 
   -- the carried slot goes home, empty
@@ -134,8 +239,14 @@ module _ {G E P N F : Type 0} where
   settles m w = (w.0 ≡ record m.0 { carried = None }) × (w.1 ≡ rest m.1)
 
   -- A part goes home by two steps: its empty slot comes, and goes filled.
-  abbrev pub fetches : Step (Option P) → Me (Option P) (View G E P N F) → Me (Option P) (View G E P N F) → Type 0
-  fetches s m w = (p : ℕ) × (s.word ≡ p + 2) × (w.0 ≡ record m.0 { carried = Some p }) × (w.1 ≡ (p, None) ∷ m.1)
+  abbrev pub fetches : Step (Option P) → Me (Option P) (View G E P N F) → Me (Option P)
+      (View G E P N F) → Type 0
+  fetches s m w = (p : ℕ) × (s.word ≡ p + 2) × (w.0 ≡ record m.0 { carried = Some p }) × (w.1 ≡
+      (p, None) ∷ m.1)
 
-  abbrev pub gives_back : Step (Option P) → Me (Option P) (View G E P N F) → Me (Option P) (View G E P N F) → Type 0
-  gives_back s m w = (p : ℕ) × (s.word ≡ p + 2) × (w.0 ≡ record m.0 { carried = None; parts = remove_at p m.0.parts }) × (w.1 ≡ rest m.1)
+  abbrev pub gives_back : Step (Option P) → Me (Option P) (View G E P N F) → Me (Option P)
+      (View G E P N F) → Type 0
+  gives_back s m w = (p : ℕ) × (s.word ≡ p + 2) × (w.0 ≡ record m.0 {
+    carried = None;
+    parts = remove_at p m.0.parts;
+  }) × (w.1 ≡ rest m.1)

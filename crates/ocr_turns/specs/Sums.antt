@@ -50,7 +50,8 @@ module _ {A : Type 0} where
 
   -- the log's numbers rise
   abbrev pub Rises : List (ℕ × A) → Type 0
-  Rises log = (i n m : ℕ) (a b : A) → get_elem? log i ≡ some (n, a) → get_elem? log (suc i) ≡ some (m, b) → n < m
+  Rises log = (i n m : ℕ) (a b : A) → get_elem? log i ≡ some (n, a) → get_elem? log (suc i) ≡ some
+      (m, b) → n < m
 
 -- the numbers below n, each weighed
 abbrev pub below : (ℕ → ℕ) → ℕ → ℕ

@@ -67,7 +67,8 @@ module _ {G E P N F : Type 0} (m : Meaning G E P N F) (t : Terms G) where
 
   -- the EDT has the slot
   abbrev pub HasSlot : View G E P N F → ℕ → ℕ → Type 0
-  HasSlot v n k = (J : List E) → Knows J v → (d : ℕ) × (slots_of m t (reverse J) n ≡ Some d) × (k < d)
+  HasSlot v n k = (J : List E) → Knows J v → (d : ℕ) × (slots_of m t (reverse J) n ≡ Some d) ×
+      (k < d)
 
   -- the EDT waits for a part
   abbrev pub Waits : View G E P N F → ℕ → Type 0
@@ -86,22 +87,28 @@ module _ {G E P N F : Type 0} (m : Meaning G E P N F) (t : Terms G) where
 module _ {G E P N F : Type 0} (m : Meaning G E P N F) where
   -- some history so far is one that the view knows, and the word of the EDT says so much of it
   abbrev pub SeesWord : View G E P N F → ℕ → ℕ → Type 0
-  SeesWord w n x = (t : Terms G) → w.terms ≡ Some t → (J : List E) × Knows m t J w × Found m t (reverse J) w n x
+  SeesWord w n x = (t : Terms G) → w.terms ≡ Some t → (J : List E) × Knows m t J w × Found m t
+      (reverse J) w n x
 
   -- some history so far is one that the view knows, in which the EDT may start
   abbrev pub SeesReady : View G E P N F → ℕ → Type 0
-  SeesReady w n = (t : Terms G) → w.terms ≡ Some t → (J : List E) × Knows m t J w × IsSet m t (reverse J) n × (is_started m t (reverse J) n ≡ false) × (awaited m t (reverse J) n ≡ None)
+  SeesReady w n = (t : Terms G) → w.terms ≡ Some t → (J : List E) × Knows m t J w × IsSet m t
+      (reverse J) n × (is_started m t (reverse J) n ≡ false) × (awaited m t (reverse J) n ≡ None)
 
   abbrev pub StepTells : ℕ → WordStep → View G E P N F → ℕ → View G E P N F → Type 0
   StepTells n (word.Put k p) v x w = w ≡ putting v n k p
-  StepTells n word.Count v x w = (w ≡ counting_down v n (x - 1)) × (1 ≤ x) × (x ≤ 33) × SeesWord w n (x - 1)
-  StepTells n (word.CountMade d) v x w = (w ≡ counting_made v n (x - (33 - d))) × (33 - d ≤ x) × (x ≤ 33) × SeesWord w n (x - (33 - d))
+  StepTells n word.Count v x w = (w ≡ counting_down v n (x - 1)) × (1 ≤ x) × (x ≤ 33)
+      × SeesWord w n (x - 1)
+  StepTells n (word.CountMade d) v x w = (w ≡ counting_made v n (x - (33 - d))) × (33 - d ≤ x) ×
+      (x ≤ 33) × SeesWord w n (x - (33 - d))
   StepTells n (word.Read k) v x w = w ≡ learning v (m.counting.is_set n k x)
-  StepTells n word.Claim v x w = ((x ≡ READY) × (w ≡ claiming v n) × SeesReady w n) ⊎ ((x ≢ READY) × (w ≡ v) × SeesWord w n x)
+  StepTells n word.Claim v x w = ((x ≡ READY) × (w ≡ claiming v n) × SeesReady w n) ⊎ ((x ≢ READY)
+      × (w ≡ v) × SeesWord w n x)
   StepTells n word.Park v x w = w ≡ unclaiming v n
   StepTells n word.Resume v x w = w ≡ resuming v n
 
   -- the step of a seat, which no act of a slot comes with
-  abbrev pub steps_word : Option (ℕ × WordStep) → Me (Option P) (View G E P N F) → ℕ → Me (Option P) (View G E P N F) → Type 0
+  abbrev pub steps_word : Option (ℕ × WordStep) → Me (Option P) (View G E P N F) → ℕ → Me
+      (Option P) (View G E P N F) → Type 0
   steps_word None me x w = Unit {0}
   steps_word (Some s) me x w = (w.1 ≡ me.1) × StepTells s.0 s.1 me.0 x w.0

@@ -38,9 +38,17 @@ impl<M: Machine> Model for Clerk<M> {
 
     ghost Value = { Known M.Setting M.Entry M.Part M.Message M.Fact };
 
-    ghost view = { λ c. record { table = c.seat.table_id; view = c.seat.me.0; parts = c.parts.items; room = vec_capacity c.log - length c.log.items; spare = vec_capacity c.parts - length c.parts.items; space = vec_capacity c.owed - length c.owed.items } };
+    ghost view = { λ c. record {
+      table = c.seat.table_id;
+      view = c.seat.me.0;
+      parts = c.parts.items;
+      room = vec_capacity c.log - length c.log.items;
+      spare = vec_capacity c.parts - length c.parts.items;
+      space = vec_capacity c.owed - length c.owed.items;
+    } };
 
-    ghost invariant = { λ c. IsTrueTo c.seat.me c.log.items (map (λ l. l.items) c.joined.items) c.parts.items c.owed.items c.weight c.closed c.full };
+    ghost invariant = { λ c. IsTrueTo c.seat.me c.log.items (map
+        (λ l. l.items) c.joined.items) c.parts.items c.owed.items c.weight c.closed c.full };
 }
 
 impl<M: Machine> Clerk<M> {
@@ -58,7 +66,8 @@ impl<M: Machine> Clerk<M> {
         self.weight
     }
 
-    /// The undelivered messages that it owes, each with the number of its entry and its index there.
+    /// The undelivered messages that it owes, each with the number of its entry and its index
+    /// there.
     pub fn owed(&self) -> &[(u64, u32, M::Message)]
         ensures { result.now ≡ self.now.view.owed }
     {
@@ -76,12 +85,14 @@ impl<M: Machine> Clerk<M> {
         }
     }
 
-    /// Hands out the part of a place. It still counts as kept, and comes back by `put` or by a commit.
+    /// Hands out the part of a place. It still counts as kept, and comes back by `put` or by a
+    /// commit.
     pub fn lift(&mut self, place: u64) -> M::Part
         requires { (x : M.Part) × (find place self.old.parts ≡ Some (Some x)) }
         ensures part { find place self.old.parts ≡ Some (Some result) }
         ensures parts { self.new.parts ≡ replace place None self.old.parts }
-        ensures rest { (self.new.table ≡ self.old.table) × (self.new.view ≡ self.old.view) × SameRoom self.old self.new }
+        ensures rest { (self.new.table ≡ self.old.table) × (self.new.view ≡ self.old.view)
+            × SameRoom self.old self.new }
     {
         match swap_part(&mut self.parts, place, None) {
             Some(part) => part,
@@ -93,7 +104,8 @@ impl<M: Machine> Clerk<M> {
     pub fn put(&mut self, place: u64, part: M::Part)
         requires { find place self.old.parts ≡ Some None }
         ensures parts { self.new.parts ≡ replace place (Some part) self.old.parts }
-        ensures rest { (self.new.table ≡ self.old.table) × (self.new.view ≡ self.old.view) × SameRoom self.old self.new }
+        ensures rest { (self.new.table ≡ self.old.table) × (self.new.view ≡ self.old.view)
+            × SameRoom self.old self.new }
     {
         drop(swap_part(&mut self.parts, place, Some(part)));
     }

@@ -28,7 +28,8 @@ impl<M: Machine> Model for Closing<M> {
 }
 
 impl<M: Machine> Closing<M> {
-    /// The logs, the root's first and then those of the clerks in the order in which they were joined.
+    /// The logs, the root's first and then those of the clerks in the order in which they were
+    /// joined.
     pub fn logs(self) -> Vec<Vec<(u64, M::Entry)>>
         ensures { map (λ l. l.items) result.items ≡ self.0 }
     {
@@ -48,7 +49,8 @@ impl<M: Machine> Turns<M> {
     pub fn finish(self, _alloc: Global, root: Clerk<M>) -> Result<Closing<M>, NoMemory>
         requires table { IsOf self root }
         requires root { (root.view.root ≡ 1) × (root.view.out ≡ 0) }
-        ensures { IfOk result (λ c. (f : Finished M.meaning self.1 root.view c.0) × (c.1 ≡ length f.history)) }
+        ensures { IfOk result (λ c. (f : Finished M.meaning self.1 root.view c.0)
+            × (c.1 ≡ length f.history)) }
     {
         let Turns {
             table,

@@ -17,7 +17,8 @@ impl<M: Machine> Turns<M> {
     pub fn close(&self, clerk: &mut Clerk<M>, entry: M::Entry) -> Committed
         requires table { IsOf self.now clerk.old }
         requires room { 1 ≤ clerk.old.room }
-        requires may { clerk.old.view.closed ≡ None → MayClose M.meaning self.now.1 clerk.old.view entry }
+        requires may { clerk.old.view.closed ≡ None → MayClose M.meaning self.now.1 clerk.old.view
+            entry }
         ensures { CloseTells M.meaning result clerk.old clerk.new entry }
     {
         if let Some(word) = clerk.closed {

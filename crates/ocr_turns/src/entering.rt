@@ -18,14 +18,16 @@ use std::alloc::Global;
 use std::marker::Brand;
 
 impl<M: Machine> Turns<M> {
-    /// Room for one more entry, besides that for an entry that ends the run, and for so many messages.
+    /// Room for one more entry, besides that for an entry that ends the run, and for so many
+    /// messages.
     pub fn reserve(
         &self,
         _alloc: Global,
         clerk: &mut Clerk<M>,
         messages: usize,
     ) -> Result<(), NoMemory>
-        ensures same { (clerk.new.table ≡ clerk.old.table) × (clerk.new.view ≡ clerk.old.view) × (clerk.new.parts ≡ clerk.old.parts) × (clerk.new.spare ≡ clerk.old.spare) }
+        ensures same { (clerk.new.table ≡ clerk.old.table) × (clerk.new.view ≡ clerk.old.view)
+            × (clerk.new.parts ≡ clerk.old.parts) × (clerk.new.spare ≡ clerk.old.spare) }
         ensures grows { (clerk.old.room ≤ clerk.new.room) × (clerk.old.space ≤ clerk.new.space) }
         ensures room { IfOk result (λ _. (2 ≤ clerk.new.room) × (messages ≤ clerk.new.space)) }
     {
@@ -34,15 +36,23 @@ impl<M: Machine> Turns<M> {
         Ok(())
     }
 
-    /// Enters an entry by one step. It is in the clerk's log then, the clerk keeps the changed parts,
-    /// owes the messages sent under the entry's number, and owes a delivered one no more. A clerk that
-    /// knows that the run has ended is answered so without a step; nothing changes for a refused entry.
+    /// Enters an entry by one step. It is in the clerk's log then, the clerk keeps the changed
+    /// parts,
+    /// owes the messages sent under the entry's number, and owes a delivered one no more. A clerk
+    /// that
+    /// knows that the run has ended is answered so without a step; nothing changes for a refused
+    /// entry.
     pub fn commit(&self, clerk: &mut Clerk<M>, entry: M::Entry, change: Change<M>) -> Committed
         requires table { IsOf self.now clerk.old }
-        requires room { (2 ≤ clerk.old.room) × (length change.messages.items ≤ clerk.old.space) × (length change.messages.items < 2 ^ 32) }
-        requires may { clerk.old.view.closed ≡ None → MayCommit M.meaning self.now.1 clerk.old.view entry change.parts.items change.messages.items }
-        ensures { CommitTells M.meaning result clerk.old clerk.new (steps.deed M.meaning self.now.1.limit clerk.old.view entry change.parts.items change.messages.items) }
+        requires room { (2 ≤ clerk.old.room) × (length change.messages.items ≤ clerk.old.space)
+            × (length change.messages.items < 2 ^ 32) }
+        requires may { clerk.old.view.closed ≡ None → MayCommit M.meaning self.now.1 clerk.old.view
+            entry change.parts.items change.messages.items }
+        ensures { CommitTells M.meaning result clerk.old clerk.new
+            (steps.deed M.meaning self.now.1.limit clerk.old.view
+            entry change.parts.items change.messages.items) }
     {
+        // What the share bounds is known of the table from here on.
         let _ = &self.table;
         if let Some(word) = clerk.closed {
             return Committed::Closed(word);
@@ -69,13 +79,18 @@ impl<M: Machine> Turns<M> {
         entry: &M::Entry,
         change: &Change<M>,
     ) -> u64
-        requires told { W.deed ≡ Some (steps.deed M.meaning self.now.1.limit seat.old.me.0 entry.now change.now.parts.items change.now.messages.items) }
+        requires told { W.deed ≡ Some (steps.deed M.meaning self.now.1.limit seat.old.me.0
+            entry.now change.now.parts.items change.now.messages.items) }
         requires table { seat.old.table_id ≡ self.now.0 }
         requires open { seat.old.me.0.closed ≡ None }
         requires seat { 0 < seat.old.me.0.root + seat.old.me.0.seat }
-        requires may { MayCommit M.meaning self.now.1 seat.old.me.0 entry.now change.now.parts.items change.now.messages.items }
+        requires may { MayCommit M.meaning self.now.1 seat.old.me.0
+            entry.now change.now.parts.items change.now.messages.items }
         ensures table { (seat.new.table_id ≡ seat.old.table_id) × (seat.new.id ≡ seat.old.id) }
-        ensures told { steps.commits M.meaning (Some (steps.deed M.meaning self.now.1.limit seat.old.me.0 entry.now change.now.parts.items change.now.messages.items)) seat.old.me result seat.new.me }
+        ensures told { steps.commits M.meaning (Some
+            (steps.deed M.meaning self.now.1.limit seat.old.me.0
+            entry.now change.now.parts.items change.now.messages.items))
+            seat.old.me result seat.new.me }
     {
         self.table
             .shared
@@ -98,7 +113,8 @@ fn put_all<P: Drop>(hand: &mut Hand<P>, parts: Vec<(u64, P)>)
 fn forget<N: Drop>(owed: &mut Vec<(u64, u32, N)>, delivered: Option<(u64, u32)>)
     requires { mail.Has delivered owed.old.items }
     ensures owed { owed.new.items ≡ mail.without delivered owed.old.items }
-    ensures room { (vec_capacity owed.new ≡ vec_capacity owed.old) × (length owed.new.items ≤ length owed.old.items) }
+    ensures room { (vec_capacity owed.new ≡ vec_capacity owed.old)
+        × (length owed.new.items ≤ length owed.old.items) }
 {
     if let Some((number, index)) = delivered {
         let i = message_position(owed.as_slice(), number, index);
@@ -126,7 +142,8 @@ fn is_named<N>(message: &(u64, u32, N), number: u64, index: u32) -> bool
 
 // Owes the messages of the entry of this number.
 fn owe_all<N: Drop>(owed: &mut Vec<(u64, u32, N)>, number: u64, messages: Vec<N>)
-    requires { (length messages.items < 2 ^ 32) × (length owed.old.items + length messages.items ≤ vec_capacity owed.old) }
+    requires { (length messages.items < 2 ^ 32)
+        × (length owed.old.items + length messages.items ≤ vec_capacity owed.old) }
     ensures owed { owed.new.items ≡ owed.old.items ++ mail.named number 0 messages.items }
 {
     let mut index = 0;

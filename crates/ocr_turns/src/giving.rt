@@ -18,7 +18,8 @@ impl<M: Machine> Turns<M> {
     pub fn give_back(&self, clerk: &mut Clerk<M>, place: u64)
         requires table { IsOf self.now clerk.old }
         requires place { place ≤ 2 * self.now.1.limit }
-        requires may { clerk.old.view.closed ≡ None → MayGive M.meaning self.now.1 clerk.old.view clerk.old.parts place }
+        requires may { clerk.old.view.closed ≡ None → MayGive M.meaning self.now.1
+            clerk.old.view clerk.old.parts place }
         ensures { GiveTells clerk.old clerk.new place }
     {
         let None = clerk.closed else {
@@ -60,7 +61,8 @@ fn remove_part<P>(parts: &mut Hand<P>, place: u64) -> Option<P>
     requires { (x : Option P) × (find place parts.old.items ≡ Some x) }
     ensures found { find place parts.old.items ≡ Some result }
     ensures removed { parts.new.items ≡ remove_at place parts.old.items }
-    ensures room { vec_capacity parts.new - length parts.new.items ≡ vec_capacity parts.old - length parts.old.items + 1 }
+    ensures room { vec_capacity parts.new - length parts.new.items
+        ≡ vec_capacity parts.old - length parts.old.items + 1 }
 {
     let i = position(parts.as_slice(), place);
     let (_, part) = parts.remove(i);

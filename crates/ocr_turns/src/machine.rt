@@ -34,7 +34,8 @@ pub trait Machine {
     /// The places that the entry may change.
     fn places(alloc: Global, entry: &Self::Entry, limit: u64) -> Result<Vec<u64>, NoMemory>
         requires { (2 ≤ limit) × (limit ≤ 65536) }
-        ensures { IfOk result (λ v. (p : ℕ) → sum_of (one_at p) v.items ≡ meaning.touches limit entry.now p) };
+        ensures { IfOk result (λ v. (p : ℕ) → sum_of (one_at p) v.items ≡ meaning.touches limit
+            entry.now p) };
 
     /// What the entry weighs against a clerk's share.
     fn weight(entry: &Self::Entry) -> u64

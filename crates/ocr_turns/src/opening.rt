@@ -21,8 +21,10 @@ use std::snapshot::Snapshot;
 pub(crate) const KEPT: usize = 64;
 
 impl<M: Machine> Turns<M> {
-    /// A table with the parts of the opening, each at its place, and `vacant` at every other. As many
-    /// numbers count as drawn as the opening has objects. The clerk is the root. Only clauses keep the setting.
+    /// A table with the parts of the opening, each at its place, and `vacant` at every other. As
+    /// many
+    /// numbers count as drawn as the opening has objects. The clerk is the root. Only clauses keep
+    /// the setting.
     pub fn new(
         alloc: Global,
         setting: &M::Setting,
@@ -31,9 +33,11 @@ impl<M: Machine> Turns<M> {
         share: u64,
         seats: u32,
     ) -> Result<(Turns<M>, Clerk<M>), NoMemory>
-        requires { (t : Terms M.Setting) → TermsAre t setting.now limit share seats → OpensWith M.meaning t opening.items }
+        requires { (t : Terms M.Setting) → TermsAre t setting.now limit share seats
+            → OpensWith M.meaning t opening.items }
         ensures table { IfOk result (λ t. TermsAre t.0.1 setting.now limit share seats) }
-        ensures root { IfOk result (λ t. (t.1.table ≡ t.0.0) × (t.1.view ≡ steps.rooted t.0.1) × (t.1.parts ≡ []) × (1 ≤ t.1.room) × (64 ≤ t.1.spare)) }
+        ensures root { IfOk result (λ t. (t.1.table ≡ t.0.0) × (t.1.view ≡ steps.rooted t.0.1)
+            × (t.1.parts ≡ []) × (1 ≤ t.1.room) × (64 ≤ t.1.spare)) }
     {
         let terms = Terms {
             setting: Snapshot::of(setting),
@@ -86,7 +90,8 @@ fn face_count<P>(opening: &[(u64, P)], limit: u64) -> u64
     count
 }
 
-// The words of a table: the commit word, the draw word, a turn word for each place, all free, and the
+// The words of a table: the commit word, the draw word, a turn word for each place, all free, and
+// the
 // words that count, where the first EDT alone is made and ready.
 fn first_words(
     alloc: Global,
@@ -108,7 +113,8 @@ fn first_words(
 // The same where no EDT is made.
 fn bare_words(alloc: Global, limit: usize, drawn: u64) -> Result<Vec<u64>, AllocError>
     requires { limit ≤ 65536 }
-    ensures { IfOk result (λ v. v.items ≡ (0 ∷ drawn ∷ replicate (2 * limit + 1) 0) ++ unmade_words limit) }
+    ensures { IfOk result
+        (λ v. v.items ≡ (0 ∷ drawn ∷ replicate (2 * limit + 1) 0) ++ unmade_words limit) }
 {
     let mut unmade = [0; 33];
     unmade[0] = 33;
@@ -126,8 +132,10 @@ fn first_parts<M: Machine>(
     opening: Vec<(u64, M::Part)>,
     limit: usize,
 ) -> Result<Vec<Option<M::Part>>, NoMemory>
-    requires { (limit ≤ 65536) × ((k p : ℕ) (x : M.Part) → get_elem? opening.items k ≡ some (p, x) → p ≤ 2 * limit) }
-    ensures { IfOk result (λ v. v.items ≡ placed opening.items (replicate (2 * limit + 1) (Some M.meaning.vacant))) }
+    requires { (limit ≤ 65536) × ((k p : ℕ) (x : M.Part) → get_elem? opening.items k ≡ some (p, x)
+        → p ≤ 2 * limit) }
+    ensures { IfOk result
+        (λ v. v.items ≡ placed opening.items (replicate (2 * limit + 1) (Some M.meaning.vacant))) }
 {
     let mut parts = vacant_parts::<M>(alloc, 2 * limit + 1)?;
     for (place, part) in opening {

@@ -16,8 +16,11 @@ impl<M: Machine> Turns<M> {
     pub fn split(&self, alloc: Global, root: &mut Clerk<M>) -> Result<Clerk<M>, NoMemory>
         requires table { IsOf self.now root.old }
         requires root { (root.old.view.root ≡ 1) × (0 < root.old.view.quota) }
-        ensures root { IfOk result (λ _. SameHand root.old root.new × (root.new.view ≡ steps.parted root.old.view)) }
-        ensures clerk { IfOk result (λ c. (c.table ≡ root.old.table) × (c.view ≡ steps.fresh root.old.view) × (c.parts ≡ []) × (1 ≤ c.room) × (64 ≤ c.spare)) }
+        ensures root { IfOk result (λ _. SameHand root.old root.new
+            × (root.new.view ≡ steps.parted root.old.view)) }
+        ensures clerk { IfOk result (λ c. (c.table ≡ root.old.table)
+            × (c.view ≡ steps.fresh root.old.view) × (c.parts ≡ []) × (1 ≤ c.room)
+            × (64 ≤ c.spare)) }
         ensures err { OnErr result (root.new ≡ root.old) }
     {
         let log = Vec::with_capacity(alloc, 1)?;
@@ -35,7 +38,8 @@ impl<M: Machine> Turns<M> {
         })
     }
 
-    /// Takes a clerk into the root, which has its log, parts, messages and numbers then, and room for
+    /// Takes a clerk into the root, which has its log, parts, messages and numbers then, and room
+    /// for
     /// 64 parts more. Where memory is wanting the clerk comes back.
     pub fn join(
         &self,
@@ -45,9 +49,12 @@ impl<M: Machine> Turns<M> {
     ) -> Result<(), AllocFailed<Clerk<M>>>
         requires table { IsOf self.now root.old × IsOf self.now clerk }
         requires root { (root.old.view.root ≡ 1) × (clerk.view.root ≡ 0) }
-        ensures view { IfOk result (λ _. (root.new.table ≡ root.old.table) × (root.new.view ≡ steps.gathered root.old.view clerk.view)) }
-        ensures parts { IfOk result (λ _. (root.new.parts ≡ root.old.parts ++ clerk.parts) × (root.new.room ≡ root.old.room) × (64 ≤ root.new.spare)) }
-        ensures err { IfErr result (λ f. (f.value ≡ clerk) × (root.new.view ≡ root.old.view) × (root.new.parts ≡ root.old.parts)) }
+        ensures view { IfOk result (λ _. (root.new.table ≡ root.old.table)
+            × (root.new.view ≡ steps.gathered root.old.view clerk.view)) }
+        ensures parts { IfOk result (λ _. (root.new.parts ≡ root.old.parts ++ clerk.parts)
+            × (root.new.room ≡ root.old.room) × (64 ≤ root.new.spare)) }
+        ensures err { IfErr result (λ f. (f.value ≡ clerk) × (root.new.view ≡ root.old.view)
+            × (root.new.parts ≡ root.old.parts)) }
     {
         let parts = clerk.parts.len() + KEPT;
         let owed = clerk.owed.len();
@@ -88,8 +95,11 @@ fn make_room<L: Drop, P: Drop, N: Drop>(
     more_parts: usize,
     more_owed: usize,
 ) -> Result<(), AllocError>
-    ensures same { (joined.new.items ≡ joined.old.items) × (parts.new.items ≡ parts.old.items) × (owed.new.items ≡ owed.old.items) }
-    ensures room { IfOk result (λ _. (vec_len joined.new < vec_capacity joined.new) × (length parts.new.items + more_parts ≤ vec_capacity parts.new) × (length owed.new.items + more_owed ≤ vec_capacity owed.new)) }
+    ensures same { (joined.new.items ≡ joined.old.items) × (parts.new.items ≡ parts.old.items)
+        × (owed.new.items ≡ owed.old.items) }
+    ensures room { IfOk result (λ _. (vec_len joined.new < vec_capacity joined.new)
+        × (length parts.new.items + more_parts ≤ vec_capacity parts.new)
+        × (length owed.new.items + more_owed ≤ vec_capacity owed.new)) }
 {
     joined.reserve(1)?;
     parts.reserve(more_parts)?;

@@ -38,7 +38,8 @@ impl<M: Machine> Turns<M> {
         requires table { IsOf self.now clerk.old }
         requires place { place ≤ 2 * self.now.1.limit }
         requires room { 0 < clerk.old.spare }
-        ensures { MatchOption result (clerk.new ≡ clerk.old) (λ answer. TakeTells M.meaning answer clerk.old clerk.new place) }
+        ensures { MatchOption result (clerk.new ≡ clerk.old)
+            (λ answer. TakeTells M.meaning answer clerk.old clerk.new place) }
     {
         if let Some(word) = self.look(clerk) {
             return Some(Taken::Closed(word));
@@ -59,7 +60,9 @@ impl<M: Machine> Turns<M> {
         requires seat { 0 < seat.old.me.0.root + seat.old.me.0.seat }
         requires hand { (seat.old.me.0.carried ≡ None) × (seat.old.me.1 ≡ []) }
         ensures table { (seat.new.table_id ≡ seat.old.table_id) × (seat.new.id ≡ seat.old.id) }
-        ensures part { MatchOption result (seat.new.me ≡ seat.old.me) (λ x. (seat.new.me ≡ (with_part seat.old.me.0 place x, [])) × Sees M.meaning seat.new.me.0) }
+        ensures part { MatchOption result (seat.new.me ≡ seat.old.me)
+            (λ x. (seat.new.me ≡ (with_part seat.old.me.0 place x, []))
+            × Sees M.meaning seat.new.me.0) }
     {
         let found = self
             .table

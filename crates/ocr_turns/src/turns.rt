@@ -60,7 +60,8 @@ impl<M: Machine> Turns<M> {
         self.share
     }
 
-    /// The commit word, where the run has ended. A clerk that knows it is answered again without a step.
+    /// The commit word, where the run has ended. A clerk that knows it is answered again without a
+    /// step.
     pub fn look(&self, clerk: &mut Clerk<M>) -> Option<u64>
         requires { IsOf self.now clerk.old }
         ensures { LookTells M.meaning result clerk.old clerk.new }
@@ -76,7 +77,8 @@ impl<M: Machine> Turns<M> {
         None
     }
 
-    /// A number for a new object. A clerk that was answered Full is answered so again without a step.
+    /// A number for a new object. A clerk that was answered Full is answered so again without a
+    /// step.
     pub fn draw(&self, clerk: &mut Clerk<M>) -> Drawn
         requires { IsOf self.now clerk.old }
         ensures { DrawTells M.meaning self.now.1.limit result clerk.old clerk.new }

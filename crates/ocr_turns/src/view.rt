@@ -45,7 +45,8 @@ pub struct View<G, E, P, N, F> {
     /// How many of these learnt that the run has ended, and the commit word that it read so.
     pub shut: u64,
     pub closed: Option<u64>,
-    /// 1 for the root; 1 for another clerk that is not joined; how many such clerks are out, in the root.
+    /// 1 for the root; 1 for another clerk that is not joined; how many such clerks are out, in the
+    /// root.
     pub root: u64,
     pub seat: u64,
     pub out: u64,

@@ -17,7 +17,8 @@ const READY: u64 = 0;
 const BUSY: u64 = 64;
 
 const PARKED: u64 = 65;
-/// An EDT that is not made, and that can have no slot more: one unit a slot, and one for its making.
+/// An EDT that is not made, and that can have no slot more: one unit a slot, and one for its
+/// making.
 const UNMADE: u64 = 33;
 
 /// A step on the words of one EDT.
@@ -65,7 +66,8 @@ impl<M: Machine, W: Chosen> Play<
 }
 
 impl<M: Machine> Turns<M> {
-    /// A step on the words of an EDT, and what stood in the word, where the step reads it. The crate
+    /// A step on the words of an EDT, and what stood in the word, where the step reads it. The
+    /// crate
     /// `ocr_count` has a call for each step; nothing else uses this.
     pub fn step_word(&self, clerk: &mut Clerk<M>, edt: u64, step: WordStep) -> u64
         requires table { IsOf self.now clerk.old }
