@@ -1,0 +1,25 @@
+-- What the tests ask of a clerk.
+use Rattle.std.specs.Prelude.{◌≡◌, ◌≤◌, ℕ, []}
+use Rattle.atomic_table.specs.Seated.{TableId}
+use Rattle.ocr_turns.specs.Contract.{IsOf, Known}
+use Rattle.ocr_turns.specs.declared.view.Terms.{Terms}
+use Rattle.ocr_tests_table.specs.declared.toy.Entry.{Entry}
+
+-- a clerk of the toy
+abbrev pub Hand : Type 0
+Hand = Known ℕ Entry ℕ ℕ ℕ
+
+-- the clerk is of the table, and not the root
+abbrev pub IsOut : TableId × Terms ℕ → Hand → Type 0
+IsOut t c = IsOf t c × (c.view.root ≡ 0)
+
+-- the table has the places that the tests use; the clerk keeps nothing and has claimed nothing, and
+-- there is room for a part and for a last entry
+pub record IsIdle (t : TableId × Terms ℕ) (c : Hand) : Type 0 where
+  pub limit : 2 ≤ t.1.limit
+  pub out : IsOut t c
+  pub hand : c.parts ≡ []
+  pub parts : c.view.parts ≡ []
+  pub claims : c.view.claims ≡ []
+  pub spare : 1 ≤ c.spare
+  pub room : 1 ≤ c.room

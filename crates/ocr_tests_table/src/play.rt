@@ -1,0 +1,144 @@
+// What clerks do with the toy's counters.
+ghost use Rattle.std.specs.Prelude.{◌≡◌, ◌<◌, ◌≤◌, ◌+◌, ◌*◌, [], All, IfOk, IsTrue};
+ghost use Rattle.ocr_mail.specs.Mail as mail;
+ghost use Rattle.ocr_turns.specs.Contract.{IsOf};
+ghost use Rattle.ocr_tests_table.specs.Clerks.{IsIdle, IsOut};
+
+use crate::toy::{Entry, Toy};
+use ocr_base::NoMemory;
+use ocr_turns::{Change, Clerk, Committed, Taken, Turns};
+use std::alloc::{AllocError, Global};
+use std::sync::Wait;
+use std::thread;
+use std::thread::Threads;
+
+/// How many places the clerks use.
+pub(crate) const PLACES: u64 = 5;
+
+/// What a clerk is to do.
+#[derive(Drop)]
+pub struct Job {
+    pub clerk: Clerk<Toy>,
+    /// How many entries it makes, and whether it ends the run then.
+    pub turns: u64,
+    pub closes: bool,
+}
+
+/// What a clerk did.
+#[derive(Drop)]
+pub struct Worked {
+    pub clerk: Clerk<Toy>,
+    /// All that it was to do was done.
+    pub is_whole: bool,
+}
+
+// The name of a message that the clerk owes.
+fn owed_message(clerk: &Clerk<Toy>) -> Option<(u64, u32)>
+    ensures { mail.Has result clerk.now.view.owed }
+{
+    let owed = clerk.owed();
+    if owed.is_empty() {
+        return None;
+    }
+    Some((owed[0].0, owed[0].1))
+}
+
+/// Takes a place, adds to its counter by one entry, which delivers a message that the clerk owes,
+/// and gives the place back. False where the run has ended, or counter or log are full.
+pub fn turn<R: Wait>(
+    rt: &R,
+    alloc: Global,
+    turns: &Turns<Toy>,
+    clerk: &mut Clerk<Toy>,
+    place: u64,
+    count: u64,
+) -> Result<bool, NoMemory>
+    requires idle { IsIdle turns.now clerk.old }
+    requires place { place ≤ 2 * turns.now.1.limit }
+    ensures out { IsOut turns.now clerk.new }
+    ensures idle { IfOk result (λ goes. IsTrue goes → IsIdle turns.now clerk.new) }
+{
+    if clerk.weight() >= turns.share() {
+        return Ok(false);
+    }
+    turns.reserve(alloc, clerk, 1)?;
+    let Taken::Mine = turns.take(rt, clerk, place) else {
+        return Ok(false);
+    };
+    let found = *clerk.part(place);
+    let Some(after) = found.checked_add(count) else {
+        return Ok(false);
+    };
+    let change = Change {
+        parts: vec![in alloc; (place, after)]?,
+        messages: vec![in alloc; count]?,
+    };
+    let entry = Entry::Add {
+        place,
+        found,
+        count,
+        delivered: owed_message(clerk),
+    };
+    let Committed::At(_) = turns.commit(clerk, entry, change) else {
+        return Ok(false);
+    };
+    turns.give_back(clerk, place);
+    Ok(true)
+}
+
+// So many turns, one place after the other. False where one was refused.
+fn make_turns<R: Wait>(
+    rt: &R,
+    alloc: Global,
+    turns: &Turns<Toy>,
+    clerk: &mut Clerk<Toy>,
+    count: u64,
+) -> bool
+    requires idle { IsIdle turns.now clerk.old }
+    ensures out { IsOut turns.now clerk.new }
+    ensures idle { IsTrue result → IsIdle turns.now clerk.new }
+{
+    for k in 0..count {
+        let Ok(true) = turn(rt, alloc, turns, clerk, k % PLACES, k) else {
+            return false;
+        };
+    }
+    true
+}
+
+/// Does a job.
+pub fn work<R: Wait>(rt: &R, alloc: Global, turns: &Turns<Toy>, job: Job) -> Worked
+    requires idle { IsIdle turns.now job.clerk }
+    ensures { IsOut turns.now result.clerk }
+{
+    let Job {
+        mut clerk,
+        turns: count,
+        closes,
+    } = job;
+    let mut is_whole = make_turns(rt, alloc, turns, &mut clerk, count);
+    if is_whole && closes {
+        is_whole = matches!(turns.close(&mut clerk, Entry::Stop), Committed::At(_));
+    }
+    Worked { clerk, is_whole }
+}
+
+/// Does each job in a thread of its own.
+pub fn work_all<R: Threads + Wait + Sync>(
+    rt: &R,
+    alloc: Global,
+    turns: &Turns<Toy>,
+    jobs: Vec<Job>,
+) -> Result<Vec<Worked>, AllocError>
+    requires jobs { All (λ job. IsIdle turns.now job.clerk) jobs.items }
+    ensures { IfOk result (λ v. All (λ w. IsOut turns.now w.clerk) v.items) }
+{
+    thread::map_vec(
+        rt,
+        jobs,
+        &|job: Job| -> Worked
+            requires { IsIdle turns.now job.clerk }
+            ensures { IsOut turns.entry.now result.clerk }
+        { work(rt, alloc, turns, job) },
+    )
+}
