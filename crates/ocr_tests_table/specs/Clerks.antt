@@ -23,3 +23,10 @@ pub record IsIdle (t : TableId × Terms ℕ) (c : Hand) : Type 0 where
   pub claims : c.view.claims ≡ []
   pub spare : 1 ≤ c.spare
   pub room : 1 ≤ c.room
+
+-- the clerk is the root, with so many others out
+pub record IsRoot (t : TableId × Terms ℕ) (c : Hand) (others : ℕ) : Type 0 where
+  pub limit : 2 ≤ t.1.limit
+  pub of : IsOf t c
+  pub root : c.view.root ≡ 1
+  pub out : c.view.out ≡ others

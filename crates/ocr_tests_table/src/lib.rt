@@ -2,7 +2,12 @@
 #![tactic(auto)]
 
 mod play;
+mod threads;
 mod toy;
 
 pub use play::{Job, Worked, work, work_all};
+pub use threads::{Plan, Ran, run};
 pub use toy::{Entry, Toy};
+
+#[cfg(test)]
+mod tests;

@@ -1,5 +1,5 @@
 // What clerks do with the toy's counters.
-ghost use Rattle.std.specs.Prelude.{◌≡◌, ◌<◌, ◌≤◌, ◌+◌, ◌*◌, [], All, IfOk, IsTrue};
+ghost use Rattle.std.specs.Prelude.{◌≡◌, ◌<◌, ◌≤◌, ◌+◌, ◌*◌, [], All, IfOk, IsTrue, vec_len};
 ghost use Rattle.ocr_mail.specs.Mail as mail;
 ghost use Rattle.ocr_turns.specs.Contract.{IsOf};
 ghost use Rattle.ocr_tests_table.specs.Clerks.{IsIdle, IsOut};
@@ -131,7 +131,8 @@ pub fn work_all<R: Threads + Wait + Sync>(
     jobs: Vec<Job>,
 ) -> Result<Vec<Worked>, AllocError>
     requires jobs { All (λ job. IsIdle turns.now job.clerk) jobs.items }
-    ensures { IfOk result (λ v. All (λ w. IsOut turns.now w.clerk) v.items) }
+    ensures many { IfOk result (λ v. vec_len v ≡ vec_len jobs) }
+    ensures out { IfOk result (λ v. All (λ w. IsOut turns.now w.clerk) v.items) }
 {
     thread::map_vec(
         rt,
