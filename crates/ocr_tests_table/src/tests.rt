@@ -1,8 +1,12 @@
+ghost use Rattle.std.specs.Prelude.{◌<◌};
+
 use crate::play::PLACES;
 use crate::{Entry, Plan, Ran, run};
 use ocr_base::NoMemory;
 use std::alloc::Global;
+use std::sync::Wait;
 use std::test::Fail;
+use std::thread::Threads;
 
 // Puts each entry at its number. False where one stands there, or the number is too great.
 fn place_entries(history: &mut Vec<Option<Entry>>, log: Vec<(u64, Entry)>) -> bool {
@@ -107,24 +111,26 @@ fn is_run(alloc: Global, history: &[Entry], owed: usize) -> Result<bool, NoMemor
             return Ok(false);
         }
     }
-    let mut undelivered = 0;
+    let mut left = owed;
     for is_owed in &replay.is_owed {
         if *is_owed {
-            undelivered += 1;
+            let Some(fewer) = left.checked_sub(1) else {
+                return Ok(false);
+            };
+            left = fewer;
         }
     }
-    Ok(undelivered == owed)
+    Ok(left == 0)
 }
 
-// How many entries end the run.
-fn stops(history: &[Entry]) -> usize {
-    let mut count = 0;
+// Whether an entry ends the run.
+fn has_stop(history: &[Entry]) -> bool {
     for entry in history {
         if matches!(entry, Entry::Stop) {
-            count += 1;
+            return true;
         }
     }
-    count
+    false
 }
 
 // The entries of a run, where they are one history.
@@ -145,7 +151,12 @@ fn entered(alloc: Global, ran: Ran) -> Result<Option<Vec<Entry>>, NoMemory> {
 }
 
 // Whether so many threads make a run of ten thousand entries.
-fn is_run_of_ten_thousand(rt: &HostRuntime, threads: u32, each: u64) -> Result<bool, NoMemory>
+fn is_run_of_ten_thousand<R: Threads + Wait + Sync>(
+    rt: &R,
+    alloc: Global,
+    threads: u32,
+    each: u64,
+) -> Result<bool, NoMemory>
     requires { threads < 128 }
 {
     let plan = Plan {
@@ -153,29 +164,29 @@ fn is_run_of_ten_thousand(rt: &HostRuntime, threads: u32, each: u64) -> Result<b
         turns: each,
         stop_after: None,
     };
-    let ran = run(rt, rt.alloc(), &plan)?;
+    let ran = run(rt, alloc, &plan)?;
     let is_whole = ran.is_whole;
-    let Some(history) = entered(rt.alloc(), ran)? else {
+    let Some(history) = entered(alloc, ran)? else {
         return Ok(false);
     };
-    Ok(is_whole && history.len() == 10_000 && stops(history.as_slice()) == 0)
+    Ok(is_whole && history.len() == 10_000 && !has_stop(history.as_slice()))
 }
 
 #[test]
 fn entries_of_one_thread_are_a_run(rt: HostRuntime) -> Result<(), Fail> {
-    assert!(rt; matches!(is_run_of_ten_thousand(&rt, 1, 10_000), Ok(true)));
+    assert!(rt; matches!(is_run_of_ten_thousand(&rt, rt.alloc(), 1, 10_000), Ok(true)));
     Ok(())
 }
 
 #[test]
 fn entries_of_two_threads_are_a_run(rt: HostRuntime) -> Result<(), Fail> {
-    assert!(rt; matches!(is_run_of_ten_thousand(&rt, 2, 5_000), Ok(true)));
+    assert!(rt; matches!(is_run_of_ten_thousand(&rt, rt.alloc(), 2, 5_000), Ok(true)));
     Ok(())
 }
 
 #[test]
 fn entries_of_four_threads_are_a_run(rt: HostRuntime) -> Result<(), Fail> {
-    assert!(rt; matches!(is_run_of_ten_thousand(&rt, 4, 2_500), Ok(true)));
+    assert!(rt; matches!(is_run_of_ten_thousand(&rt, rt.alloc(), 4, 2_500), Ok(true)));
     Ok(())
 }
 
@@ -191,12 +202,12 @@ fn nothing_is_entered_once_a_clerk_ended_the_run(rt: HostRuntime) -> Result<(), 
         assert!(rt; false);
         return Ok(())
     };
-    let Ok(Some(history)) = entered(rt.alloc(), ran) else {
+    let Ok(Some(mut history)) = entered(rt.alloc(), ran) else {
         assert!(rt; false);
         return Ok(())
     };
     assert!(rt; history.len() > 500);
-    assert!(rt; matches!(history.last(), Some(Entry::Stop)));
-    assert_eq!(rt; stops(history.as_slice()), 1);
+    assert!(rt; matches!(history.pop(), Some(Entry::Stop)));
+    assert!(rt; !has_stop(history.as_slice()));
     Ok(())
 }

@@ -12,6 +12,7 @@ use std::sync::Wait;
 use std::thread::Threads;
 
 /// How many threads make how many entries each, and after how many the first ends the run.
+#[derive(Drop)]
 pub struct Plan {
     pub threads: u32,
     pub turns: u64,
