@@ -32,13 +32,16 @@ by_test : (b : Bool) (x n : ℕ) → (if b then 1 else 0) + 0 ≡ 0 → (if b th
 by_test true x n none = absurd (omega (arith, none))
 by_test false x n none = refl
 
-local_last : (past : List Entry) (e : Entry) (p : ℕ) → sum_of (one_at p) (places e) ≡ 0 → counter_at (e ∷ past) p ≡ counter_at past p
+local_last : (past : List Entry) (e : Entry) (p : ℕ) → sum_of (one_at p) (places e) ≡ 0
+    → counter_at (e ∷ past) p ≡ counter_at past p
 local_last past (Add q found n d) p none = by_test (p == q) (counter_at past p) n none
 local_last past Stop p none = refl
 
-local : (g limit : ℕ) (J : List Entry) (e : Entry) (p : ℕ) → sum_of (one_at p) (places e) ≡ 0 → part g limit (J ++ e ∷ []) p ≡ part g limit J p
+local : (g limit : ℕ) (J : List Entry) (e : Entry) (p : ℕ)
+    → sum_of (one_at p) (places e) ≡ 0 → part g limit (J ++ e ∷ []) p ≡ part g limit J p
 unfolding part
-local g limit J e p none = ap (λ past. counter_at past p) (reverse-append J (e ∷ [])) ∙ local_last (reverse J) e p none
+local g limit J e p none =
+    ap (λ past. counter_at past p) (reverse-append J (e ∷ [])) ∙ local_last (reverse J) e p none
 
 pub laws : Lawful meaning
 laws = record {

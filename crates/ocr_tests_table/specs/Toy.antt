@@ -8,7 +8,8 @@ use Rattle.ocr_tests_table.specs.declared.toy.Entry.TheVariants.{Add, Stop}
 -- the counter of a place after the entries, the newest entry first
 abbrev pub counter_at : List Entry → ℕ → ℕ
 counter_at [] q = 0
-counter_at (Add p found n d ∷ past) q = if q == p then counter_at past q + n else counter_at past q
+counter_at (Add p found n d ∷ past) q =
+    if q == p then counter_at past q + n else counter_at past q
 counter_at (Stop ∷ past) q = counter_at past q
 
 unfoldable pub part : ℕ → ℕ → List Entry → ℕ → ℕ

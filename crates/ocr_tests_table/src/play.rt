@@ -19,7 +19,9 @@ pub(crate) const PLACES: u64 = 5;
 #[derive(Drop)]
 pub struct Job {
     pub clerk: Clerk<Toy>,
-    /// How many entries it makes, and whether it ends the run then.
+    /// How often it takes a place and gives it back, how many entries it makes then, and whether it
+    /// ends the run at last.
+    pub visits: u64,
     pub turns: u64,
     pub closes: bool,
 }
@@ -106,6 +108,41 @@ fn make_turns<R: Wait>(
     true
 }
 
+// Takes the first place and gives it back, without an entry. False where it was refused.
+fn visit<R: Wait>(rt: &R, turns: &Turns<Toy>, clerk: &mut Clerk<Toy>) -> bool
+    requires { IsIdle turns.now clerk.old }
+    ensures out { IsOut turns.now clerk.new }
+    ensures idle { IsTrue result → IsIdle turns.now clerk.new }
+{
+    let Taken::Mine = turns.take(rt, clerk, 0) else {
+        return false;
+    };
+    turns.give_back(clerk, 0);
+    true
+}
+
+// So many visits. False where one was refused.
+fn make_visits<R: Wait>(rt: &R, turns: &Turns<Toy>, clerk: &mut Clerk<Toy>, count: u64) -> bool
+    requires { IsIdle turns.now clerk.old }
+    ensures out { IsOut turns.now clerk.new }
+    ensures idle { IsTrue result → IsIdle turns.now clerk.new }
+{
+    for _ in 0..count {
+        if !visit(rt, turns, clerk) {
+            return false;
+        }
+    }
+    true
+}
+
+// Ends the run. False where it had ended.
+fn stop(turns: &Turns<Toy>, clerk: &mut Clerk<Toy>) -> bool
+    requires { IsIdle turns.now clerk.old }
+    ensures { IsOut turns.now clerk.new }
+{
+    matches!(turns.close(clerk, Entry::Stop), Committed::At(_))
+}
+
 /// Does a job.
 pub fn work<R: Wait>(rt: &R, alloc: Global, turns: &Turns<Toy>, job: Job) -> Worked
     requires idle { IsIdle turns.now job.clerk }
@@ -113,13 +150,13 @@ pub fn work<R: Wait>(rt: &R, alloc: Global, turns: &Turns<Toy>, job: Job) -> Wor
 {
     let Job {
         mut clerk,
-        turns: count,
+        visits,
+        turns: entries,
         closes,
     } = job;
-    let mut is_whole = make_turns(rt, alloc, turns, &mut clerk, count);
-    if is_whole && closes {
-        is_whole = matches!(turns.close(&mut clerk, Entry::Stop), Committed::At(_));
-    }
+    let is_whole = make_visits(rt, turns, &mut clerk, visits)
+        && make_turns(rt, alloc, turns, &mut clerk, entries)
+        && (!closes || stop(turns, &mut clerk));
     Worked { clerk, is_whole }
 }
 

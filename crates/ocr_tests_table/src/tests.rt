@@ -161,6 +161,7 @@ fn is_run_of_ten_thousand<R: Threads + Wait + Sync>(
 {
     let plan = Plan {
         threads,
+        visits: 0,
         turns: each,
         stop_after: None,
     };
@@ -195,6 +196,7 @@ fn entries_of_four_threads_are_a_run(rt: HostRuntime) -> Result<(), Fail> {
 fn nothing_is_entered_once_a_clerk_ended_the_run(rt: HostRuntime) -> Result<(), Fail> {
     let plan = Plan {
         threads: 4,
+        visits: 0,
         turns: 1_000_000,
         stop_after: Some(500),
     };

@@ -11,10 +11,12 @@ use std::alloc::Global;
 use std::sync::Wait;
 use std::thread::Threads;
 
-/// How many threads make how many entries each, and after how many the first ends the run.
+/// How many threads take a place and give it back how often, and make how many entries each then;
+/// and after how many the first ends the run.
 #[derive(Drop)]
 pub struct Plan {
     pub threads: u32,
+    pub visits: u64,
     pub turns: u64,
     pub stop_after: Option<u64>,
 }
@@ -68,11 +70,13 @@ fn job(plan: &Plan, number: u32, clerk: Clerk<Toy>) -> Job
     match plan.stop_after {
         Some(turns) if number == 0 => Job {
             clerk,
+            visits: plan.visits,
             turns,
             closes: true,
         },
         _ => Job {
             clerk,
+            visits: plan.visits,
             turns: plan.turns,
             closes: false,
         },
