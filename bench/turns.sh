@@ -1,6 +1,7 @@
 #!/usr/bin/env bash
-# How many instructions it takes to take a place and give it back, and to make an entry of the toy machine besides: its
-# two lists and the room in the log too. Counted by valgrind, with one clerk: the difference between 20,000 and 10,000.
+# How many instructions a take, a give back and a commit are, and besides what the heap takes for an entry of the toy
+# machine: its two lists, and room in the log. Counted by valgrind, with one clerk: the difference between 20,000 of
+# them and 10,000. What the toy does to make its entry counts as the commit's.
 #
 # Build the program first: cd crates/ocr_bench_turns && rt run -- 300 200, which leaves it as
 # crates/ocr_bench_turns/out/ocr_bench_turns.
@@ -10,13 +11,29 @@ set -euo pipefail
 
 here=$(cd "$(dirname "$0")" && pwd)
 program=${1:-$here/../crates/ocr_bench_turns/out/ocr_bench_turns}
+profile=$(mktemp)
+trap 'rm -f "$profile"' EXIT
 
+# the instructions of takes, give backs, the heap and all else
 instructions() {
-    valgrind --tool=callgrind --callgrind-out-file=/dev/null "$program" "$@" 2>&1 >/dev/null |
-        awk '/Collected/ { print $4 }'
+    valgrind --tool=callgrind --callgrind-out-file="$profile" "$program" "$@" >/dev/null 2>&1
+    callgrind_annotate --threshold=100 "$profile" | awk '
+        /^ *[0-9,]+ +\([ 0-9.]+%\) +[^ ]+:/ {
+            class = "rest"
+            if (/Turns::take/) class = "take"
+            else if (/Turns::give_back/) class = "give"
+            else if (/alloc|free|memcpy|memmove/) class = "heap"
+            gsub(",", "", $1)
+            sum[class] += $1
+        }
+        END { print sum["take"] + 0, sum["give"] + 0, sum["heap"] + 0, sum["rest"] + 0 }'
 }
 
-base=$(instructions 10000 10000)
-visit=$((($(instructions 20000 10000) - base) / 10000))
-turn=$((($(instructions 10000 20000) - base) / 10000))
-printf '%-19s %s\n' "take and give back" "$visit" "entry" "$((turn - visit))"
+read -r take give heap _ <<<"$(instructions 10000 10000)"
+read -r takes gives _ visits <<<"$(instructions 20000 10000)"
+read -r _ _ heaps turns <<<"$(instructions 10000 20000)"
+printf '%-10s %s\n' \
+    "take" $(((takes - take) / 10000)) \
+    "give back" $(((gives - give) / 10000)) \
+    "commit" $(((turns - visits) / 10000)) \
+    "heap" $(((heaps - heap) / 10000))
