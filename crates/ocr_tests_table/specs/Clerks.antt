@@ -1,9 +1,13 @@
 -- What the tests ask of a clerk.
-use Rattle.std.specs.Prelude.{◌≡◌, ◌≤◌, ℕ, []}
+use Rattle.std.specs.Prelude.{◌≡◌, ◌≤◌, ℕ, List, [], length}
 use Rattle.atomic_table.specs.Seated.{TableId}
 use Rattle.ocr_turns.specs.Contract.{IsOf, Known}
+use Rattle.ocr_turns.specs.Meaning.{Run}
+use Rattle.ocr_turns.specs.Rule.{LogsOf}
+use Rattle.ocr_turns.specs.Sums.{below, weigh_all}
 use Rattle.ocr_turns.specs.declared.view.Terms.{Terms}
 use Rattle.ocr_tests_table.specs.declared.toy.Entry.{Entry}
+use Rattle.ocr_tests_table.specs.Toy.{legal}
 
 -- a clerk of the toy
 abbrev pub Hand : Type 0
@@ -30,3 +34,13 @@ pub record IsRoot (t : TableId × Terms ℕ) (c : Hand) (others : ℕ) : Type 0 
   pub of : IsOf t c
   pub root : c.view.root ≡ 1
   pub out : c.view.out ≡ others
+
+-- the logs by number are a run of so many entries, each number once
+pub record IsOneRun (entries : ℕ) (logs : List (List (ℕ × Entry))) : Type 0 where
+  pub setting : ℕ
+  pub limit : ℕ
+  pub history : List Entry
+  pub size : entries ≡ length history
+  pub run : Run (legal setting limit) history
+  pub of_run : LogsOf history logs
+  pub once : (f : ℕ → ℕ) → weigh_all f logs ≡ below f (length history)

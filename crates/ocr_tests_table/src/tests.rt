@@ -191,6 +191,47 @@ fn entries_of_four_threads_are_a_run(rt: HostRuntime) -> Result<(), Fail> {
     Ok(())
 }
 
+// The seventh entry comes to the second place again, and delivers the sixth's message.
+#[test]
+fn eight_entries_of_one_clerk(rt: HostRuntime) -> Result<(), Fail> {
+    let plan = Plan {
+        threads: 1,
+        visits: 2,
+        turns: 0,
+        stop_after: Some(7),
+    };
+    let Ok(ran) = run(&rt, rt.alloc(), &plan) else {
+        assert!(rt; false);
+        return Ok(())
+    };
+    assert!(rt; ran.is_whole);
+    assert_eq!(rt; ran.entries, 8);
+    assert_eq!(rt; ran.owed, 1);
+    let Ok(Some(mut history)) = entered(rt.alloc(), ran) else {
+        assert!(rt; false);
+        return Ok(())
+    };
+    assert!(rt; matches!(history.pop(), Some(Entry::Stop)));
+    let last = history.pop();
+    assert!(rt;
+        matches!(
+            last,
+            Some(Entry::Add {
+                place: 1,
+                found: 1,
+                count: 6,
+                ..
+            })
+        )
+    );
+    let Some(Entry::Add { delivered, .. }) = last else {
+        assert!(rt; false);
+        return Ok(())
+    };
+    assert_eq!(rt; delivered, Some((5, 0)));
+    Ok(())
+}
+
 // The other threads work on until they learn that the run has ended.
 #[test]
 fn nothing_is_entered_once_a_clerk_ended_the_run(rt: HostRuntime) -> Result<(), Fail> {

@@ -1,7 +1,7 @@
 // Runs of the toy in threads.
-ghost use Rattle.std.specs.Prelude.{◌≡◌, ◌≤◌, ◌<◌, ◌+◌, ◌∷◌, [], All, IfOk, length, vec_len};
+ghost use Rattle.std.specs.Prelude.{◌≡◌, ◌≤◌, ◌<◌, ◌+◌, ◌∷◌, [], All, IfOk, length, map, vec_len};
 ghost use Rattle.ocr_turns.specs.Contract.{TermsAre};
-ghost use Rattle.ocr_tests_table.specs.Clerks.{IsIdle, IsOut, IsRoot};
+ghost use Rattle.ocr_tests_table.specs.Clerks.{IsIdle, IsOneRun, IsOut, IsRoot};
 
 use crate::play::{Job, Worked, work_all};
 use crate::toy::{Entry, Toy};
@@ -109,6 +109,7 @@ fn gather(
 /// Runs the toy so.
 pub fn run<R: Threads + Wait + Sync>(rt: &R, alloc: Global, plan: &Plan) -> Result<Ran, NoMemory>
     requires { plan.now.threads < 128 }
+    ensures { IfOk result (λ ran. IsOneRun ran.entries (map (λ log. log.items) ran.logs.items)) }
 {
     let (turns, mut root) = open(alloc, plan.threads)?;
     let jobs = hire(alloc, &turns, &mut root, plan)?;
