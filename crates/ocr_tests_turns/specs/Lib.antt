@@ -1,0 +1,3 @@
+pub mod Toy
+pub mod Laws
+pub mod Clerks
