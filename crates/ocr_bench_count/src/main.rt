@@ -4,7 +4,7 @@
 
 use ocr_base::NoMemory;
 use ocr_count::{Down, count_down};
-use ocr_tests_turns::{EDT, fill, make, open};
+use ocr_tests_count::{EDT, fill, make, open};
 use std::alloc::Global;
 use std::io::{Error, ErrorKind};
 use std::sync::Wait;

@@ -2,7 +2,7 @@
 //! then, as the program's words say; prints how many entries the run has.
 #![tactic(auto)]
 
-use ocr_tests_table::{Plan, run};
+use ocr_tests_turns::{Plan, run};
 use std::io::{Error, ErrorKind};
 use std::{env, io};
 

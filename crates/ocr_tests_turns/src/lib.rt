@@ -1,13 +1,13 @@
-//! Tests of the words that count, over a toy machine.
+//! Tests of the table of turns, over a toy machine.
 #![tactic(auto)]
 
 mod play;
+mod threads;
 mod toy;
 
-pub use play::{
-    EDT, Setter, claim_and_read, fill, make, open, race, rest, set, set_all, wait, wake,
-};
-pub use toy::{Entry, FILLED, OPEN, SLOTS, Toy, UNMADE, WAITING, WAITS};
+pub use play::{Job, Worked, work, work_all};
+pub use threads::{Plan, Ran, run};
+pub use toy::{Entry, Toy};
 
 #[cfg(test)]
 mod tests;

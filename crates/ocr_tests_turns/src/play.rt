@@ -1,284 +1,182 @@
-// What clerks do with the toy's EDT.
-ghost use Rattle.std.specs.Prelude.{◌≡◌, All, true, ◌<◌, ◌≤◌, ◌+◌, ◌++◌, ◌∷◌, [], Some, IfOk, MatchOption};
-ghost use Rattle.ocr_turns.specs.Contract.{IsOf, TermsAre};
-ghost use Rattle.ocr_tests_turns.specs.Clerks.{CanMake, CanSet, CanWait, CanWake, IsIdle, Owes};
+// What clerks do with the toy's counters.
+ghost use Rattle.std.specs.Prelude.{◌≡◌, ◌<◌, ◌≤◌, ◌+◌, ◌*◌, [], All, IfOk, IsTrue, vec_len};
+ghost use Rattle.ocr_mail.specs.Mail as mail;
+ghost use Rattle.ocr_turns.specs.Contract.{IsOf};
+ghost use Rattle.ocr_tests_turns.specs.Clerks.{IsIdle, IsOut};
 
-use crate::toy::{Entry, FILLED, OPEN, SLOTS, Toy, UNMADE, WAITING, WAITS};
+use crate::toy::{Entry, Toy};
 use ocr_base::NoMemory;
-use ocr_count::{Claimed, Down, claim, count_down, count_made, park, payload, put_payload, resume};
-use ocr_guid::Guid;
-use ocr_turns::{Change, Clerk, Committed, Drawn, Taken, Turns};
+use ocr_turns::{Change, Clerk, Committed, Taken, Turns};
 use std::alloc::{AllocError, Global};
 use std::sync::Wait;
 use std::thread;
 use std::thread::Threads;
 
-/// The EDT that the toy makes.
-pub const EDT: Guid = Guid(2);
+/// How many places the clerks use.
+pub(crate) const PLACES: u64 = 5;
 
-/// A table of the toy for two clerks besides the root.
-pub fn open(alloc: Global) -> Result<(Turns<Toy>, Clerk<Toy>), NoMemory>
-    ensures { IfOk result (λ t. IsIdle t.0 t.1 × (t.1.view.root ≡ 1) × (t.1.view.quota ≡ 2)
-        × (t.1.view.weight ≡ 0) × (t.1.view.facts ≡ []) × (t.0.1.share ≡ 16)) }
-{
-    let setting = 0;
-    let opening = vec![in alloc; (1, UNMADE)]?;
-    Turns::new(alloc, &setting, opening, 2, 16, 3)
+/// What a clerk is to do.
+#[derive(Drop)]
+pub struct Job {
+    pub clerk: Clerk<Toy>,
+    /// How often it takes a place and gives it back, how many entries it makes then, and whether it
+    /// ends the run at last.
+    pub visits: u64,
+    pub turns: u64,
+    pub closes: bool,
 }
 
-/// Makes the EDT, and counts its making. `None`, where it is made.
-pub fn make<R: Wait>(
-    rt: &R,
-    alloc: Global,
-    turns: &Turns<Toy>,
-    clerk: &mut Clerk<Toy>,
-) -> Result<Option<Down>, NoMemory>
-    requires idle { IsIdle turns.now clerk.old }
-    requires light { clerk.old.view.weight + 1 ≤ turns.now.1.share }
-    ensures idle { IfOk result (λ r. MatchOption r (Unit {0}) (λ _. IsIdle turns.now clerk.new
-        × (clerk.new.view.weight ≡ clerk.old.view.weight + 1)
-        × (clerk.new.view.facts ≡ clerk.old.view.facts)
-        × (clerk.new.view.root ≡ clerk.old.view.root)
-        × (clerk.new.view.quota ≡ clerk.old.view.quota))) }
+/// What a clerk did.
+#[derive(Drop)]
+pub struct Worked {
+    pub clerk: Clerk<Toy>,
+    /// All that it was to do was done.
+    pub is_whole: bool,
+}
+
+// The name of a message that the clerk owes.
+fn owed_message(clerk: &Clerk<Toy>) -> Option<(u64, u32)>
+    ensures { mail.Has result clerk.now.view.owed }
 {
-    let parts = vec![in alloc; (SLOTS, OPEN), (SLOTS + 1, OPEN)]?;
-    turns.reserve(alloc, clerk, 0)?;
-    if !take_unmade(rt, turns, clerk) {
-        return Ok(None);
+    let owed = clerk.owed();
+    if owed.is_empty() {
+        return None;
     }
-    let change = Change {
-        parts,
-        messages: Vec::new(alloc),
-    };
-    let Committed::At(_) = turns.commit(clerk, Entry::Make, change) else {
-        return Ok(None);
-    };
-    turns.give_back(clerk, SLOTS);
-    turns.give_back(clerk, SLOTS + 1);
-    Ok(Some(count_made(turns, clerk, EDT, 2)))
+    Some((owed[0].0, owed[0].1))
 }
 
-// Draws the number of the EDT and takes the parts of its slots, where these are not made.
-fn take_unmade<R: Wait>(rt: &R, turns: &Turns<Toy>, clerk: &mut Clerk<Toy>) -> bool
-    requires idle { IsIdle turns.now clerk.old }
-    ensures { result ≡ true → CanMake turns.now clerk.old clerk.new }
-{
-    let Drawn::Place(2) = turns.draw(clerk) else {
-        return false;
-    };
-    let Taken::Mine = turns.take(rt, clerk, SLOTS) else {
-        return false;
-    };
-    let Taken::Mine = turns.take(rt, clerk, SLOTS + 1) else {
-        return false;
-    };
-    *clerk.part(SLOTS) == UNMADE && *clerk.part(SLOTS + 1) == UNMADE
-}
-
-/// Sets a slot and puts its payload. `false`, where the slot is not open.
-pub fn fill<R: Wait>(
+/// Takes a place, adds to its counter by one entry, which delivers a message that the clerk owes,
+/// and gives the place back. False where the run has ended, or counter or log are full.
+pub fn turn<R: Wait>(
     rt: &R,
     alloc: Global,
     turns: &Turns<Toy>,
     clerk: &mut Clerk<Toy>,
-    slot: u32,
-    payload: u64,
+    place: u64,
+    count: u64,
 ) -> Result<bool, NoMemory>
-    requires { CanSet turns.now slot clerk.old }
-    ensures { IfOk result (λ done. done ≡ true → Owes turns.now ((2, slot, payload) ∷ []) clerk.new
-        × (clerk.new.view.weight ≡ clerk.old.view.weight + 1)
-        × (clerk.new.view.facts ≡ clerk.old.view.facts ++ (2, slot, payload) ∷ [])) }
+    requires idle { IsIdle turns.now clerk.old }
+    requires place { place ≤ 2 * turns.now.1.limit }
+    ensures out { IsOut turns.now clerk.new }
+    ensures idle { IfOk result (λ goes. IsTrue goes → IsIdle turns.now clerk.new) }
 {
-    let place = SLOTS + slot as u64;
-    let parts = vec![in alloc; (place, FILLED)]?;
-    turns.reserve(alloc, clerk, 0)?;
+    if clerk.weight() >= turns.share() {
+        return Ok(false);
+    }
+    turns.reserve(alloc, clerk, 1)?;
     let Taken::Mine = turns.take(rt, clerk, place) else {
         return Ok(false);
     };
-    if *clerk.part(place) != OPEN {
+    let found = *clerk.part(place);
+    let Some(after) = found.checked_add(count) else {
         return Ok(false);
-    }
-    let change = Change {
-        parts,
-        messages: Vec::new(alloc),
     };
-    let Committed::At(_) = turns.commit(clerk, Entry::Set { slot, payload }, change) else {
+    let change = Change {
+        parts: vec![in alloc; (place, after)]?,
+        messages: vec![in alloc; count]?,
+    };
+    let entry = Entry::Add {
+        place,
+        found,
+        count,
+        delivered: owed_message(clerk),
+    };
+    let Committed::At(_) = turns.commit(clerk, entry, change) else {
         return Ok(false);
     };
     turns.give_back(clerk, place);
-    put_payload(turns, clerk, EDT, slot, payload);
     Ok(true)
 }
 
-/// Sets a slot, puts its payload and counts it. `None`, where the slot is not open.
-pub fn set<R: Wait>(
+// So many turns, one place after the other. False where one was refused.
+fn make_turns<R: Wait>(
     rt: &R,
     alloc: Global,
     turns: &Turns<Toy>,
     clerk: &mut Clerk<Toy>,
-    slot: u32,
-    payload: u64,
-) -> Result<Option<Down>, NoMemory>
-    requires { CanSet turns.now slot clerk.old }
-    ensures { IfOk result (λ r. MatchOption r (Unit {0}) (λ _. IsIdle turns.now clerk.new
-        × (clerk.new.view.weight ≡ clerk.old.view.weight + 1)
-        × (clerk.new.view.facts ≡ clerk.old.view.facts ++ (2, slot, payload) ∷ []))) }
+    count: u64,
+) -> bool
+    requires idle { IsIdle turns.now clerk.old }
+    ensures out { IsOut turns.now clerk.new }
+    ensures idle { IsTrue result → IsIdle turns.now clerk.new }
 {
-    if !fill(rt, alloc, turns, clerk, slot, payload)? {
-        return Ok(None);
+    for k in 0..count {
+        let Ok(true) = turn(rt, alloc, turns, clerk, k % PLACES, k) else {
+            return false;
+        };
     }
-    Ok(Some(count_down(turns, clerk, EDT)))
+    true
 }
 
-/// A clerk with the slot that it is to set.
-#[derive(Drop)]
-pub struct Setter {
-    pub slot: u32,
-    pub clerk: Clerk<Toy>,
+// Takes the first place and gives it back, without an entry. False where it was refused.
+fn visit<R: Wait>(rt: &R, turns: &Turns<Toy>, clerk: &mut Clerk<Toy>) -> bool
+    requires { IsIdle turns.now clerk.old }
+    ensures out { IsOut turns.now clerk.new }
+    ensures idle { IsTrue result → IsIdle turns.now clerk.new }
+{
+    let Taken::Mine = turns.take(rt, clerk, 0) else {
+        return false;
+    };
+    turns.give_back(clerk, 0);
+    true
 }
 
-/// Lets each clerk set its slot, each in a thread.
-pub fn set_all<R: Threads + Wait + Sync>(
+// So many visits. False where one was refused.
+fn make_visits<R: Wait>(rt: &R, turns: &Turns<Toy>, clerk: &mut Clerk<Toy>, count: u64) -> bool
+    requires { IsIdle turns.now clerk.old }
+    ensures out { IsOut turns.now clerk.new }
+    ensures idle { IsTrue result → IsIdle turns.now clerk.new }
+{
+    for _ in 0..count {
+        if !visit(rt, turns, clerk) {
+            return false;
+        }
+    }
+    true
+}
+
+// Ends the run. False where it had ended.
+fn stop(turns: &Turns<Toy>, clerk: &mut Clerk<Toy>) -> bool
+    requires { IsIdle turns.now clerk.old }
+    ensures { IsOut turns.now clerk.new }
+{
+    matches!(turns.close(clerk, Entry::Stop), Committed::At(_))
+}
+
+/// Does a job.
+pub fn work<R: Wait>(rt: &R, alloc: Global, turns: &Turns<Toy>, job: Job) -> Worked
+    requires idle { IsIdle turns.now job.clerk }
+    ensures { IsOut turns.now result.clerk }
+{
+    let Job {
+        mut clerk,
+        visits,
+        turns: entries,
+        closes,
+    } = job;
+    let is_whole = make_visits(rt, turns, &mut clerk, visits)
+        && make_turns(rt, alloc, turns, &mut clerk, entries)
+        && (!closes || stop(turns, &mut clerk));
+    Worked { clerk, is_whole }
+}
+
+/// Does each job in a thread of its own.
+pub fn work_all<R: Threads + Wait + Sync>(
     rt: &R,
     alloc: Global,
     turns: &Turns<Toy>,
-    setters: Vec<Setter>,
-) -> Result<Vec<Option<Down>>, AllocError>
-    requires { All (λ s. CanSet turns.now s.slot s.clerk) setters.items }
+    jobs: Vec<Job>,
+) -> Result<Vec<Worked>, AllocError>
+    requires jobs { All (λ job. IsIdle turns.now job.clerk) jobs.items }
+    ensures many { IfOk result (λ v. vec_len v ≡ vec_len jobs) }
+    ensures out { IfOk result (λ v. All (λ w. IsOut turns.now w.clerk) v.items) }
 {
     thread::map_vec(
         rt,
-        setters,
-        &|setter: Setter| -> Option<Down>
-            requires { CanSet turns.now setter.slot setter.clerk }
-        {
-            let Setter { slot, mut clerk } = setter;
-            match set(rt, alloc, turns, &mut clerk, slot, 7) {
-                Ok(answer) => answer,
-                Err(NoMemory) => None,
-            }
-        },
+        jobs,
+        &|job: Job| -> Worked
+            requires { IsIdle turns.now job.clerk }
+            ensures { IsOut turns.entry.now result.clerk }
+        { work(rt, alloc, turns, job) },
     )
-}
-
-/// Makes the EDT, and lets two threads set its slots: what their countdowns answer.
-pub fn race<R: Threads + Wait + Sync>(
-    rt: &R,
-    alloc: Global,
-) -> Result<Option<Vec<Option<Down>>>, NoMemory> {
-    let (turns, mut root) = open(alloc)?;
-    let Some(_) = make(rt, alloc, &turns, &mut root)? else {
-        return Ok(None);
-    };
-    let first = turns.split(alloc, &mut root)?;
-    let second = turns.split(alloc, &mut root)?;
-    let setters = vec![in alloc;
-        Setter {
-            slot: 0,
-            clerk: first
-        },
-        Setter {
-            slot: 1,
-            clerk: second
-        },
-    ]?;
-    Ok(Some(set_all(rt, alloc, &turns, setters)?))
-}
-
-/// Claims the EDT, and reads its payloads. `Err` has the EDT's word, where it is not ready.
-pub fn claim_and_read(
-    turns: &Turns<Toy>,
-    clerk: &mut Clerk<Toy>,
-    first: u64,
-    second: u64,
-) -> Result<(u64, u64), u64>
-    requires idle { IsIdle turns.now clerk.old }
-    requires light { clerk.old.view.weight + 2 ≤ turns.now.1.share }
-    requires facts { clerk.old.view.facts ≡ (2, 0, first) ∷ (2, 1, second) ∷ [] }
-    ensures claimed { IfOk result (λ _. CanWait turns.now first second clerk.new) }
-{
-    match claim(turns, clerk, EDT) {
-        Claimed::Won => {
-            let zeroth = payload(turns, clerk, EDT, 0);
-            Ok((zeroth, payload(turns, clerk, EDT, 1)))
-        }
-        Claimed::Lost(word) => Err(word),
-    }
-}
-
-/// Lets the claimed EDT wait, and parks it. `false`, where it waits.
-pub fn wait<R: Wait>(
-    rt: &R,
-    alloc: Global,
-    turns: &Turns<Toy>,
-    clerk: &mut Clerk<Toy>,
-    first: u64,
-    second: u64,
-) -> Result<bool, NoMemory>
-    requires { CanWait turns.now first second clerk.old }
-    ensures { IfOk result (λ done. done ≡ true → CanWake turns.now clerk.new) }
-{
-    let parts = vec![in alloc; (WAITS, WAITING)]?;
-    turns.reserve(alloc, clerk, 0)?;
-    let Taken::Mine = turns.take(rt, clerk, WAITS) else {
-        return Ok(false);
-    };
-    if *clerk.part(WAITS) != 0 {
-        return Ok(false);
-    }
-    let change = Change {
-        parts,
-        messages: Vec::new(alloc),
-    };
-    let Committed::At(_) = turns.commit(clerk, Entry::Wait, change) else {
-        return Ok(false);
-    };
-    park(turns, clerk, EDT);
-    Ok(true)
-}
-
-/// Resumes the EDT.
-pub fn wake(alloc: Global, turns: &Turns<Toy>, clerk: &mut Clerk<Toy>) -> Result<bool, NoMemory>
-    requires { CanWake turns.now clerk.old }
-    ensures { IfOk result (λ done. done ≡ true → IsOf turns.now clerk.new) }
-{
-    let parts = vec![in alloc; (WAITS, 0)]?;
-    turns.reserve(alloc, clerk, 0)?;
-    let change = Change {
-        parts,
-        messages: Vec::new(alloc),
-    };
-    let Committed::At(_) = turns.commit(clerk, Entry::Wake, change) else {
-        return Ok(false);
-    };
-    resume(turns, clerk, EDT);
-    Ok(true)
-}
-
-/// Lets the claimed EDT wait, tries a claim, resumes it and claims it: the word that the first
-/// claim met, where the second was won.
-pub fn rest<R: Wait>(
-    rt: &R,
-    alloc: Global,
-    turns: &Turns<Toy>,
-    clerk: &mut Clerk<Toy>,
-    first: u64,
-    second: u64,
-) -> Result<Option<u64>, NoMemory>
-    requires { CanWait turns.now first second clerk.old }
-    ensures { IfOk result (λ r. MatchOption r (Unit {0}) (λ _. IsOf turns.now clerk.new)) }
-{
-    if !wait(rt, alloc, turns, clerk, first, second)? {
-        return Ok(None);
-    }
-    let Claimed::Lost(parked) = claim(turns, clerk, EDT) else {
-        return Ok(None);
-    };
-    if !wake(alloc, turns, clerk)? {
-        return Ok(None);
-    }
-    match claim(turns, clerk, EDT) {
-        Claimed::Won => Ok(Some(parked)),
-        Claimed::Lost(_) => Ok(None),
-    }
 }

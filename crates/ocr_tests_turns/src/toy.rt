@@ -1,4 +1,4 @@
-// A machine with one EDT to be made, number 2, whose two slots and whose wait have a place each.
+// A machine with a counter at each place.
 ghost use Rattle.ocr_tests_turns.specs.Toy as toy;
 ghost use Rattle.ocr_tests_turns.specs.Laws as laws;
 
@@ -9,30 +9,19 @@ use std::alloc::Global;
 /// What the toy's history consists of.
 #[derive(Drop)]
 pub enum Entry {
-    /// Makes the EDT.
-    Make,
-    /// Sets a slot of it.
-    Set { slot: u32, payload: u64 },
-    /// Lets it wait, once all its slots are set.
-    Wait,
-    /// Resumes it.
-    Wake,
+    /// Adds to the counter of a place, which stood as found, sends the count as a message, and may
+    /// deliver one.
+    Add {
+        place: u64,
+        found: u64,
+        count: u64,
+        delivered: Option<(u64, u32)>,
+    },
+    /// Ends the run.
+    Stop,
 }
 
-/// The part of a slot's place: the EDT is not made.
-pub const UNMADE: u64 = 0;
-/// The EDT is made, and the slot is not set.
-pub const OPEN: u64 = 1;
-/// The slot is set.
-pub const FILLED: u64 = 2;
-/// The place of the EDT's wait, and its part while it waits.
-pub const WAITS: u64 = 2;
-
-pub const WAITING: u64 = 1;
-/// The place of slot 0. That of slot 1 comes after it.
-pub const SLOTS: u64 = 3;
-
-/// A machine for tests of the words that count.
+/// A machine for tests of the table.
 #[derive(Drop)]
 pub struct Toy;
 
@@ -45,12 +34,12 @@ impl Machine for Toy {
 
     type Message = u64;
 
-    type Fact = (u64, u32, u64);
+    type Fact = u64;
 
     ghost meaning = { toy.meaning };
 
     fn vacant() -> u64 {
-        UNMADE
+        0
     }
 
     fn first() -> (u64, u64) {
@@ -59,22 +48,27 @@ impl Machine for Toy {
 
     fn places(alloc: Global, entry: &Entry, _limit: u64) -> Result<Vec<u64>, NoMemory> {
         match entry {
-            Entry::Make => Ok(vec![in alloc; SLOTS, SLOTS + 1]?),
-            Entry::Set { slot, .. } => Ok(vec![in alloc; SLOTS + *slot as u64]?),
-            Entry::Wait | Entry::Wake => Ok(vec![in alloc; WAITS]?),
+            Entry::Add { place, .. } => Ok(vec![in alloc; *place]?),
+            Entry::Stop => Ok(Vec::new(alloc)),
         }
     }
 
-    fn weight(_entry: &Entry) -> u64 {
-        1
+    fn weight(entry: &Entry) -> u64 {
+        match entry {
+            Entry::Add { .. } => 1,
+            Entry::Stop => 0,
+        }
     }
 
-    fn ends(_entry: &Entry) -> bool {
-        false
+    fn ends(entry: &Entry) -> bool {
+        matches!(entry, Entry::Stop)
     }
 
-    fn delivers(_entry: &Entry) -> Option<(u64, u32)> {
-        None
+    fn delivers(entry: &Entry) -> Option<(u64, u32)> {
+        match entry {
+            Entry::Add { delivered, .. } => *delivered,
+            Entry::Stop => None,
+        }
     }
 
     ghost laws = { laws.laws };

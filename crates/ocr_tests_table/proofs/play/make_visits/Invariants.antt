@@ -1,5 +1,0 @@
-use Rattle.ocr_tests_table.specs.Clerks.{IsIdle}
-use Rattle.ocr_tests_table.proofs.play.make_visits.Given as goal
-
-abbrev pub invariant-loop : goal.invariant-loop
-invariant-loop g l = IsIdle l.turns l.clerk

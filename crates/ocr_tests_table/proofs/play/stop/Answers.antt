@@ -1,5 +1,0 @@
-use Rattle.ocr_tests_table.proofs.Adding.{may_stop}
-use Rattle.ocr_tests_table.proofs.play.stop.Goals as goal
-
-pub close-requires-clause-may : goal.close-requires-clause-may
-close-requires-clause-may c = λ goes. may_stop c.args.turns.now.1 c.args.clerk.now.view

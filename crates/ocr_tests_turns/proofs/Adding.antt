@@ -1,0 +1,80 @@
+-- A clerk that keeps a place may add to its counter.
+use Rattle.std.proofs.Common.{◌≡◌, ℕ, zero, suc, ◌+◌, ◌<◌, ◌≤◌, ◌==◌, Bool, true, false, if◌then◌else◌, List, [], ◌∷◌, ◌++◌, length, reverse, slice_index_or, ap, sym, ◌∙◌, subst, refl, arith}
+use Rattle.std.proofs.lemmas.Grind.{common_steps}
+use Rattle.std.specs.Prelude.{Option, Some, None}
+use Rattle.std.proofs.lemmas.List.{reverse-append}
+use mathlib.Core.Option.{some, some-injective, some-ne-none}
+use lib.ListN.{get_elem?}
+use Rattle.ocr_mail.specs.Mail.{Has}
+use Rattle.ocr_turns.specs.declared.view.View.{View}
+use Rattle.ocr_turns.specs.declared.view.Terms.{Terms}
+use Rattle.ocr_turns.specs.Contract.{Claims, Keeps, Legal, MayClose, MayCommit}
+use Rattle.ocr_turns.specs.Steps.{deed}
+use Rattle.ocr_turns.specs.Sums.{weigh, one_at}
+use Rattle.ocr_tests_turns.specs.declared.toy.Entry.{Entry}
+use Rattle.ocr_tests_turns.specs.declared.toy.Entry.TheVariants.{Add, Stop}
+use Rattle.ocr_tests_turns.specs.Toy.{counter_at, legal, part, meaning}
+
+pub first_has : (xs owed : List (ℕ × ℕ × ℕ)) → xs ≡ owed → 0 < length xs → Has (Some ((slice_index_or xs 0 (0, 0, 0)).0, (slice_index_or xs 0 (0, 0, 0)).1)) owed
+first_has [] owed same filled = absurd (omega (arith, filled))
+first_has (x ∷ xs) owed same filled = (0, x.2, ap (λ l. get_elem? l 0) (sym same))
+
+same_is : (p : ℕ) → (p == p) ≡ true
+same_is p = grind arith
+
+when : {A : Type 0} (b : Bool) (x y : A) → b ≡ true → (if b then x else y) ≡ x
+when true x y is = refl
+when false x y is = absurd (cc is)
+
+one_part : (y x k p q : ℕ) → get_elem? {A = ℕ × ℕ} ((q, y) ∷ []) k ≡ some (p, x) → ◌≡◌ {A = ℕ × ℕ} (q, y) (p, x)
+one_part y x zero p q at = some-injective (q, y) (p, x) at
+one_part y x (suc k) p q at = absurd (some-ne-none (p, x) (sym at))
+
+legal_add : (t : Terms ℕ) (v : View ℕ Entry ℕ ℕ ℕ) (p found n : ℕ) (d : Option (ℕ × ℕ)) → v.parts ≡ (p, found) ∷ []
+    → Legal meaning t v (deed meaning t.limit v (Add p found n d) ((p, found + n) ∷ []) (n ∷ []))
+unfolding part legal
+legal_add t v p found n d are J goes fits =
+    let was : part t.setting.value t.limit J p ≡ found = fits.parts 0 p found (ap (λ ps. get_elem? ps 0) are) in
+    let now : part t.setting.value t.limit (J ++ Add p found n d ∷ []) p ≡ found + n = ap (λ l. counter_at l p) (reverse-append J (Add p found n d ∷ [])) ∙ (when (p == p) (counter_at (reverse J) p + n) (counter_at (reverse J) p) (same_is p) ∙ ap (λ x. x + n) was) in
+    record {
+      legal = was;
+      parts = λ k q x at. let same = one_part (found + n) x k q p at in ap (λ (z : ℕ × ℕ). part t.setting.value t.limit (J ++ Add p found n d ∷ []) z.0) (sym same) ∙ (now ∙ ap (λ (z : ℕ × ℕ). z.1) same);
+      sends = refl;
+      facts = λ k f at. tt;
+      wakes = refl;
+    }
+
+claims_add : (t : Terms ℕ) (v : View ℕ Entry ℕ ℕ ℕ) (p found n : ℕ) (d : Option (ℕ × ℕ)) (ps : List (ℕ × ℕ)) (ms : List ℕ)
+    → Claims meaning t v (deed meaning t.limit v (Add p found n d) ps ms)
+claims_add t v p found n d ps ms = record {
+  starts = λ n is. absurd (cc is);
+  waits = λ n p is. absurd (cc is);
+  resumes = λ n is. absurd (omega (arith, is));
+}
+
+keeps_add : (t : Terms ℕ) (v : View ℕ Entry ℕ ℕ ℕ) (p found n after : ℕ) (d : Option (ℕ × ℕ)) → v.parts ≡ (p, found) ∷ []
+    → Keeps meaning t v (Add p found n d) ((p, after) ∷ [])
+keeps_add t v p found n after d are q = (refl, subst (λ ps. one_at q p + 0 ≤ weigh (one_at q) ps) (sym are) (omega arith))
+
+pub may_add : (t : Terms ℕ) (v : View ℕ Entry ℕ ℕ ℕ) (p found n after : ℕ) (d : Option (ℕ × ℕ)) (ps : List (ℕ × ℕ)) (ms : List ℕ)
+    → v.parts ≡ (p, found) ∷ [] → v.weight < t.share → Has d v.owed → ps ≡ (p, after) ∷ [] → after ≡ found + n → ms ≡ n ∷ []
+    → MayCommit meaning t v (Add p found n d) ps ms
+may_add t v p found n after d ps ms are light has changed sum sent =
+    let parts : ps ≡ (p, found + n) ∷ [] = changed ∙ ap (λ x. (p, x) ∷ []) sum in
+    subst (λ ps. MayCommit meaning t v (Add p found n d) ps ms) (sym parts) (subst (λ ms. MayCommit meaning t v (Add p found n d) ((p, found + n) ∷ []) ms) (sym sent) (record {
+      goes = refl;
+      share = omega (arith, light);
+      owes = has;
+      drawn = tt;
+      keeps = keeps_add t v p found n (found + n) d are;
+      claims = claims_add t v p found n d ((p, found + n) ∷ []) (n ∷ []);
+      legal = legal_add t v p found n d are;
+    }))
+
+-- the part that was taken is the one at hand
+pub taken_part : (p x found : ℕ) → (if p == p then Some (Some x) else None) ≡ Some (Some found) → x ≡ found
+taken_part p x found at = grind (arith, common_steps, at, same_is p)
+
+pub may_stop : (t : Terms ℕ) (v : View ℕ Entry ℕ ℕ ℕ) → MayClose meaning t v Stop
+unfolding legal
+may_stop t v = record { stops = refl; legal = λ J goes fits. tt }

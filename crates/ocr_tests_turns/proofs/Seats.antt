@@ -1,0 +1,33 @@
+-- Clerks of the toy that are made and come home.
+use Rattle.std.proofs.Common.{◌≡◌, ℕ, ◌+◌, ◌-◌, ◌≤◌, [], ap, ◌∙◌, arith}
+use Rattle.atomic_table.specs.Seated.{TableId}
+use Rattle.ocr_turns.specs.Steps.{fresh, gathered, parted}
+use Rattle.ocr_turns.specs.declared.view.Terms.{Terms}
+use Rattle.ocr_tests_turns.specs.Clerks.{Hand, IsIdle, IsRoot}
+
+pub hired : (t : TableId × Terms ℕ) (root clerk : Hand) (n : ℕ) → IsRoot t root n → clerk.table ≡ root.table → clerk.view ≡ fresh root.view → clerk.parts ≡ [] → 1 ≤ clerk.room → 64 ≤ clerk.spare → IsIdle t clerk
+hired t root clerk n is table view parts room spare = record {
+  limit = is.limit;
+  out = ((table ∙ is.of.0, ap (λ v. v.terms) view ∙ is.of.1), ap (λ v. v.root) view);
+  hand = parts;
+  parts = ap (λ v. v.parts) view;
+  claims = ap (λ v. v.claims) view;
+  spare = omega (arith, spare);
+  room = room;
+}
+
+pub hires : (t : TableId × Terms ℕ) (root after : Hand) (n : ℕ) → IsRoot t root n → after.table ≡ root.table → after.view ≡ parted root.view → IsRoot t after (n + 1)
+hires t root after n is table view = record {
+  limit = is.limit;
+  of = (table ∙ is.of.0, ap (λ v. v.terms) view ∙ is.of.1);
+  root = ap (λ v. v.root) view ∙ is.root;
+  out = ap (λ v. v.out) view ∙ ap (λ x. x + 1) is.out;
+}
+
+pub gathers : (t : TableId × Terms ℕ) (root clerk after : Hand) (n m : ℕ) → IsRoot t root n → after.table ≡ root.table → after.view ≡ gathered root.view clerk.view → n ≡ m + 1 → IsRoot t after m
+gathers t root clerk after n m is table view less = record {
+  limit = is.limit;
+  of = (table ∙ is.of.0, ap (λ v. v.terms) view ∙ is.of.1);
+  root = ap (λ v. v.root) view ∙ is.root;
+  out = ap (λ v. v.out) view ∙ (ap (λ x. x - 1) is.out ∙ omega (arith, less));
+}
