@@ -28,6 +28,7 @@ pub const FILLED: u64 = 2;
 /// The place of the EDT's wait, and its part while it waits.
 pub const WAITS: u64 = 2;
 
+/// The part of the place at which an EDT waits.
 pub const WAITING: u64 = 1;
 /// The place of slot 0. That of slot 1 comes after it.
 pub const SLOTS: u64 = 3;

@@ -8,6 +8,7 @@ use crate::view::{Terms, View};
 use atomic_table::{Join, Play, Split, TableRule};
 use std::marker::{Brand, PhantomData};
 
+/// The rule that every step on the table keeps, for the proof alone.
 pub struct Rules<M> {
     machine: PhantomData<M>,
 }
