@@ -1,22 +1,25 @@
 -- The words of the walker's contracts: how an Api goes on, and which part of a body was done.
 use Rattle.std.specs.Prelude.{◌≡◌, ◌≤◌, ℕ, List, Option, Bool, true, length}
-use Rattle.ocr_tree.specs.Tree.{While}
-use Rattle.ocr_body.specs.Behaviour.{Behaviour}
-use Rattle.ocr_body.specs.Body.{behaviour, says}
-use Rattle.ocr_body.specs.Code.{are_distinct, is_placed, are_args_placed, is_step_placed, are_placed, call_name, all_arguments, arguments_at, expression_at, statement_at, statements_in}
-use Rattle.ocr_body.specs.Local.{state_of, frame_of, numbers_of, given_of, output_at, Flows, Leaves}
-use Rattle.ocr_body.specs.Meaning.{State, Value, Given}
-use Rattle.ocr_body.specs.Meaning as meaning
 use Rattle.ocr_base.specs.Count.{Rose}
-use Rattle.ocr_body.specs.Serving.{IsTrace, HasValue, StoppedBy}
+use Rattle.ocr_tree.specs.Tree.{While}
+use Rattle.ocr_tree.specs.declared.tree.CallName.{CallName}
+use Rattle.ocr_meaning.specs.Behaviour.{Behaviour, IsTrace}
+use Rattle.ocr_meaning.specs.Body.{behaviour, says}
+use Rattle.ocr_meaning.specs.Holds.{Holds}
+use Rattle.ocr_meaning.specs.Meaning.{State, Value, Given}
+use Rattle.ocr_meaning.specs.Meaning as meaning
+use Rattle.ocr_meaning.specs.declared.call.BodyStop.{BodyStop}
+use Rattle.ocr_meaning.specs.declared.call.Call.{Call}
+use Rattle.ocr_code.specs.Code.{are_distinct, is_placed, is_call_placed, are_args_placed, is_step_placed, are_placed, call_name, call_arguments, arguments_at, expression_at, statement_at, statements_in}
+use Rattle.ocr_code.specs.declared.code.ArgCode.{ArgCode}
+use Rattle.ocr_code.specs.declared.code.CallCode.{CallCode}
+use Rattle.ocr_code.specs.declared.code.ExprCode.{ExprCode}
+use Rattle.ocr_code.specs.declared.code.StmtCode.{StmtCode}
+use Rattle.ocr_body.specs.Local.{value_in, state_of, frame_of, numbers_of, given_of, output_at, way_step, Flows, Leaves}
+use Rattle.ocr_body.specs.Serving.{HasValue, StoppedBy}
 use Rattle.ocr_body.specs.declared.api.Api.{Ghosts}
-use Rattle.ocr_body.specs.declared.call.BodyStop.{BodyStop}
-use Rattle.ocr_body.specs.declared.call.Call.{Call}
-use Rattle.ocr_body.specs.declared.code.ArgCode.{ArgCode}
-use Rattle.ocr_body.specs.declared.code.ExprCode.{ExprCode}
-use Rattle.ocr_body.specs.declared.code.Operation.{Operation}
-use Rattle.ocr_body.specs.declared.code.StmtCode.{StmtCode}
 use Rattle.ocr_body.specs.declared.given.Given as found
+use Rattle.ocr_body.specs.declared.given.Way.{Way}
 use Rattle.ocr_body.specs.declared.local.Flow.{Flow}
 use Rattle.ocr_body.specs.declared.local.Frame as walker
 use Rattle.ocr_body.specs.declared.local.Local.{Local}
@@ -54,72 +57,125 @@ pub record StillFits (f : walker.Frame) (before now : Local) : Type 0 where
   pub room : length now.values.items ≡ length f.names.now
   pub fuel : now.fuel ≤ before.fuel
 
+-- after a part that keeps its state
+pub record Keeps (before now : Local) : Type 0 where
+  pub fuel : now.fuel ≡ before.fuel
+  pub code : now.code ≡ before.code
+  pub values : now.values ≡ before.values
+
 -- code over the names of this body and the functions of its program
 abbrev pub is_expr_in : walker.Frame → ExprCode → Bool
-is_expr_in f e = is_placed (numbers_of f) (length f.names.now) e
+is_expr_in f e = is_placed (numbers_of f) f.names.now e
+
+abbrev pub is_call_in : walker.Frame → CallCode → Bool
+is_call_in f c = is_call_placed (numbers_of f) f.names.now c
 
 abbrev pub are_args_in : walker.Frame → ArgCode → Bool
-are_args_in f args = are_args_placed (numbers_of f) (length f.names.now) args
+are_args_in f args = are_args_placed (numbers_of f) f.names.now args
 
 abbrev pub is_stmt_in : walker.Frame → StmtCode → Bool
-is_stmt_in f s = is_step_placed (numbers_of f) (length f.names.now) s
+is_stmt_in f s = is_step_placed (numbers_of f) f.names.now s
 
 abbrev pub are_stmts_in : walker.Frame → List StmtCode → Bool
-are_stmts_in f ss = are_placed (numbers_of f) (length f.names.now) ss
+are_stmts_in f ss = are_placed (numbers_of f) f.names.now ss
 
--- the state of the body
-abbrev pub state_in : walker.Frame → Local → State
-state_in f l = state_of f.names.now l
+-- the state of the body, whose EDT holds this
+abbrev pub state_in : walker.Frame → Holds → Local → State
+state_in f holds l = state_of f.names.now holds l
 
--- the parts of the body, from this state on: an expression, a call, arguments, a statement,
--- statements, a loop, and a call that has codes, once its arguments are found
-abbrev pub expr_part : walker.Frame → ExprCode → Local → (Value → Behaviour)
-expr_part f e l = meaning.eval (frame_of f) (expression_at f.names.now e) (state_in f l)
+-- the parts of the body, from this state on: an expression, a call, arguments, a call once its
+-- arguments are found and once it is known what it comes to, a call that has codes, a load, a
+-- store, a statement, statements, and a loop
+abbrev pub expr_part : walker.Frame → ExprCode → Holds → Local → (Value → Behaviour)
+expr_part f e holds l =
+    meaning.eval (frame_of f) (expression_at f.names.now e) (state_in f holds l)
 
-abbrev pub call_part : walker.Frame → Operation → ArgCode → Local → (Value → Behaviour)
-call_part f op args l =
+abbrev pub call_part : walker.Frame → CallCode → Holds → Local → (Value → Behaviour)
+call_part f c holds l =
     meaning.invoke
     (frame_of f)
-    (call_name op)
-    (all_arguments op (arguments_at f.names.now args))
-    (state_in f l)
+    (call_name c)
+    (call_arguments f.names.now c)
+    (state_in f holds l)
 
-abbrev pub args_part : walker.Frame → ArgCode → found.Given → Local
+abbrev pub coded_part : walker.Frame → CallName → ArgCode → Holds → Local → (Value → Behaviour)
+coded_part f name args holds l =
+    meaning.invoke (frame_of f) name (arguments_at f.names.now args) (state_in f holds l)
+
+abbrev pub args_part : walker.Frame → ArgCode → found.Given → Holds → Local
     → ((Given → State → Behaviour) → Behaviour)
-args_part f args g l =
-    meaning.eval_all (frame_of f) (arguments_at f.names.now args) (given_of g) (state_in f l)
+args_part f args g holds l =
+    meaning.eval_all (frame_of f) (arguments_at f.names.now args) (given_of g) (state_in f holds l)
 
-abbrev pub stmt_part : walker.Frame → StmtCode → Local → ((State → Behaviour) → Behaviour)
-stmt_part f s l = meaning.exec (frame_of f) (statement_at f.names.now s) (state_in f l)
+abbrev pub made_part : walker.Frame → CallName → ArgCode → found.Given → Holds → Local
+    → (Value → Behaviour)
+made_part f name args g holds l =
+    meaning.call_step
+    (frame_of f)
+    name
+    (arguments_at f.names.now args)
+    (given_of g)
+    (state_in f holds l)
 
-abbrev pub stmts_part : walker.Frame → List StmtCode → Local → ((State → Behaviour) → Behaviour)
-stmts_part f ss l = meaning.exec_all (frame_of f) (statements_in f.names.now ss) (state_in f l)
+abbrev pub way_part : walker.Frame → Way → Call → Option ℕ → Holds → Local → (Value → Behaviour)
+way_part f way call output holds l =
+    way_step way call (output_at f.names.now output) (state_in f holds l)
 
-abbrev pub loop_part : walker.Frame → ExprCode → List StmtCode → Local
+abbrev pub ask_part : walker.Frame → Call → Option ℕ → Holds → Local → (Value → Behaviour)
+ask_part f call output holds l =
+    meaning.coded_call call (output_at f.names.now output) (state_in f holds l)
+
+abbrev pub load_part : walker.Frame → (block word : ℕ) → Holds → Local → (Value → Behaviour)
+load_part f d w holds l = meaning.load_step d w (state_in f holds l)
+
+abbrev pub store_part : walker.Frame → (block word value : ℕ) → Holds → Local
+    → (Value → Behaviour)
+store_part f d w v holds l = meaning.store_step d w v (state_in f holds l)
+
+abbrev pub stmt_part : walker.Frame → StmtCode → Holds → Local
     → ((State → Behaviour) → Behaviour)
-loop_part f test body l =
+stmt_part f s holds l =
+    meaning.exec (frame_of f) (statement_at f.names.now s) (state_in f holds l)
+
+abbrev pub stmts_part : walker.Frame → List StmtCode → Holds → Local
+    → ((State → Behaviour) → Behaviour)
+stmts_part f ss holds l =
+    meaning.exec_all (frame_of f) (statements_in f.names.now ss) (state_in f holds l)
+
+abbrev pub loop_part : walker.Frame → ExprCode → List StmtCode → Holds → Local
+    → ((State → Behaviour) → Behaviour)
+loop_part f test body holds l =
     meaning.exec
     (frame_of f)
     (While (expression_at f.names.now test) (statements_in f.names.now body))
-    (state_in f l)
-
-abbrev pub ask_part : walker.Frame → Call → Option ℕ → Local → (Value → Behaviour)
-ask_part f call output l =
-    meaning.coded_call call (output_at f.names.now output) (state_in f l)
+    (state_in f holds l)
 
 -- this expression was found to have this value, and left this state
 abbrev pub Yields : {A K : Type 0} → Ghosts A K → A → A → (Value → Behaviour) → ℕ → walker.Frame
     → Local → Type 0
 Yields g before now part v f l =
-    HasValue (next_of g before) part v (state_in f l) (next_after g before now)
+    HasValue (next_of g before) part v (state_in f (g.holds now) l) (next_after g before now)
 
 -- these statements were done, and left this state, or ended the body, which returned what is kept
 abbrev pub Leads : {A K : Type 0} → Ghosts A K → A → A → ((State → Behaviour) → Behaviour) → Flow
     → walker.Frame → Local → Type 0
 Leads g before now part flow f l =
-    Flows (next_of g before) part flow l.returned (state_in f l) (next_after g before now)
+    Flows
+    (next_of g before)
+    part
+    flow
+    l.returned
+    (state_in f (g.holds now) l)
+    (next_after g before now)
 
 -- an expression has this value with so much fuel, makes no call, and leaves so much
 abbrev pub IsFound : walker.Frame → ExprCode → Local → ℕ → Found → Type 0
 IsFound f e l fuel r =
-    Leaves (frame_of f) (expression_at f.names.now e) (state_in f l) fuel r.value r.left
+    Leaves
+    (frame_of f)
+    (expression_at f.names.now e)
+    l.code
+    (λ y. value_in f.names.now l.values.items y)
+    fuel
+    r.value
+    r.left

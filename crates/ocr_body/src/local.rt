@@ -1,15 +1,16 @@
 // What the walker keeps of a body.
-ghost use Rattle.std.specs.Prelude.{◌≡◌, ◌<◌, ◌≤◌, List, ℕ, length, OnOk, OnErr, IfErr};
-ghost use Rattle.ocr_body.specs.Behaviour.{Behaviour};
-ghost use Rattle.ocr_body.specs.Code.{name_at};
-ghost use Rattle.ocr_body.specs.Meaning.{State, with_variable};
-ghost use Rattle.ocr_body.specs.Meaning as meaning;
-ghost use Rattle.ocr_body.specs.Local.{state_of};
-ghost use Rattle.ocr_body.specs.Walker.{Fits, state_in};
+ghost use Rattle.std.specs.Prelude.{◌≡◌, ◌<◌, ◌≤◌, List, ℕ, length, OnOk, OnErr};
+ghost use Rattle.ocr_meaning.specs.Behaviour.{Behaviour};
+ghost use Rattle.ocr_meaning.specs.Holds.{Holds};
+ghost use Rattle.ocr_meaning.specs.Meaning.{State, with_variable};
+ghost use Rattle.ocr_meaning.specs.Meaning as meaning;
+ghost use Rattle.ocr_code.specs.Code.{name_at};
+ghost use Rattle.ocr_body.specs.Local.{state_of, value_in};
+ghost use Rattle.ocr_body.specs.Walker.{Fits, Keeps, state_in};
 
-use crate::call::BodyStop;
-use crate::checked::Checked;
+use ocr_code::Checked;
 use ocr_guid::Guid;
+use ocr_meaning::BodyStop;
 use ocr_tree::Name;
 use std::alloc::Global;
 
@@ -45,38 +46,21 @@ pub enum Flow {
     Returned,
 }
 
-// One unit of fuel.
-pub fn spend(local: &mut Local) -> Result<(), BodyStop>
-    ensures ok { OnOk result ((names : List (List ℕ)) (k : State → Behaviour) →
-        meaning.spend (state_of names local.old) k ≡ k (state_of names local.new)) }
-    ensures less { OnOk result (local.new.fuel < local.old.fuel) }
-    ensures fuel { local.new.fuel ≤ local.old.fuel }
-    ensures values { local.new.values ≡ local.old.values }
-    ensures err { IfErr result (λ e. (e ≡ BodyStop.Fuel) × (local.old.fuel ≡ 0)) }
-{
-    if local.fuel == 0 {
-        return Err(BodyStop::Fuel);
-    }
-    local.fuel -= 1;
-    Ok(())
-}
-
 // The body stops for this.
 #[inline(always)]
 pub fn stopped(stop: BodyStop, local: &mut Local) -> Halt
     ensures stop { local.new.stop ≡ stop }
-    ensures fuel { local.new.fuel ≡ local.old.fuel }
-    ensures code { local.new.code ≡ local.old.code }
-    ensures values { local.new.values ≡ local.old.values }
+    ensures keeps { Keeps local.old local.new }
 {
     local.stop = stop;
     Halt
 }
 
-// One unit of fuel, or a stop for want of it.
+// Pays one unit of fuel, or stops for want of it.
 pub fn pay(local: &mut Local) -> Result<(), Halt>
-    ensures ok { OnOk result ((names : List (List ℕ)) (k : State → Behaviour) →
-        meaning.spend (state_of names local.old) k ≡ k (state_of names local.new)) }
+    ensures ok { OnOk result ((names : List (List ℕ)) (holds : Holds)
+        (k : State → Behaviour) → meaning.spend (state_of names holds local.old) k
+        ≡ k (state_of names holds local.new)) }
     ensures less { OnOk result (local.new.fuel < local.old.fuel) }
     ensures fuel { local.new.fuel ≤ local.old.fuel }
     ensures values { local.new.values ≡ local.old.values }
@@ -93,19 +77,21 @@ pub fn pay(local: &mut Local) -> Result<(), Halt>
 pub fn read(frame: &Frame, place: usize, local: &Local) -> u64
     requires place { place < length frame.now.names.now }
     requires fits { Fits frame.now local.now }
-    ensures { result
-        ≡ (state_in frame.now local.now).variables (name_at frame.now.names.now place) }
+    ensures { result ≡ value_in frame.now.names.now local.now.values.items
+        (name_at frame.now.names.now place) }
 {
     local.values[place]
 }
 
-// A variable gets a value.
+// A variable gets a value, whatever is held.
 pub fn write(frame: &Frame, place: usize, value: u64, local: &mut Local)
     requires place { place < length frame.now.names.now }
     requires fits { Fits frame.now local.old }
-    ensures state { state_in frame.now local.new
-        ≡ with_variable (name_at frame.now.names.now place) value (state_in frame.now local.old) }
+    ensures state { (holds : Holds) → state_in frame.now holds local.new
+        ≡ with_variable (name_at frame.now.names.now place) value
+        (state_in frame.now holds local.old) }
     ensures room { length local.new.values.items ≡ length local.old.values.items }
+    ensures fuel { local.new.fuel ≡ local.old.fuel }
 {
     local.values[place] = value;
 }

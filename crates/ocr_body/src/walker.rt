@@ -1,52 +1,63 @@
-// The walker, which runs a body by one plain walk over its code.
+// The walker, which runs a body by one plain walk over its code. Each part answers in a register:
+// why it stopped and what the body returned are kept in `local`.
 #![tactic(auto, using(crate::proofs::Rulesets::walking))]
 
-ghost use Rattle.std.specs.Prelude.{◌≡◌, ◌&&◌, ◌≤◌, ◌<◌, [], true, IfOk, OnOk, OnErr, IfErr, IfSome, length, replicate};
-ghost use Rattle.ocr_body.specs.Behaviour.{Ends};
-ghost use Rattle.ocr_body.specs.Body.{behaviour, says};
-ghost use Rattle.ocr_body.specs.Checked.{checked_tree};
-ghost use Rattle.ocr_body.specs.Code.{is_numbered};
-ghost use Rattle.ocr_body.specs.Local.{given_of, numbers_of};
-ghost use Rattle.ocr_body.specs.Meaning.{print_step};
+ghost use Rattle.std.specs.Prelude.{◌≡◌, ◌&&◌, ◌≤◌, ◌<◌, [], true, ℕ, IfOk, OnOk, OnErr, IfErr, IfSome, length, replicate};
 ghost use Rattle.ocr_base.specs.Count.{Rose};
-ghost use Rattle.ocr_body.specs.Serving.{IsTrace, Begins, BeginsValue, BeginsGiven, IsDone, IsGiven, StoppedBy};
-ghost use Rattle.ocr_body.specs.Walker.{next_of, next_after, GoesOn, IsCause, Yields, Leads, Fits, StillFits, is_expr_in, are_args_in, is_stmt_in, are_stmts_in, state_in, expr_part, call_part, args_part, stmt_part, stmts_part, loop_part, ask_part};
+ghost use Rattle.ocr_meaning.specs.Behaviour.{Behaviour, Ends, Stops, IsTrace};
+ghost use Rattle.ocr_meaning.specs.Body.{behaviour, says};
+ghost use Rattle.ocr_meaning.specs.Meaning.{with_variable, print_step};
+ghost use Rattle.ocr_meaning.specs.Meaning as meaning;
+ghost use Rattle.ocr_code.specs.Checked.{checked_tree};
+ghost use Rattle.ocr_code.specs.Code.{name_at, has_function, arguments_at};
+ghost use Rattle.ocr_body.specs.Local.{given_of};
+ghost use Rattle.ocr_body.specs.Serving.{Begins, BeginsValue, BeginsGiven, IsDone, IsGiven, StoppedBy};
+ghost use Rattle.ocr_body.specs.Walker.{next_of, next_after, GoesOn, IsCause, Yields, Leads, Fits, StillFits, Keeps, is_expr_in, is_call_in, are_args_in, is_stmt_in, are_stmts_in, state_in, expr_part, call_part, coded_part, args_part, made_part, way_part, ask_part, load_part, store_part, stmt_part, stmts_part, loop_part};
 
 use crate::api::Api;
-use crate::call::{BodyStop, Call};
-use crate::checked::Checked;
-use crate::code::{ArgCode, ExprCode, Operation, StmtCode};
-use crate::given::{Given, edt_create, template_create};
-use crate::local::{Flow, Frame, Halt, Local, pay, read, spend, stopped, write};
+use crate::given::{Given, Way, call_of, output_of, way_of};
+use crate::local::{Flow, Frame, Halt, Local, pay, read, stopped, write};
 use crate::operators::{apply, operate};
 use crate::plain::{NONE_LEFT, plain};
 use ocr_base::{NoMemory, Seq};
+use ocr_code::{ArgCode, CallCode, Checked, ExprCode, Named, StmtCode};
 use ocr_guid::Guid;
+use ocr_meaning::{BodyStop, Call};
+use ocr_tree::{BinaryOp, CallName};
 use std::alloc::Global;
 
-// The value of an expression.
+// A variable gets a value. The Api says what is held meanwhile.
+#[inline(always)]
+fn assign<A: Api>(frame: &Frame, place: usize, value: u64, local: &mut Local, _api: &A)
+    requires place { place < length frame.now.names.now }
+    requires fits { Fits frame.now local.old }
+    ensures state { state_in frame.now (A.holds _api.now) local.new
+        ≡ with_variable (name_at frame.now.names.now place) value
+        (state_in frame.now (A.holds _api.now) local.old) }
+    ensures still_fits { StillFits frame.now local.old local.new }
+{
+    write(frame, place, value, local);
+}
+
+// The value of an expression that makes a call or stops, or any other.
 #[cycle(eval)]
-fn eval<A: Api>(
-    frame: &Frame,
-    expr: &ExprCode,
-    local: &mut Local,
-    api: &mut A,
-) -> Result<u64, BodyStop>
+#[inline(never)]
+fn eval<A: Api>(frame: &Frame, expr: &ExprCode, local: &mut Local, api: &mut A) -> Result<u64, Halt>
     requires ready { A.is_ready api.old }
     requires fits { Fits frame.now local.old }
     requires placed { is_expr_in frame.now expr.now ≡ true }
     requires begins { BeginsValue (next_of A.Api api.old)
-        (expr_part frame.now expr.now local.old) }
+        (expr_part frame.now expr.now (A.holds api.old) local.old) }
     ensures goes_on { GoesOn A.Api api.old api.new }
     ensures still_fits { StillFits frame.now local.old local.new }
     ensures ok { IfOk result (λ v. Yields A.Api api.old api.new
-        (expr_part frame.now expr.now local.old) v frame.now local.new) }
-    ensures err { IfErr result (IsCause A.Api api.old api.new) }
+        (expr_part frame.now expr.now (A.holds api.old) local.old) v frame.now local.new) }
+    ensures err { OnErr result (IsCause A.Api api.old api.new local.new.stop) }
 {
-    if let ExprCode::Invoke(operation, args) = expr {
-        return invoke(frame, operation, args, local, api);
+    if let ExprCode::Invoke(call) = expr {
+        return invoke(frame, call, local, api);
     }
-    spend(local)?;
+    pay(local)?;
     match expr {
         ExprCode::Number(n) => Ok(*n),
         ExprCode::Constant(constant) => Ok(constant.value()),
@@ -57,14 +68,14 @@ fn eval<A: Api>(
         ExprCode::Paramv(index) => {
             let index = eval(frame, index, local, api)?;
             if index >= frame.params.len() as u64 {
-                return Err(BodyStop::BadIndex);
+                return Err(stopped(BodyStop::BadIndex, local));
             }
             Ok(frame.params[index as usize])
         }
         ExprCode::Depv(index) => {
             let index = eval(frame, index, local, api)?;
             if index >= frame.deps.len() as u64 {
-                return Err(BodyStop::BadIndex);
+                return Err(stopped(BodyStop::BadIndex, local));
             }
             let dependence = frame.deps[index as usize];
             Ok(dependence.0)
@@ -76,62 +87,92 @@ fn eval<A: Api>(
         ExprCode::Binary(op, left, right) => {
             let x = eval(frame, left, local, api)?;
             let y = eval(frame, right, local, api)?; // after the left one
-            operate(*op, x, y)
+            match operate(*op, x, y) {
+                Ok(value) => Ok(value),
+                Err(stop) => Err(stopped(stop, local)),
+            }
         }
         ExprCode::WithNumber(op, place, number) => {
-            spend(local)?; // for the variable
+            pay(local)?; // for the variable
             let x = read(frame, *place, local);
-            spend(local)?; // for the number
-            operate(*op, x, *number)
+            pay(local)?; // for the number
+            combine(*op, x, *number, local)
         }
         ExprCode::WithVariable(op, place, other) => {
-            spend(local)?; // for each variable
+            pay(local)?; // for each variable
             let x = read(frame, *place, local);
-            spend(local)?;
+            pay(local)?;
             let y = read(frame, *other, local);
-            operate(*op, x, y)
+            combine(*op, x, y, local)
         }
-        ExprCode::Invoke(_, _) => unreachable!(),
+        ExprCode::Invoke(_) => unreachable!(),
     }
 }
 
 // A call, which is a node of its own.
 #[cycle(eval)]
+#[inline(never)]
 fn invoke<A: Api>(
     frame: &Frame,
-    operation: &Operation,
-    args: &ArgCode,
+    call: &CallCode,
     local: &mut Local,
     api: &mut A,
-) -> Result<u64, BodyStop>
+) -> Result<u64, Halt>
     requires ready { A.is_ready api.old }
     requires fits { Fits frame.now local.old }
-    requires numbered { is_numbered (numbers_of frame.now) operation.now ≡ true }
-    requires placed { are_args_in frame.now args.now ≡ true }
+    requires placed { is_call_in frame.now call.now ≡ true }
     requires begins { BeginsValue (next_of A.Api api.old)
-        (call_part frame.now operation.now args.now local.old) }
+        (call_part frame.now call.now (A.holds api.old) local.old) }
     ensures goes_on { GoesOn A.Api api.old api.new }
     ensures still_fits { StillFits frame.now local.old local.new }
     ensures ok { IfOk result (λ v. Yields A.Api api.old api.new
-        (call_part frame.now operation.now args.now local.old) v frame.now local.new) }
-    ensures err { IfErr result (IsCause A.Api api.old api.new) }
+        (call_part frame.now call.now (A.holds api.old) local.old) v frame.now local.new) }
+    ensures err { OnErr result (IsCause A.Api api.old api.new local.new.stop) }
 {
-    spend(local)?;
+    match call {
+        CallCode::Load(block, word) => {
+            pay(local)?;
+            let block = find(frame, block, local, api)?;
+            let word = find(frame, word, local, api)?;
+            load(frame, block, word, local, api)
+        }
+        CallCode::Store(block, word, value) => {
+            pay(local)?;
+            let block = find(frame, block, local, api)?;
+            let word = find(frame, word, local, api)?;
+            let value = find(frame, value, local, api)?;
+            store(frame, block, word, value, local, api)
+        }
+        CallCode::Coded(name, args) => coded(frame, *name, args, local, api),
+    }
+}
+
+// Any other call: what its arguments are is kept in memory.
+#[cycle(eval)]
+#[inline(never)]
+fn coded<A: Api>(
+    frame: &Frame,
+    name: CallName,
+    args: &ArgCode,
+    local: &mut Local,
+    api: &mut A,
+) -> Result<u64, Halt>
+    requires ready { A.is_ready api.old }
+    requires fits { Fits frame.now local.old }
+    requires named { has_function name (arguments_at frame.now.names.now args.now) ≡ true }
+    requires placed { are_args_in frame.now args.now ≡ true }
+    requires begins { BeginsValue (next_of A.Api api.old)
+        (coded_part frame.now name args.now (A.holds api.old) local.old) }
+    ensures goes_on { GoesOn A.Api api.old api.new }
+    ensures still_fits { StillFits frame.now local.old local.new }
+    ensures ok { IfOk result (λ v. Yields A.Api api.old api.new
+        (coded_part frame.now name args.now (A.holds api.old) local.old) v frame.now local.new) }
+    ensures err { OnErr result (IsCause A.Api api.old api.new local.new.stop) }
+{
+    pay(local)?;
     let mut given = Given::new(frame.alloc);
     eval_all(frame, args, &mut given, local, api)?;
-    match operation {
-        Operation::TemplateCreate(_, function) => {
-            let call = template_create(*function, &given);
-            ask(frame, &call, None, local, api)
-        }
-        Operation::EdtCreate => {
-            let output = args.output();
-            let call = edt_create(frame.alloc, &given, output.is_some())?;
-            ask(frame, &call, output, local, api)
-        }
-        Operation::Shutdown => Err(BodyStop::Shutdown),
-        Operation::Abort => Err(BodyStop::Abort(given.value(0))),
-    }
+    make(frame, name, args, &given, local, api)
 }
 
 // What the arguments of a call are, from left to right.
@@ -142,171 +183,54 @@ fn eval_all<A: Api>(
     given: &mut Given,
     local: &mut Local,
     api: &mut A,
-) -> Result<(), BodyStop>
+) -> Result<(), Halt>
     requires ready { A.is_ready api.old }
     requires fits { Fits frame.now local.old }
     requires placed { are_args_in frame.now args.now ≡ true }
     requires begins { BeginsGiven (next_of A.Api api.old)
-        (args_part frame.now args.now given.old local.old) }
+        (args_part frame.now args.now given.old (A.holds api.old) local.old) }
     ensures goes_on { GoesOn A.Api api.old api.new }
     ensures still_fits { StillFits frame.now local.old local.new }
     ensures ok { OnOk result (IsGiven (next_of A.Api api.old)
-        (args_part frame.now args.now given.old local.old) (given_of given.new)
-        (state_in frame.now local.new) (next_after A.Api api.old api.new)) }
-    ensures err { IfErr result (IsCause A.Api api.old api.new) }
+        (args_part frame.now args.now given.old (A.holds api.old) local.old) (given_of given.new)
+        (state_in frame.now (A.holds api.new) local.new) (next_after A.Api api.old api.new)) }
+    ensures err { OnErr result (IsCause A.Api api.old api.new local.new.stop) }
 {
     match args {
-        ArgCode::End | ArgCode::Output(_) => Ok(()),
+        ArgCode::End => Ok(()),
+        ArgCode::Name(_, rest) => eval_all(frame, rest, given, local, api),
         ArgCode::Value(value, rest) => {
-            let value = argument(frame, value, local, api)?;
-            given.add_value(value)?;
+            let value = find(frame, value, local, api)?;
+            let Ok(()) = given.add_value(value) else {
+                return Err(stopped(BodyStop::NoMemory, local))
+            };
             eval_all(frame, rest, given, local, api)
         }
         ArgCode::List(list, rest) => {
             let mut inner = Given::new(frame.alloc);
             eval_all(frame, list, &mut inner, local, api)?;
-            given.add_list(Seq::from_vec(inner.values))?;
+            let Ok(()) = given.add_list(Seq::from_vec(inner.values)) else {
+                return Err(stopped(BodyStop::NoMemory, local))
+            };
             eval_all(frame, rest, given, local, api)
         }
     }
 }
 
-// The value of an argument. One that makes no call and does not stop is found with its fuel in a
-// register.
-#[cycle(eval)]
-fn argument<A: Api>(
-    frame: &Frame,
-    expr: &ExprCode,
-    local: &mut Local,
-    api: &mut A,
-) -> Result<u64, BodyStop>
-    requires ready { A.is_ready api.old }
-    requires fits { Fits frame.now local.old }
-    requires placed { is_expr_in frame.now expr.now ≡ true }
-    requires begins { BeginsValue (next_of A.Api api.old)
-        (expr_part frame.now expr.now local.old) }
-    ensures goes_on { GoesOn A.Api api.old api.new }
-    ensures still_fits { StillFits frame.now local.old local.new }
-    ensures ok { IfOk result (λ v. Yields A.Api api.old api.new
-        (expr_part frame.now expr.now local.old) v frame.now local.new) }
-    ensures err { IfErr result (IsCause A.Api api.old api.new) }
-{
-    let found = plain(frame, expr, local.fuel, local);
-    if found.left == NONE_LEFT {
-        return eval(frame, expr, local, api);
-    }
-    local.fuel = found.left;
-    Ok(found.value)
-}
-
-// A call that has codes.
-fn ask<A: Api>(
-    frame: &Frame,
-    call: &Call,
-    output: Option<usize>,
-    local: &mut Local,
-    api: &mut A,
-) -> Result<u64, BodyStop>
-    requires ready { A.is_ready api.old }
-    requires fits { Fits frame.now local.old }
-    requires output { IfSome output (λ place. place < length frame.now.names.now) }
-    requires begins { BeginsValue (next_of A.Api api.old)
-        (ask_part frame.now call.now output local.old) }
-    ensures goes_on { GoesOn A.Api api.old api.new }
-    ensures still_fits { StillFits frame.now local.old local.new }
-    ensures ok { IfOk result (λ v. Yields A.Api api.old api.new
-        (ask_part frame.now call.now output local.old) v frame.now local.new) }
-    ensures err { IfErr result (IsCause A.Api api.old api.new) }
-{
-    let answer = api.call(call)?;
-    local.code = answer.code.number();
-    if let Some(place) = output {
-        write(frame, place, answer.output.0, local);
-    }
-    Ok(answer.value)
-}
-
-// A print. Its answer is small, as those below, and goes in a register.
-#[inline(never)]
-fn print<A: Api>(frame: &Frame, value: u64, local: &mut Local, api: &mut A) -> Result<(), Halt>
-    requires ready { A.is_ready api.old }
-    requires begins { Begins (next_of A.Api api.old)
-        (print_step value (state_in frame.now local.old)) }
-    ensures goes_on { GoesOn A.Api api.old api.new }
-    ensures fuel { local.new.fuel ≡ local.old.fuel }
-    ensures code { local.new.code ≡ local.old.code }
-    ensures values { local.new.values ≡ local.old.values }
-    ensures ok { OnOk result (IsDone (next_of A.Api api.old)
-        (print_step value (state_in frame.now local.old))
-        (state_in frame.now local.old) (next_after A.Api api.old api.new)) }
-    ensures err { OnErr result (IsCause A.Api api.old api.new local.new.stop) }
-{
-    match api.call(&Call::Print { value }) {
-        Ok(_) => Ok(()),
-        Err(stop) => Err(stopped(stop, local)),
-    }
-}
-
-// The value of an expression that makes calls or stops.
-#[inline(never)]
-fn slow<A: Api>(frame: &Frame, expr: &ExprCode, local: &mut Local, api: &mut A) -> Result<u64, Halt>
-    requires ready { A.is_ready api.old }
-    requires fits { Fits frame.now local.old }
-    requires placed { is_expr_in frame.now expr.now ≡ true }
-    requires begins { BeginsValue (next_of A.Api api.old)
-        (expr_part frame.now expr.now local.old) }
-    ensures goes_on { GoesOn A.Api api.old api.new }
-    ensures still_fits { StillFits frame.now local.old local.new }
-    ensures ok { IfOk result (λ v. Yields A.Api api.old api.new
-        (expr_part frame.now expr.now local.old) v frame.now local.new) }
-    ensures err { OnErr result (IsCause A.Api api.old api.new local.new.stop) }
-{
-    match eval(frame, expr, local, api) {
-        Ok(value) => Ok(value),
-        Err(stop) => Err(stopped(stop, local)),
-    }
-}
-
-// A call that is a statement.
-#[inline(never)]
-fn perform<A: Api>(
-    frame: &Frame,
-    operation: &Operation,
-    args: &ArgCode,
-    local: &mut Local,
-    api: &mut A,
-) -> Result<u64, Halt>
-    requires ready { A.is_ready api.old }
-    requires fits { Fits frame.now local.old }
-    requires numbered { is_numbered (numbers_of frame.now) operation.now ≡ true }
-    requires placed { are_args_in frame.now args.now ≡ true }
-    requires begins { BeginsValue (next_of A.Api api.old)
-        (call_part frame.now operation.now args.now local.old) }
-    ensures goes_on { GoesOn A.Api api.old api.new }
-    ensures still_fits { StillFits frame.now local.old local.new }
-    ensures ok { IfOk result (λ v. Yields A.Api api.old api.new
-        (call_part frame.now operation.now args.now local.old) v frame.now local.new) }
-    ensures err { OnErr result (IsCause A.Api api.old api.new local.new.stop) }
-{
-    match invoke(frame, operation, args, local, api) {
-        Ok(value) => Ok(value),
-        Err(stop) => Err(stopped(stop, local)),
-    }
-}
-
 // The value of an expression. One that makes no call and does not stop is found with its fuel in a
 // register; the commonest form is done in place.
+#[cycle(eval)]
 #[inline(always)]
 fn find<A: Api>(frame: &Frame, expr: &ExprCode, local: &mut Local, api: &mut A) -> Result<u64, Halt>
     requires ready { A.is_ready api.old }
     requires fits { Fits frame.now local.old }
     requires placed { is_expr_in frame.now expr.now ≡ true }
     requires begins { BeginsValue (next_of A.Api api.old)
-        (expr_part frame.now expr.now local.old) }
+        (expr_part frame.now expr.now (A.holds api.old) local.old) }
     ensures goes_on { GoesOn A.Api api.old api.new }
     ensures still_fits { StillFits frame.now local.old local.new }
     ensures ok { IfOk result (λ v. Yields A.Api api.old api.new
-        (expr_part frame.now expr.now local.old) v frame.now local.new) }
+        (expr_part frame.now expr.now (A.holds api.old) local.old) v frame.now local.new) }
     ensures err { OnErr result (IsCause A.Api api.old api.new local.new.stop) }
 {
     if let ExprCode::WithNumber(op, place, number) = expr {
@@ -317,12 +241,207 @@ fn find<A: Api>(frame: &Frame, expr: &ExprCode, local: &mut Local, api: &mut A) 
             }
         }
     }
+    if let ExprCode::Invoke(call) = expr {
+        return invoke(frame, call, local, api);
+    }
     let found = plain(frame, expr, local.fuel, local);
     if found.left == NONE_LEFT {
-        return slow(frame, expr, local, api);
+        return eval(frame, expr, local, api);
     }
     local.fuel = found.left;
     Ok(found.value)
+}
+
+// The value of an operator between two values, or a stop for a divisor 0.
+fn combine(op: BinaryOp, x: u64, y: u64, local: &mut Local) -> Result<u64, Halt>
+    ensures keeps { Keeps local.old local.new }
+    ensures ok { IfOk result (λ v. (k : ℕ → Behaviour) → meaning.binary_step op x y k ≡ k v) }
+    ensures err { OnErr result ((k : ℕ → Behaviour)
+        → meaning.binary_step op x y k ≡ Stops local.new.stop) }
+{
+    match operate(op, x, y) {
+        Ok(value) => Ok(value),
+        Err(stop) => Err(stopped(stop, local)),
+    }
+}
+
+// The number of the function that the first name among the arguments is, where one stands.
+fn number_of(named: Option<Named>) -> u32
+    ensures { IfSome named (λ named. result ≡ named.number) }
+{
+    match named {
+        Some(named) => named.number,
+        None => 0,
+    }
+}
+
+// Makes a call whose arguments were found.
+fn make<A: Api>(
+    frame: &Frame,
+    name: CallName,
+    args: &ArgCode,
+    given: &Given,
+    local: &mut Local,
+    api: &mut A,
+) -> Result<u64, Halt>
+    requires ready { A.is_ready api.old }
+    requires fits { Fits frame.now local.old }
+    requires named { has_function name (arguments_at frame.now.names.now args.now) ≡ true }
+    requires placed { are_args_in frame.now args.now ≡ true }
+    requires begins { BeginsValue (next_of A.Api api.old)
+        (made_part frame.now name args.now given.now (A.holds api.old) local.old) }
+    ensures goes_on { GoesOn A.Api api.old api.new }
+    ensures still_fits { StillFits frame.now local.old local.new }
+    ensures ok { IfOk result (λ v. Yields A.Api api.old api.new
+        (made_part frame.now name args.now given.now (A.holds api.old) local.old)
+        v frame.now local.new) }
+    ensures err { OnErr result (IsCause A.Api api.old api.new local.new.stop) }
+{
+    let named = args.name();
+    let made = call_of(frame.alloc, name, number_of(named), named.is_some(), given);
+    let Ok(call) = made else {
+        return Err(stopped(BodyStop::NoMemory, local))
+    };
+    go(
+        frame,
+        way_of(&call),
+        &call,
+        output_of(name, named),
+        local,
+        api,
+    )
+}
+
+// Makes a call by what it comes to.
+fn go<A: Api>(
+    frame: &Frame,
+    way: Way,
+    call: &Call,
+    output: Option<usize>,
+    local: &mut Local,
+    api: &mut A,
+) -> Result<u64, Halt>
+    requires ready { A.is_ready api.old }
+    requires fits { Fits frame.now local.old }
+    requires output { IfSome output (λ place. place < length frame.now.names.now) }
+    requires begins { BeginsValue (next_of A.Api api.old)
+        (way_part frame.now way call.now output (A.holds api.old) local.old) }
+    ensures goes_on { GoesOn A.Api api.old api.new }
+    ensures still_fits { StillFits frame.now local.old local.new }
+    ensures ok { IfOk result (λ v. Yields A.Api api.old api.new
+        (way_part frame.now way call.now output (A.holds api.old) local.old)
+        v frame.now local.new) }
+    ensures err { OnErr result (IsCause A.Api api.old api.new local.new.stop) }
+{
+    match way {
+        Way::Ends(stop) => Err(stopped(stop, local)),
+        Way::Loads(block, word) => load(frame, block, word, local, api),
+        Way::Stores(block, word, value) => store(frame, block, word, value, local, api),
+        Way::Coded => ask(frame, call, output, local, api),
+    }
+}
+
+// A call that has codes.
+#[inline(never)]
+fn ask<A: Api>(
+    frame: &Frame,
+    call: &Call,
+    output: Option<usize>,
+    local: &mut Local,
+    api: &mut A,
+) -> Result<u64, Halt>
+    requires ready { A.is_ready api.old }
+    requires fits { Fits frame.now local.old }
+    requires output { IfSome output (λ place. place < length frame.now.names.now) }
+    requires begins { BeginsValue (next_of A.Api api.old)
+        (ask_part frame.now call.now output (A.holds api.old) local.old) }
+    ensures goes_on { GoesOn A.Api api.old api.new }
+    ensures still_fits { StillFits frame.now local.old local.new }
+    ensures ok { IfOk result (λ v. Yields A.Api api.old api.new
+        (ask_part frame.now call.now output (A.holds api.old) local.old) v frame.now local.new) }
+    ensures err { OnErr result (IsCause A.Api api.old api.new local.new.stop) }
+{
+    match api.call(call) {
+        Ok(answer) => {
+            local.code = answer.code.number();
+            if let Some(place) = output {
+                assign(frame, place, answer.output.0, local, api);
+            }
+            Ok(answer.value)
+        }
+        Err(stop) => Err(stopped(stop, local)),
+    }
+}
+
+// A load.
+#[tactic(auto, using(crate::proofs::Rulesets::accessing))]
+fn load<A: Api>(
+    frame: &Frame,
+    block: u64,
+    word: u64,
+    local: &mut Local,
+    api: &mut A,
+) -> Result<u64, Halt>
+    requires ready { A.is_ready api.old }
+    requires fits { Fits frame.now local.old }
+    requires begins { BeginsValue (next_of A.Api api.old)
+        (load_part frame.now block word (A.holds api.old) local.old) }
+    ensures goes_on { GoesOn A.Api api.old api.new }
+    ensures still_fits { StillFits frame.now local.old local.new }
+    ensures ok { IfOk result (λ v. Yields A.Api api.old api.new
+        (load_part frame.now block word (A.holds api.old) local.old) v frame.now local.new) }
+    ensures err { OnErr result (IsCause A.Api api.old api.new local.new.stop) }
+{
+    match api.load(Guid(block), word) {
+        Ok(value) => Ok(value),
+        Err(stop) => Err(stopped(stop, local)),
+    }
+}
+
+// A store, which has the value 0.
+#[tactic(auto, using(crate::proofs::Rulesets::accessing))]
+fn store<A: Api>(
+    frame: &Frame,
+    block: u64,
+    word: u64,
+    value: u64,
+    local: &mut Local,
+    api: &mut A,
+) -> Result<u64, Halt>
+    requires ready { A.is_ready api.old }
+    requires fits { Fits frame.now local.old }
+    requires begins { BeginsValue (next_of A.Api api.old)
+        (store_part frame.now block word value (A.holds api.old) local.old) }
+    ensures goes_on { GoesOn A.Api api.old api.new }
+    ensures still_fits { StillFits frame.now local.old local.new }
+    ensures ok { IfOk result (λ v. Yields A.Api api.old api.new
+        (store_part frame.now block word value (A.holds api.old) local.old) v frame.now local.new) }
+    ensures err { OnErr result (IsCause A.Api api.old api.new local.new.stop) }
+{
+    match api.store(Guid(block), word, value) {
+        Ok(()) => Ok(0), // a store has the value 0
+        Err(stop) => Err(stopped(stop, local)),
+    }
+}
+
+// A print.
+#[inline(never)]
+fn print<A: Api>(frame: &Frame, value: u64, local: &mut Local, api: &mut A) -> Result<(), Halt>
+    requires ready { A.is_ready api.old }
+    requires fits { Fits frame.now local.old }
+    requires begins { Begins (next_of A.Api api.old)
+        (print_step value (state_in frame.now (A.holds api.old) local.old)) }
+    ensures goes_on { GoesOn A.Api api.old api.new }
+    ensures still_fits { StillFits frame.now local.old local.new }
+    ensures ok { OnOk result (IsDone (next_of A.Api api.old)
+        (print_step value (state_in frame.now (A.holds api.old) local.old))
+        (state_in frame.now (A.holds api.new) local.new) (next_after A.Api api.old api.new)) }
+    ensures err { OnErr result (IsCause A.Api api.old api.new local.new.stop) }
+{
+    match api.call(&Call::Print { value }) {
+        Ok(_) => Ok(()),
+        Err(stop) => Err(stopped(stop, local)),
+    }
 }
 
 // Runs a statement.
@@ -337,11 +456,11 @@ fn exec<A: Api>(
     requires fits { Fits frame.now local.old }
     requires placed { is_stmt_in frame.now step.now ≡ true }
     requires begins { Begins (next_of A.Api api.old)
-        (stmt_part frame.now step.now local.old) }
+        (stmt_part frame.now step.now (A.holds api.old) local.old) }
     ensures goes_on { GoesOn A.Api api.old api.new }
     ensures still_fits { StillFits frame.now local.old local.new }
     ensures ok { IfOk result (λ flow. Leads A.Api api.old api.new
-        (stmt_part frame.now step.now local.old) flow frame.now local.new) }
+        (stmt_part frame.now step.now (A.holds api.old) local.old) flow frame.now local.new) }
     ensures err { OnErr result (IsCause A.Api api.old api.new local.new.stop) }
 {
     match step {
@@ -349,7 +468,7 @@ fn exec<A: Api>(
         StmtCode::Let(place, value) | StmtCode::Assign(place, value) => {
             pay(local)?;
             let value = find(frame, value, local, api)?;
-            write(frame, *place, value, local);
+            assign(frame, *place, value, local, api);
             Ok(Flow::Next)
         }
         StmtCode::If(test, yes, no) => {
@@ -373,9 +492,9 @@ fn exec<A: Api>(
             local.returned = Guid(value);
             Ok(Flow::Returned)
         }
-        StmtCode::Invoke(operation, args) => {
+        StmtCode::Invoke(call) => {
             pay(local)?;
-            perform(frame, operation, args, local, api)?;
+            invoke(frame, call, local, api)?;
             Ok(Flow::Next)
         }
     }
@@ -394,11 +513,12 @@ fn repeat<A: Api>(
     requires fits { Fits frame.now local.old }
     requires placed { (is_expr_in frame.now test.now && are_stmts_in frame.now steps.now) ≡ true }
     requires begins { Begins (next_of A.Api api.old)
-        (loop_part frame.now test.now steps.now local.old) }
+        (loop_part frame.now test.now steps.now (A.holds api.old) local.old) }
     ensures goes_on { GoesOn A.Api api.old api.new }
     ensures still_fits { StillFits frame.now local.old local.new }
     ensures ok { IfOk result (λ flow. Leads A.Api api.old api.new
-        (loop_part frame.now test.now steps.now local.old) flow frame.now local.new) }
+        (loop_part frame.now test.now steps.now (A.holds api.old) local.old)
+        flow frame.now local.new) }
     ensures err { OnErr result (IsCause A.Api api.old api.new local.new.stop) }
 {
     loop {
@@ -425,11 +545,11 @@ fn exec_all<A: Api>(
     requires fits { Fits frame.now local.old }
     requires placed { are_stmts_in frame.now steps.now ≡ true }
     requires begins { Begins (next_of A.Api api.old)
-        (stmts_part frame.now steps.now local.old) }
+        (stmts_part frame.now steps.now (A.holds api.old) local.old) }
     ensures goes_on { GoesOn A.Api api.old api.new }
     ensures still_fits { StillFits frame.now local.old local.new }
     ensures ok { IfOk result (λ flow. Leads A.Api api.old api.new
-        (stmts_part frame.now steps.now local.old) flow frame.now local.new) }
+        (stmts_part frame.now steps.now (A.holds api.old) local.old) flow frame.now local.new) }
     ensures err { OnErr result (IsCause A.Api api.old api.new local.new.stop) }
 {
     for step in steps {
@@ -449,7 +569,9 @@ fn zeros(alloc: Global, count: usize) -> Result<Vec<u64>, NoMemory>
 
 /// Runs a body to its end. It makes the calls that the body's meaning says, in their order, and
 /// ends as it says; `Closed` comes only where the run was found closed in this call, and any other
-/// stop but want of memory exactly where the body says it next.
+/// stop but want of memory exactly where the body says it next. Nothing was stored before it; at its
+/// end the Api holds what the meaning says that the body holds, so the words that were stored in
+/// `Ew` are its private writes.
 pub fn walk<A: Api>(
     alloc: Global,
     program: &Checked,
@@ -466,6 +588,7 @@ pub fn walk<A: Api>(
       function = function;
       params = params.now;
       depv = deps.now;
+      holds = A.holds api.old;
       fuel = fuel;
     } }
     requires fresh { A.log api.old ≡ [] }
@@ -473,7 +596,8 @@ pub fn walk<A: Api>(
     ensures serves { A.serves api.new ≡ A.serves api.old }
     ensures kept { A.kept api.new ≡ A.kept api.old }
     ensures trace { IsTrace (behaviour (A.serves api.old)) (A.log api.new) }
-    ensures ok { IfOk result (λ g. says (A.serves api.old) (A.log api.new) ≡ Ends g) }
+    ensures ok { IfOk result (λ g.
+        says (A.serves api.old) (A.log api.new) ≡ Ends g (A.holds api.new)) }
     ensures err { IfErr result (StoppedBy (says (A.serves api.old) (A.log api.new))
         (Rose (A.closed api.old) (A.closed api.new))) }
     ensures later { A.closed api.old ≤ A.closed api.new }

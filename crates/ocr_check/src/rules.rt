@@ -4,12 +4,12 @@ ghost use Rattle.ocr_check.specs.Check.{FailsNowhere, HasNamesake, BreaksNoRule,
 ghost use Rattle.ocr_check.specs.Check.{names_of as names_in};
 ghost use Rattle.ocr_check.specs.Names.{knows, IsStopOf};
 ghost use Rattle.ocr_tree.specs.Runnable.{IsRunnable};
-ghost use Rattle.ocr_body.specs.Checked.{checked_tree};
+ghost use Rattle.ocr_code.specs.Checked.{checked_tree};
 ghost use Rattle.ocr_tree.specs.View.{functions_of, tree_of};
 
 use crate::names::walk_function;
 use ocr_base::NoMemory;
-use ocr_body::Checked;
+use ocr_code::Checked;
 use ocr_tree::{Function, Program, main_name};
 use std::alloc::{AllocFailed, Global};
 use std::collections::BTreeSet;

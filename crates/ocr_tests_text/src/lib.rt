@@ -1,8 +1,13 @@
-//! Tests of task texts, which cross crates: where a text stops, and what its canonical text is.
+//! Tests of task texts, which cross crates: where a text stops, what its
+//! canonical text is, and which names the editors know.
 #![tactic(auto)]
 
 #[cfg(test)]
 mod canonical;
+#[cfg(test)]
+mod editors;
+#[cfg(test)]
+mod highlighting;
 #[cfg(test)]
 mod reading;
 #[cfg(test)]

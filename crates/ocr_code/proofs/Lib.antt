@@ -1,0 +1,10 @@
+pub mod Blocks
+pub mod Calls
+pub mod Coded
+pub mod Codes
+pub mod Functions
+pub mod Names
+pub mod Rows
+pub mod Rulesets
+pub mod Sides
+pub mod Weight

@@ -1,0 +1,96 @@
+// The code of a function: its tree with each variable by its place among the function's names.
+ghost use Rattle.std.specs.Prelude.{◌≡◌, ℕ, List, [], IfSome, IfNone, true};
+ghost use Rattle.ocr_code.specs.Code.{IsFirstName, arguments_at, are_args_placed};
+ghost use Rattle.ocr_tree.specs.Tree.{names_in};
+
+use ocr_tree::{BinaryOp, CallName, Constant, Name, UnaryOp};
+
+/// An expression of the code.
+#[cycle(node)]
+#[derive(Drop)]
+pub enum ExprCode {
+    Number(u64),
+    Constant(Constant),
+    Variable(usize),
+    Paramc,
+    Depc,
+    LastCode,
+    Paramv(Box<ExprCode>),
+    Depv(Box<ExprCode>),
+    Unary(UnaryOp, Box<ExprCode>),
+    Binary(BinaryOp, Box<ExprCode>, Box<ExprCode>),
+    /// An operator between a variable and a number, which are nodes of their own in the tree.
+    WithNumber(BinaryOp, usize, u64),
+    /// An operator between two variables.
+    WithVariable(BinaryOp, usize, usize),
+    Invoke(CallCode),
+}
+
+/// A call of the code.
+#[cycle(node)]
+#[derive(Drop)]
+pub enum CallCode {
+    /// A load of a block's word. What it is of is found without memory, as for a store.
+    Load(Box<ExprCode>, Box<ExprCode>),
+    /// A store in a block's word of a value.
+    Store(Box<ExprCode>, Box<ExprCode>, Box<ExprCode>),
+    /// Any other call.
+    Coded(CallName, ArgCode),
+}
+
+/// The arguments of a call of the code, from the first on.
+#[cycle(node)]
+#[derive(Drop)]
+pub enum ArgCode {
+    End,
+    Value(Box<ExprCode>, Box<ArgCode>),
+    List(Box<ArgCode>, Box<ArgCode>),
+    /// The name of a function, or that of the variable after `&`: each has a place among the names.
+    Name(Named, Box<ArgCode>),
+}
+
+/// A name among the arguments of a call: its place among the function's names, and its number among
+/// those of the program's functions, from 1; one past the last where it is none of theirs.
+#[derive(Clone, Copy)]
+pub struct Named {
+    pub place: usize,
+    pub number: u32,
+}
+
+impl ArgCode {
+    /// The first name among the arguments, where one stands.
+    #[cycle(name)]
+    #[tactic(auto, using(crate::proofs::Sides::second_of))]
+    pub fn name(&self) -> Option<Named>
+        ensures none { IfNone result ((names : List (List ℕ))
+            → names_in (arguments_at names self.now) ≡ []) }
+        ensures some { IfSome result (λ named. (numbers : List ℕ → ℕ) (names : List (List ℕ))
+            → are_args_placed numbers names self.now ≡ true
+            → IsFirstName numbers names named (names_in (arguments_at names self.now))) }
+    {
+        match self {
+            ArgCode::End => None,
+            ArgCode::Value(_, rest) | ArgCode::List(_, rest) => rest.name(),
+            ArgCode::Name(named, _) => Some(*named),
+        }
+    }
+}
+
+/// A statement of the code.
+#[derive(Drop)]
+pub enum StmtCode {
+    Let(usize, ExprCode),
+    Assign(usize, ExprCode),
+    If(ExprCode, Vec<StmtCode>, Vec<StmtCode>),
+    While(ExprCode, Vec<StmtCode>),
+    Print(ExprCode),
+    Return(ExprCode),
+    Invoke(CallCode),
+}
+
+/// The names of a function, all different, and its statements.
+#[derive(Drop)]
+pub struct FunctionCode {
+    pub names: Vec<Name>,
+    pub body: Vec<StmtCode>,
+}

@@ -1,0 +1,9 @@
+//! Tests of loads and stores: an Api over one hold, in each mode, at each edge.
+#![tactic(auto)]
+
+mod hold;
+
+pub use hold::{Access, Hold, OneHold};
+
+#[cfg(test)]
+mod tests;
