@@ -6,6 +6,7 @@ use Rattle.ocr_acquire.specs.declared.Mode.TheVariants as mode
 use Rattle.ocr_acquire.specs.Mode.{fits_all, is_exclusive, is_null, mode_in}
 use Rattle.ocr_datablock.specs.declared.datablock.Asked.{Asked}
 use Rattle.ocr_datablock.specs.declared.datablock.Asked.TheVariants as asked
+use Rattle.ocr_acquire.specs.Writes.{written}
 use Rattle.ocr_datablock.specs.Lent.{Loan, loan_of, words_in}
 use Rattle.ocr_datablock.specs.Block.{BlockCall, Ask, Release, Doom, Store, Lend, TakeBack, Line, State, contents, borrower_of, is_destroyed, is_line_gone, is_empty, names, line_after_ask, line_without, line_after_grants, leavers, line_of, holders_of, queue_of, answer_to, resumed_by_release, resumed_by_doom, state_of, GoTogether, line, is_gone, is_grantable}
 
@@ -62,6 +63,11 @@ loan_from s m = loan_of m s.words []
 
 abbrev pub after_take_back : State → Loan → State
 after_take_back s loan = if is_exclusive loan.mode then with_words s None (words_in loan) else s
+
+-- with other writes than those that the loan keeps
+abbrev pub after_take_back_with : State → Loan → List (ℕ × ℕ) → State
+after_take_back_with s loan writes =
+    if is_exclusive loan.mode then with_words s None (written writes loan.began) else s
 
 -- WHAT A CALL PRESUMES.
 -- What a call of a block of n words presumes, by its calls before.

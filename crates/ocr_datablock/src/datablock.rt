@@ -5,7 +5,7 @@ ghost use Rattle.ocr_acquire.specs.Mode.{is_exclusive, is_null, mode_in};
 ghost use Rattle.ocr_datablock.specs.declared.datablock.Asked.TheVariants as asked;
 ghost use Rattle.ocr_datablock.specs.Lent.{words_in};
 ghost use Rattle.ocr_datablock.specs.Block.{state_of, GoTogether, IsLentTo, names, without, front_that_fits, rest_that_waits, leavers, line_after_grants, line_without, line, is_gone, is_grantable};
-ghost use Rattle.ocr_datablock.specs.Steps.{on_ask, on_release, on_doom, with_line, after_ask, after_release, after_doom, after_store, after_lend, loan_from, after_take_back, AskLaw, ReleaseLaw, DoomLaw, StoreLaw, LendLaw, TakeBackLaw, WordsLaw, HoldersLaw, OnceLaw, WaitingLaw, QueueLaw, GoneLaw, LoanLaw};
+ghost use Rattle.ocr_datablock.specs.Steps.{on_ask, on_release, on_doom, with_line, after_ask, after_release, after_doom, after_store, after_lend, loan_from, after_take_back, after_take_back_with, AskLaw, ReleaseLaw, DoomLaw, StoreLaw, LendLaw, TakeBackLaw, WordsLaw, HoldersLaw, OnceLaw, WaitingLaw, QueueLaw, GoneLaw, LoanLaw};
 
 use crate::loan::Lent;
 use ocr_acquire::{Mode, fits};
@@ -272,6 +272,20 @@ impl Block {
             self.words = lent.into_words();
             self.borrower = None;
         }
+    }
+
+    /// Takes a loan back, with these writes in place of those that it keeps. A write past the last
+    /// word is none.
+    pub fn take_back_with(&mut self, edt: Guid, lent: Lent, writes: &[(u32, u64)])
+        requires lent_to { lent.mode ≡ Ew → self.old.borrower ≡ Some edt }
+        requires same_size { lent.mode ≡ Ew → length lent.began ≡ self.old.size }
+        ensures { self.new ≡ after_take_back_with self.old lent writes.now }
+    {
+        if lent.mode() != Mode::Ew {
+            return;
+        }
+        self.words = lent.into_written(writes);
+        self.borrower = None;
     }
 }
 

@@ -137,6 +137,23 @@ impl Lent {
         write_all(&mut words, &values);
         words
     }
+
+    /// The words with which the loan began, with these writes.
+    pub(crate) fn into_written(self, writes: &[(u32, u64)]) -> Vec<u64>
+        ensures words { result.items ≡ written writes.now self.began }
+        ensures len { length result.items ≡ length self.began }
+    {
+        let Lent {
+            mode: _,
+            began,
+            values: _,
+            list: _,
+            is_listed: _,
+        } = self;
+        let mut words = began;
+        write_each(&mut words, writes);
+        words
+    }
 }
 
 /// What is told of a loan by the list of the calls on it.
@@ -195,5 +212,17 @@ fn write_all(words: &mut Vec<u64>, values: &BTreeMap<u32, u64>)
 {
     for (word, value) in values {
         words[*word as usize] = *value;
+    }
+}
+
+/// Makes the writes one after another, but for those past the last word.
+fn write_each(words: &mut Vec<u64>, writes: &[(u32, u64)])
+    ensures words { words.new.items ≡ written writes.now words.old.items }
+    ensures len { length words.new.items ≡ length words.old.items }
+{
+    for (word, value) in writes {
+        if (*word as usize) < words.len() {
+            words[*word as usize] = *value;
+        }
     }
 }

@@ -1,19 +1,24 @@
--- What an entry names is in its footprint.
-use Rattle.std.proofs.Common.{◌≡◌, ℕ, ◌+◌, ◌≤◌, List, [], ◌∷◌, Bool, true, false, ◌==◌, ◌||◌, nat_lt, if◌then◌else◌, arith, refl, ◌∙◌, ap, rules}
+-- What an entry names is in its footprint, whose numbers are those of parts.
+use Rattle.std.proofs.Common.{◌≡◌, ◌⊎◌, inl, inr, ℕ, zero, suc, ◌+◌, ◌-◌, ◌<◌, ◌≤◌, List, [], ◌∷◌, length, slice_index_or, Bool, true, false, ◌==◌, ◌||◌, ◌&&◌, nat_lt, if◌then◌else◌, arith, refl, sym, ◌∙◌, ap, subst, rules}
 use Rattle.std.proofs.lemmas.Grind.{common_steps}
 use Rattle.std.proofs.lemmas.Bool.{eqb-true}
-use Rattle.ocr_body.specs.declared.call.Call as body
-use Rattle.ocr_body.specs.declared.call.Call.TheVariants as call
-use Rattle.ocr_body.specs.declared.call.Answer.{Answer}
-use Rattle.ocr_machine.specs.declared.entry.Entry.TheVariants.{Call}
-use Rattle.ocr_machine.specs.declared.part.Part.{Part}
-use Rattle.ocr_machine.specs.Made.{is_done}
-use Rattle.ocr_machine.specs.Parts.{Parts}
-use Rattle.ocr_machine.specs.Taken.{keys, is_within}
-use Rattle.ocr_machine.specs.New.{HasNew}
-use Rattle.ocr_machine.specs.LegalOn.{IsAnswered, IsFresh}
-use Rattle.ocr_machine.specs.Footprint.{is_in, placed, and_face, and_core, footprint_of}
-use Rattle.ocr_machine.proofs.Places.{has_keys}
+use Rattle.std.specs.List.{All}
+use Rattle.ocr_history.specs.Numbers.{is_in, placed}
+use Rattle.ocr_history.specs.declared.entry.Entry.{Entry}
+use Rattle.ocr_history.specs.declared.entry.Entry.TheVariants.{Call, Deliver, Acquire, Wait, StaleAcquire, Start, Free, End, Stop}
+use Rattle.ocr_meaning.specs.Call.{is_creation}
+use Rattle.ocr_meaning.specs.Holds.{is_done}
+use Rattle.ocr_meaning.specs.declared.call.Call as body
+use Rattle.ocr_meaning.specs.declared.call.Call.TheVariants as call
+use Rattle.ocr_meaning.specs.declared.call.Answer.{Answer}
+use Rattle.ocr_parts.specs.Codes.{Sort, wanted}
+use Rattle.ocr_parts.specs.Footprint.{is_wanted, names_face, on_face, makes_core, on_core_of, and_face, and_core, and_wanted, and_made, call_footprint, footprint_of, is_touched, Covers}
+use Rattle.ocr_parts.specs.LegalOn.{IsAnswered, IsFresh, IsNamed}
+use Rattle.ocr_parts.specs.Parts.{Parts}
+use Rattle.ocr_parts.specs.Taken.{is_within, has, keys}
+use Rattle.ocr_parts.specs.declared.part.Part.{Part}
+use Rattle.ocr_machine.specs.AtHand.{AtHand, state, HasFace, HasCore, HasMade}
+use Rattle.ocr_machine.proofs.Places.{has_keys, no_face, back_again}
 
 or_swap : (a b c : Bool) → (a || (b || c)) ≡ (b || (a || c))
 or_swap true true c = refl
@@ -62,18 +67,197 @@ stays_core limit t n xs is = elim (is_within limit t) as (λ b. is_in n (if b th
   | false ↦ is
 ]
 
--- the numbers of what an accepted call makes are there
+either : (a b : Bool) → (a || b) ≡ true → (a ≡ true) ⊎ (b ≡ true)
+either true b is = inl refl
+either false b is = inr is
+
+both : (a b : Bool) → (a && b) ≡ true → (a ≡ true) × (b ≡ true)
+both true b is = (refl, is)
+both false b is = cc is
+
+face_named : (limit n g : ℕ) (xs : List ℕ) → (n == g) ≡ true → is_within limit g ≡ true → is_in g (and_face limit n xs) ≡ true
+face_named limit n g xs is within = subst (λ (k : ℕ). is_in g (and_face limit k xs) ≡ true) (sym (eqb-true n g is)) (face_in_it limit g xs within)
+
+core_named : (limit n u : ℕ) (xs : List ℕ) → (n == u) ≡ true → is_within limit u ≡ true → is_in (limit + u) (and_core limit n xs) ≡ true
+core_named limit n u xs is within = subst (λ (k : ℕ). is_in (limit + u) (and_core limit k xs) ≡ true) (sym (eqb-true n u is)) (core_in_it limit u xs within)
+
+wanted_stays : (limit : ℕ) (ws : List (ℕ × Sort)) (xs : List ℕ) (n : ℕ) → is_in n xs ≡ true → is_in n (and_wanted limit ws xs) ≡ true
+wanted_stays limit [] xs n is = is
+wanted_stays limit (one ∷ rest) xs n is = stays_face limit one.0 n _ (wanted_stays limit rest xs n is)
+
+wanted_face : (limit : ℕ) (ws : List (ℕ × Sort)) (xs : List ℕ) (g : ℕ) → is_wanted g ws ≡ true → is_within limit g ≡ true → is_in g (and_wanted limit ws xs) ≡ true
+wanted_face limit [] xs g on within = cc on
+wanted_face limit (one ∷ rest) xs g on within = elim (either (one.0 == g) (is_wanted g rest) on) [
+  | inl is ↦ face_named limit one.0 g _ is within
+  | inr is ↦ stays_face limit one.0 g _ (wanted_face limit rest xs g is within)
+]
+
+cores_stay : (limit : ℕ) (c : body.Call) (a : Answer) (xs : List ℕ) (n : ℕ) → is_in n xs ≡ true → is_in n (if makes_core c then and_core limit a.value xs else xs) ≡ true
+cores_stay limit c a xs n is = elim (makes_core c) as (λ b. is_in n (if b then and_core limit a.value xs else xs) ≡ true) [
+  | true ↦ stays_core limit a.value n xs is
+  | false ↦ is
+]
+
+made_stays : (limit : ℕ) (c : body.Call) (a : Answer) (xs : List ℕ) (n : ℕ) → is_in n xs ≡ true → is_in n (and_made limit c a xs) ≡ true
+made_stays limit c a xs n is = elim (is_creation c) as (λ b. is_in n (if b then and_face limit a.value (if makes_core c then and_core limit a.value xs else xs) else xs) ≡ true) [
+  | true ↦ stays_face limit a.value n _ (cores_stay limit c a xs n is)
+  | false ↦ is
+]
+
+made_face : (limit : ℕ) (c : body.Call) (a : Answer) (xs : List ℕ) (g : ℕ) → is_creation c ≡ true → (a.value == g) ≡ true → is_within limit g ≡ true → is_in g (and_made limit c a xs) ≡ true
+made_face limit c a xs g creates is within = rw creates (face_named limit a.value g _ is within)
+
+core_creates : (c : body.Call) → makes_core c ≡ true → is_creation c ≡ true
+core_creates (call.EdtCreate from pc ps dc ds fl o) is = refl
+core_creates other is = cc is
+
+made_core : (limit : ℕ) (c : body.Call) (a : Answer) (xs : List ℕ) (u : ℕ) → makes_core c ≡ true → (a.value == u) ≡ true → is_within limit u ≡ true → is_in (limit + u) (and_made limit c a xs) ≡ true
+made_core limit c a xs u makes is within = rw (core_creates c makes, makes) (stays_face limit a.value (limit + u) _ (core_named limit a.value u xs is within))
+
+call_face : (limit : ℕ) (c : body.Call) (a : Answer) (xs : List ℕ) (g : ℕ) → names_face c a g ≡ true → is_within limit g ≡ true → is_in g (call_footprint limit c a xs) ≡ true
+call_face limit c a xs g on within = elim (either (is_wanted g (wanted c)) (is_creation c && (a.value == g)) on) [
+  | inl is ↦ wanted_face limit (wanted c) _ g is within
+  | inr is ↦ wanted_stays limit (wanted c) _ g (let two = both (is_creation c) (a.value == g) is in made_face limit c a xs g two.0 two.1 within)
+]
+
+call_core : (limit : ℕ) (t : ℕ) (c : body.Call) (a : Answer) (u : ℕ) → ((t == u) || (makes_core c && (a.value == u))) ≡ true → is_within limit u ≡ true
+    → is_in (limit + u) (call_footprint limit c a (and_core limit t [])) ≡ true
+call_core limit t c a u on within = wanted_stays limit (wanted c) _ (limit + u) (elim (either (t == u) (makes_core c && (a.value == u)) on) [
+  | inl is ↦ made_stays limit c a _ (limit + u) (core_named limit t u [] is within)
+  | inr is ↦ let two = both (makes_core c) (a.value == u) is in made_core limit c a _ u two.0 two.1 within
+])
+
+pair_face : (limit t d : ℕ) (xs : List ℕ) (g : ℕ) → ((t == g) || (d == g)) ≡ true → is_within limit g ≡ true → is_in g (and_face limit t (and_face limit d xs)) ≡ true
+pair_face limit t d xs g on within = elim (either (t == g) (d == g) on) [
+  | inl is ↦ face_named limit t g _ is within
+  | inr is ↦ stays_face limit t g _ (face_named limit d g xs is within)
+]
+
+pair_core : (limit t d u : ℕ) → (t == u) ≡ true → is_within limit u ≡ true → is_in (limit + u) (and_face limit t (and_face limit d (and_core limit t []))) ≡ true
+pair_core limit t d u on within = stays_face limit t (limit + u) _ (stays_face limit d (limit + u) _ (core_named limit t u [] on within))
+
+pub named_face : (limit : ℕ) (e : Entry) (g : ℕ) → on_face e g ≡ true → is_within limit g ≡ true → is_in g (footprint_of limit e) ≡ true
+named_face limit (Call t home c a w) g on within = call_face limit c a _ g on within
+named_face limit (Acquire t d) g on within = pair_face limit t d _ g on within
+named_face limit (Wait t d) g on within = pair_face limit t d _ g on within
+named_face limit (StaleAcquire t d) g on within = pair_face limit t d _ g on within
+named_face limit (Start t) g on within = face_named limit t g _ on within
+named_face limit (Free t d w) g on within = face_named limit d g _ on within
+named_face limit (End t returned) g on within = face_named limit returned g _ on within
+named_face limit other g on within = cc on
+
+pub named_core : (limit : ℕ) (e : Entry) (u : ℕ) → on_core_of e u ≡ true → is_within limit u ≡ true → is_in (limit + u) (footprint_of limit e) ≡ true
+named_core limit (Call t home c a w) u on within = call_core limit t c a u on within
+named_core limit (Acquire t d) u on within = pair_core limit t d u on within
+named_core limit (Wait t d) u on within = pair_core limit t d u on within
+named_core limit (StaleAcquire t d) u on within = pair_core limit t d u on within
+named_core limit (Start t) u on within = stays_face limit t (limit + u) _ (core_named limit t u [] on within)
+named_core limit (Free t d w) u on within = stays_face limit d (limit + u) _ (core_named limit t u [] on within)
+named_core limit (End t returned) u on within = stays_face limit returned (limit + u) _ (core_named limit t u [] on within)
+named_core limit other u on within = cc on
+
+core_number : (limit n : ℕ) → is_within limit (n - limit) ≡ true → limit + (n - limit) ≡ n
+core_number limit n within = grind (arith, common_steps)
+
+-- THE FOOTPRINT covers the entry
+touched_named : (limit : ℕ) (e : Entry) (n : ℕ) → is_touched limit e n ≡ true → is_in n (footprint_of limit e) ≡ true
+touched_named limit e n is = elim (is_within limit n) as (λ b. is_within limit n ≡ b → (if b then on_face e n else is_within limit (n - limit) && on_core_of e (n - limit)) ≡ true → is_in n (footprint_of limit e) ≡ true) [
+  | true ↦ λ within on. named_face limit e n on within
+  | false ↦ λ _ on.
+      let two = both (is_within limit (n - limit)) (on_core_of e (n - limit)) on in
+      subst (λ (k : ℕ). is_in k (footprint_of limit e) ≡ true) (core_number limit n two.0) (named_core limit e (n - limit) two.1 two.0)
+] refl is
+
+pub footprint_covers : (limit : ℕ) (e : Entry) (ps : List (ℕ × Part)) → keys ps ≡ footprint_of limit e → Covers limit e ps
+footprint_covers limit e ps are n is = has_keys ps n ∙ ap (is_in n) are ∙ touched_named limit e n is
+
+-- THE PARTS of what an accepted call makes are among those that cover it
 within_fresh : (limit : ℕ) (f : Parts) (g : ℕ) → IsFresh limit f g → is_within limit g ≡ true
 within_fresh limit f g fresh = let some : 1 ≤ g = fresh.some in let most : g ≤ limit = fresh.within in grind (arith, common_steps)
 
-pub new_here : (limit : ℕ) (f : Parts) (t home : ℕ) (c : body.Call) (a : Answer) (w : List (ℕ × ℕ)) (ps : List (ℕ × Part)) → keys ps ≡ footprint_of limit (Call t home c a w)
-    → is_done a.code ≡ true → IsAnswered limit f c a → HasNew limit c a ps
-new_here limit f t home (call.TemplateCreate function pc dc) a w ps is done answered =
-    let within : is_within limit a.value ≡ true = within_fresh limit f a.value (answered.fresh done) in
-    record { within = within; here = has_keys ps a.value ∙ ap (is_in a.value) is ∙ face_in_it limit a.value _ within }
-new_here limit f t home (call.EdtCreate from pc params dc deps flags output) a w ps is done answered =
-    let within : is_within limit a.value ≡ true = within_fresh limit f a.value (answered.0.fresh done) in (
-      record { within = within; here = has_keys ps a.value ∙ ap (is_in a.value) is ∙ stays_face limit from a.value _ (face_in_it limit a.value _ within) },
-      record { within = within; here = has_keys ps (limit + a.value) ∙ ap (is_in (limit + a.value)) is ∙ stays_face limit from (limit + a.value) _ (stays_face limit a.value (limit + a.value) _ (core_in_it limit a.value _ within)) },
-    )
-new_here limit f t home other a w ps is done answered = tt
+named : (limit : ℕ) (f : Parts) (t : ℕ) (c : body.Call) (a : Answer) → IsAnswered limit f t c a → is_creation c ≡ true → IsNamed limit f a
+named limit f t (call.TemplateCreate function pc dc) a is creates = is
+named limit f t (call.DbCreate n fl) a is creates = is
+named limit f t (call.EdtCreate from pc ps dc ds fl o) a is creates = is.named
+named limit f t (call.EventCreate kind fl) a is creates = absurd is
+named limit f t (call.EventCreateParams kind fl m n o) a is creates = absurd is
+named limit f t other a is creates = cc creates
+
+touched_face : (limit : ℕ) (e : Entry) (g : ℕ) → is_within limit g ≡ true → on_face e g ≡ true → is_touched limit e g ≡ true
+touched_face limit e g within on = rw within on
+
+touched_core : (limit : ℕ) (e : Entry) (u : ℕ) → is_within limit u ≡ true → on_core_of e u ≡ true → is_touched limit e (limit + u) ≡ true
+touched_core limit e u within on = rw (no_face limit u within, back_again limit u, within) on
+
+pub has_made : (h : AtHand) (t home : ℕ) (c : body.Call) (a : Answer) (w : List (ℕ × ℕ)) → Covers h.limit (Call t home c a w) h.items → is_done a.code ≡ true
+    → IsAnswered h.limit (state h) t c a → HasMade h c a
+has_made h t home c a w covers done answered =
+    let within : is_creation c ≡ true → is_within h.limit a.value ≡ true = λ creates. within_fresh h.limit (state h) a.value ((named h.limit (state h) t c a answered creates).fresh done) in
+    record {
+      face = λ creates. record {
+        within = within creates;
+        here = covers a.value (touched_face h.limit (Call t home c a w) a.value (within creates) (rw (creates, same a.value) (or_right (is_wanted a.value (wanted c)))));
+      };
+      core = λ makes.
+          let creates : is_creation c ≡ true = core_creates c makes in
+          record {
+            within = within creates;
+            here = covers (h.limit + a.value) (touched_core h.limit (Call t home c a w) a.value (within creates) (rw (makes, same a.value) (or_right (t == a.value))));
+          };
+    }
+
+-- THE NUMBERS of a footprint are those of the whole
+first_or_later : (most m : ℕ) (rest : List ℕ) (k d : ℕ) → m ≤ most → All (λ n. n ≤ most) rest → k < length (m ∷ rest) → slice_index_or (m ∷ rest) k d ≤ most
+first_or_later most m rest zero d first later below = first
+first_or_later most m rest (suc k) d first later below = later k d (omega (arith, below))
+
+small_placed : (n m most : ℕ) (xs : List ℕ) → m ≤ most → (is_in n xs ≡ true → n ≤ most) → is_in n (placed m xs) ≡ true → n ≤ most
+small_placed n m most xs small rest is = elim (either (m == n) (is_in n xs) (sym (in_placed n m xs) ∙ is)) [
+  | inl same ↦ subst (λ (k : ℕ). k ≤ most) (eqb-true m n same) small
+  | inr more ↦ rest more
+]
+
+small_face : (limit g n : ℕ) (xs : List ℕ) → (is_in n xs ≡ true → n ≤ limit + limit) → is_in n (and_face limit g xs) ≡ true → n ≤ limit + limit
+small_face limit g n xs rest is = elim (is_within limit g) as (λ b. is_within limit g ≡ b → is_in n (if b then placed g xs else xs) ≡ true → n ≤ limit + limit) [
+  | true ↦ λ within more. small_placed n g (limit + limit) xs (grind (arith, common_steps)) rest more
+  | false ↦ λ _ more. rest more
+] refl is
+
+small_core : (limit t n : ℕ) (xs : List ℕ) → (is_in n xs ≡ true → n ≤ limit + limit) → is_in n (and_core limit t xs) ≡ true → n ≤ limit + limit
+small_core limit t n xs rest is = elim (is_within limit t) as (λ b. is_within limit t ≡ b → is_in n (if b then placed (limit + t) xs else xs) ≡ true → n ≤ limit + limit) [
+  | true ↦ λ within more. small_placed n (limit + t) (limit + limit) xs (grind (arith, common_steps)) rest more
+  | false ↦ λ _ more. rest more
+] refl is
+
+small_wanted : (limit : ℕ) (ws : List (ℕ × Sort)) (n : ℕ) (xs : List ℕ) → (is_in n xs ≡ true → n ≤ limit + limit) → is_in n (and_wanted limit ws xs) ≡ true → n ≤ limit + limit
+small_wanted limit [] n xs rest is = rest is
+small_wanted limit (one ∷ more) n xs rest is = small_face limit one.0 n _ (small_wanted limit more n xs rest) is
+
+small_cores : (limit : ℕ) (c : body.Call) (a : Answer) (n : ℕ) (xs : List ℕ) → (is_in n xs ≡ true → n ≤ limit + limit) → is_in n (if makes_core c then and_core limit a.value xs else xs) ≡ true → n ≤ limit + limit
+small_cores limit c a n xs rest is = elim (makes_core c) as (λ b. is_in n (if b then and_core limit a.value xs else xs) ≡ true → n ≤ limit + limit) [
+  | true ↦ λ more. small_core limit a.value n xs rest more
+  | false ↦ rest
+] is
+
+small_made : (limit : ℕ) (c : body.Call) (a : Answer) (n : ℕ) (xs : List ℕ) → (is_in n xs ≡ true → n ≤ limit + limit) → is_in n (and_made limit c a xs) ≡ true → n ≤ limit + limit
+small_made limit c a n xs rest is = elim (is_creation c) as (λ b. is_in n (if b then and_face limit a.value (if makes_core c then and_core limit a.value xs else xs) else xs) ≡ true → n ≤ limit + limit) [
+  | true ↦ λ more. small_face limit a.value n _ (small_cores limit c a n xs rest) more
+  | false ↦ rest
+] is
+
+nowhere : (n : ℕ) (P : Type 0) → is_in n [] ≡ true → P
+nowhere n P is = cc is
+
+pub small : (limit : ℕ) (e : Entry) (n : ℕ) → is_in n (footprint_of limit e) ≡ true → n ≤ limit + limit
+small limit (Call t home c a w) n is = small_wanted limit (wanted c) n _ (small_made limit c a n _ (small_core limit t n [] (nowhere n _))) is
+small limit (Acquire t d) n is = small_face limit t n _ (small_face limit d n _ (small_core limit t n [] (nowhere n _))) is
+small limit (Wait t d) n is = small_face limit t n _ (small_face limit d n _ (small_core limit t n [] (nowhere n _))) is
+small limit (StaleAcquire t d) n is = small_face limit t n _ (small_face limit d n _ (small_core limit t n [] (nowhere n _))) is
+small limit (Start t) n is = small_face limit t n _ (small_core limit t n [] (nowhere n _)) is
+small limit (Free t d w) n is = small_face limit d n _ (small_core limit t n [] (nowhere n _)) is
+small limit (End t returned) n is = small_face limit returned n _ (small_core limit t n [] (nowhere n _)) is
+small limit other n is = nowhere n _ is
+
+pub all_small : (most : ℕ) (ns : List ℕ) → ((n : ℕ) → is_in n ns ≡ true → n ≤ most) → All (λ n. n ≤ most) ns
+all_small most [] is = λ k d below. absurd (omega (arith, below))
+all_small most (m ∷ rest) is = λ k d below. first_or_later most m rest k d (is m (rw (same m) refl)) (all_small most rest (λ n more. is n (rw more (or_right (m == n))))) below

@@ -1,11 +1,7 @@
-pub mod After
+pub mod Accepted
 pub mod Arguments
 pub mod Footprints
-pub mod Going
-pub mod Keeping
-pub mod Local
-pub mod Next
 pub mod Places
-pub mod Present
-pub mod Told
+pub mod Steps
+pub mod Tables
 pub mod Wholes

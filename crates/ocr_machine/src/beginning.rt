@@ -3,27 +3,20 @@ ghost use Rattle.std.specs.Prelude.{◌≡◌, ◌≤◌, ◌+◌, ◌∷◌, []
 ghost use Rattle.ocr_tree.specs.Functions.{number_of_main};
 ghost use Rattle.ocr_slots.specs.Slots as slots;
 ghost use Rattle.ocr_datablock.specs.Block as blocks;
-ghost use Rattle.ocr_machine.specs.History.{Setting};
-ghost use Rattle.ocr_machine.specs.Calls.{slot_calls, block_calls, stores_from};
-ghost use Rattle.ocr_machine.specs.Parts.{parts_of, identity_of};
-ghost use Rattle.ocr_machine.specs.Taken.{keys, parts_in};
-ghost use Rattle.ocr_machine.specs.declared.part.Part.TheVariants as part;
+ghost use Rattle.ocr_history.specs.History.{Setting};
+ghost use Rattle.ocr_parts.specs.Calls.{link_calls, stores_from};
+ghost use Rattle.ocr_parts.specs.Parts.{parts_of};
+ghost use Rattle.ocr_parts.specs.Taken.{keys, parts_in, ArePlaced};
 
-use crate::part::{Core, Part};
 use ocr_acquire::Mode;
 use ocr_base::{NoMemory, Seq};
 use ocr_datablock::Block;
-use ocr_edt::Edt;
-use ocr_edt::preparing::Filling;
+use ocr_edt::{Edt, Filling};
 use ocr_guid::Guid;
+use ocr_history::{ARGUMENTS, MAIN_EDT};
+use ocr_parts::{Core, Loans, Part};
 use ocr_slots::Slots;
 use std::alloc::Global;
-
-/// The number of the argument block.
-pub const ARGUMENTS: u64 = 1;
-
-/// The number of the EDT of `mainEdt`.
-pub const MAIN_EDT: u64 = 2;
 
 /// The parts of what the opening makes: the face of the argument block, and the face and the core
 /// of the EDT of `mainEdt`, whose function has this number.
@@ -39,6 +32,7 @@ pub fn opening(
     ensures parts { IfOk result (λ parts. (s : Setting) → number_of_main s.program ≡ main
         → s.args ≡ args.now → s.limit ≡ limit
         → parts_in limit parts.items ≡ parts_of s []) }
+    ensures placed { IfOk result (λ parts. ArePlaced limit parts.items) }
     ensures keys { IfOk result (λ parts. keys parts.items ≡ 1 ∷ 2 ∷ (limit + 2) ∷ []) }
 {
     let words = argument_block(alloc, args)?;
@@ -47,6 +41,7 @@ pub fn opening(
         function: main,
         params: Seq::new(alloc),
         edt: Edt::Filling(Filling::new(Guid(MAIN_EDT), Guid::NULL, Guid::NULL, false)),
+        loans: Loans::new(alloc),
     };
     match vec![in alloc;
         (ARGUMENTS, Part::Block(words)),
@@ -58,13 +53,12 @@ pub fn opening(
     }
 }
 
-/// The slot of `mainEdt`, which is linked in RW and set to the argument block.
+/// The slot of `mainEdt`, which is linked in RW. What it is set to does not stand in the face.
 fn main_slots(alloc: Global) -> Result<Slots, NoMemory>
-    ensures { IfOk result (λ made. made ≡ slots.state_of 1 (slot_calls [] 2)) }
+    ensures { IfOk result (λ made. made ≡ slots.state_of 1 (link_calls [] 2)) }
 {
     let mut slots = Slots::new(alloc, 1)?;
     slots.link(0, Mode::Rw);
-    slots.set(0, Guid(ARGUMENTS));
     Ok(slots)
 }
 

@@ -1,31 +1,24 @@
-//! The machine: the entries of a journal, the parts of the machine's state, what an entry does to
-//! them, and what a run is.
+//! The machine: what an entry does to the parts that it names, the code of a call, and the table of
+//! all parts.
 #![tactic(auto)]
 
 mod beginning;
+mod calling;
 mod codes;
-mod effects;
-mod entry;
-mod journal;
-mod laws;
-mod limits;
+mod ending;
+mod making;
 mod naming;
-mod part;
+mod plans;
+mod rows;
+mod sets;
+mod stepping;
 mod table;
 mod taken;
-mod writes;
+mod waking;
 
-pub use beginning::{ARGUMENTS, MAIN_EDT, opening};
+pub use beginning::opening;
 pub use codes::decide;
-pub use effects::step;
-pub use entry::{Entry, Fault, Message, Stop, What};
-pub use journal::Journal;
-pub use laws::{going_laws, machine_laws, run_laws};
-pub use limits::{MOST_OBJECTS, SHARE};
 pub use naming::{footprint, weight};
-pub use part::{Core, Part, Stepped};
+pub use sets::Sets;
+pub use stepping::step;
 pub use table::{Entered, Table};
-pub use writes::Writes;
-
-#[cfg(test)]
-mod tests;

@@ -1,15 +1,127 @@
-// Parts with their numbers, as an entry takes them out of the table.
-ghost use Rattle.std.specs.Prelude.{◌≡◌, IfSome, IfNone};
-ghost use Rattle.ocr_machine.specs.Taken.{look, put, keys};
+// The parts that an entry has at hand.
+ghost use Rattle.std.specs.Prelude.{◌≡◌, ◌≤◌, ◌+◌, true, IfSome, IfNone};
+ghost use Rattle.ocr_parts.specs.Kinds.{is_block, is_edt_face, is_template};
+ghost use Rattle.ocr_parts.specs.Taken.{look, put};
+ghost use Rattle.ocr_parts.specs.declared.part.Part.TheVariants as part;
+ghost use Rattle.ocr_machine.specs.AtHand.{state, with_part, is_core};
 
-use crate::part::Part;
+use ocr_datablock::Block;
+use ocr_parts::{Core, Part};
+use ocr_slots::Slots;
+use ocr_template::Template;
+use std::marker::Model;
+
+/// Parts with their numbers: the face of object g has the number g, and the core of EDT t the
+/// number limit + t.
+#[derive(Drop)]
+pub(crate) struct Taken {
+    limit: u64,
+    parts: Vec<(u64, Part)>,
+}
+
+impl Model for Taken {
+    ghost use Rattle.std.specs.Prelude.{◌≤◌};
+    ghost use Rattle.ocr_machine.specs.AtHand.{AtHand};
+
+    ghost Value = { AtHand };
+
+    ghost view = { λ t. record { limit = t.limit; items = t.parts.items } };
+
+    ghost invariant = { λ t. t.limit ≤ 65536 };
+}
+
+impl Taken {
+    pub fn new(limit: u64, parts: Vec<(u64, Part)>) -> Taken
+        requires { limit ≤ 65536 }
+        ensures { result ≡ record { limit = limit; items = parts.items } }
+    {
+        Taken { limit, parts }
+    }
+
+    pub fn into_parts(self) -> Vec<(u64, Part)>
+        ensures { result.items ≡ self.items }
+    {
+        let Taken { limit: _, parts } = self;
+        parts
+    }
+
+    /// The core of an EDT; None where it is not at hand.
+    pub fn core(&self, edt: u64) -> Option<&Part>
+        requires { edt ≤ self.now.limit }
+        ensures some { IfSome result (λ p. look self.now.items (self.now.limit + edt) ≡ p.now) }
+        ensures none { IfNone result (look self.now.items (self.now.limit + edt) ≡ part.Vacant) }
+    {
+        find(&self.parts, self.limit + edt)
+    }
+
+    /// Puts a face in the place of the one that an object has.
+    pub fn put_face(&mut self, object: u64, part: Part)
+        ensures { self.new ≡ with_part self.old object part }
+    {
+        replace(&mut self.parts, object, part);
+    }
+
+    /// Puts a core in the place of the one that an EDT has.
+    pub fn put_core(&mut self, edt: u64, core: Core)
+        requires { edt ≤ self.old.limit }
+        ensures { self.new ≡ with_part self.old (self.old.limit + edt) (part.Core core) }
+    {
+        replace(&mut self.parts, self.limit + edt, Part::Core(core));
+    }
+
+    /// Takes the core of an EDT out.
+    pub fn take_core(&mut self, edt: u64) -> Core
+        requires { is_core ((state self.old).core edt) ≡ true }
+        ensures within { edt ≤ self.old.limit }
+        ensures was { (state self.old).core edt ≡ part.Core result }
+        ensures left { self.new ≡ with_part self.old (self.old.limit + edt) part.Vacant }
+    {
+        let Part::Core(core) = replace(&mut self.parts, self.limit + edt, Part::Vacant) else {
+            unreachable!()
+        };
+        core
+    }
+
+    /// Takes a block out.
+    pub fn take_block(&mut self, block: u64) -> Block
+        requires { is_block ((state self.old).face block) ≡ true }
+        ensures was { (state self.old).face block ≡ part.Block result }
+        ensures left { self.new ≡ with_part self.old block part.Vacant }
+    {
+        let Part::Block(state) = replace(&mut self.parts, block, Part::Vacant) else {
+            unreachable!()
+        };
+        state
+    }
+
+    /// A template.
+    pub fn template(&self, template: u64) -> Template
+        requires { is_template ((state self.now).face template) ≡ true }
+        ensures { (state self.now).face template ≡ part.Template result }
+    {
+        let Some(Part::Template(made)) = find(&self.parts, template) else {
+            unreachable!()
+        };
+        *made
+    }
+
+    /// Takes the slots of an EDT out.
+    pub fn take_slots(&mut self, edt: u64) -> Slots
+        requires { is_edt_face ((state self.old).face edt) ≡ true }
+        ensures was { (state self.old).face edt ≡ part.Edt result }
+        ensures left { self.new ≡ with_part self.old edt part.Vacant }
+    {
+        let Part::Edt(slots) = replace(&mut self.parts, edt, Part::Vacant) else {
+            unreachable!()
+        };
+        slots
+    }
+}
 
 /// Puts a part in the place of the one with this number, and gives that one.
-#[tactic(auto, using(crate::proofs::Places::keys_put))]
-pub(crate) fn replace(parts: &mut Vec<(u64, Part)>, number: u64, part: Part) -> Part
+fn replace(parts: &mut Vec<(u64, Part)>, number: u64, part: Part) -> Part
     ensures was { result ≡ look parts.old.items number }
     ensures now { parts.new.items ≡ put parts.old.items number part }
-    ensures keys { keys parts.new.items ≡ keys parts.old.items }
 {
     for i in 0..parts.len() {
         if parts[i].0 == number {
@@ -22,7 +134,7 @@ pub(crate) fn replace(parts: &mut Vec<(u64, Part)>, number: u64, part: Part) -> 
 /// The part with this number.
 pub(crate) fn find<'a>(parts: &'a [(u64, Part)], number: u64) -> Option<&'a Part>
     ensures some { IfSome result (λ p. look parts.now number ≡ p.now) }
-    ensures none { IfNone result (look parts.now number ≡ Part.Vacant) }
+    ensures none { IfNone result (look parts.now number ≡ part.Vacant) }
 {
     for i in 0..parts.len() {
         if parts[i].0 == number {

@@ -1,5 +1,5 @@
 use Rattle.std.proofs.Common.{◌≡◌, drop}
-use Rattle.ocr_machine.specs.Taken.{look}
+use Rattle.ocr_parts.specs.Taken.{look}
 use Rattle.ocr_machine.proofs.taken.find.Given as goal
 
 abbrev pub invariant-loop-i : goal.invariant-loop-i

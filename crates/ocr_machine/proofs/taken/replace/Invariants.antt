@@ -1,6 +1,6 @@
 use Rattle.std.proofs.Common.{◌≡◌, ◌++◌, drop, take}
-use Rattle.ocr_machine.specs.declared.part.Part.{Part}
-use Rattle.ocr_machine.specs.Taken.{look, put}
+use Rattle.ocr_parts.specs.declared.part.Part.{Part}
+use Rattle.ocr_parts.specs.Taken.{look, put}
 use Rattle.ocr_machine.proofs.taken.replace.Given as goal
 
 abbrev pub invariant-loop-i : goal.invariant-loop-i

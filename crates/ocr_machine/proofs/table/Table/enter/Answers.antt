@@ -1,38 +1,21 @@
-use Rattle.std.proofs.Common.{◌≡◌, ◌+◌, ℕ, List, ◌∙◌, subst, true}
-use Rattle.ocr_machine.specs.Footprint.{is_in, footprint_of}
-use Rattle.ocr_machine.specs.Taken.{keys, parts_in}
-use Rattle.ocr_machine.specs.Table.{all_parts}
-use Rattle.ocr_machine.proofs.Wholes.{small, all_small, all_keys, alike_taken, IsTakenFor, put_back, after_all}
+use Rattle.std.proofs.Common.{◌∙◌}
+use Rattle.ocr_machine.proofs.Tables.{legal_ready, entered, sends_readied, resumes_readied}
 use Rattle.ocr_machine.proofs.table.Table.enter.Goals as goal
+use Rattle.std.proofs.Common.{ap}
+use Rattle.ocr_parts.specs.Parts.{Parts}
+use Rattle.ocr_parts.specs.Messages.{sends, resumes}
 
-pub take-requires : goal.take-requires
-take-requires c =
-    let are : c.deref.result.now ≡ footprint_of c.args.self.now.limit c.args.entry.now = c.deref.ensures.value ∙ c.in_ok-numbers.ensures in
-    all_small (c.args.self.now.limit + c.args.self.now.limit) c.deref.result.now
-    (λ n is. small c.args.self.now.limit c.args.entry.now n (subst (λ (ns : List ℕ). is_in n ns ≡ true) are is))
+pub change-requires : goal.change-requires
+change-requires c = legal_ready c.requires.0 c.requires.1 c.args.entry.now c.args.self.now c.make_ready.new.self c.requires.2 c.make_ready.ensures.limit c.in_ok-make_ready.ensures.parts
 
-pub step-requires-clause-legal : goal.step-requires-clause-legal
-step-requires-clause-legal c =
-    let are : c.deref.result.now ≡ footprint_of c.args.self.now.limit c.args.entry.now = c.deref.ensures.value ∙ c.in_ok-numbers.ensures in
-    let taken : IsTakenFor c.args.self.now.limit c.args.entry.now c.args.self.now.parts.items c.in_ok-taken.taken.items = rw are at c.in_ok-taken.ensures.taken in
-    rw c.take.ensures.limit (c.machine_laws.ensures.legality c.args.self.now.limit c.args.entry.now (all_parts c.args.self.now.limit c.args.self.now.parts.items)
-    (parts_in c.args.self.now.limit c.in_ok-taken.taken.items) (alike_taken c.args.self.now.limit c.args.entry.now c.args.self.now.parts.items c.in_ok-taken.taken.items taken) c.requires)
+pub returns-clause-table : goal.returns-clause-table
+returns-clause-table c = λ s past before. entered c.machine_laws.ensures.after c.machine_laws.ensures.within s past c.args.entry.now c.args.self.now c.make_ready.new.self c.change.new.self c.note.new.self before
+    c.make_ready.ensures.limit c.make_ready.ensures.sets c.in_ok-make_ready.ensures.parts c.in_ok-make_ready.ensures.placed
+    c.change.ensures.limit c.change.ensures.sets c.in_ok-entered.ensures.parts c.in_ok-entered.ensures.placed
+    c.note.ensures.limit c.note.ensures.parts c.in_ok-note.ensures.sets
 
-pub give-requires : goal.give-requires
-give-requires c =
-    let are : keys c.in_ok-stepped.stepped.parts.items ≡ footprint_of c.args.self.now.limit c.args.entry.now =
-    c.in_ok-stepped.ensures.keys ∙ c.in_ok-taken.ensures.keys ∙ c.deref.ensures.value ∙ c.in_ok-numbers.ensures in
-    rw c.take.ensures.limit (all_keys (c.args.self.now.limit + c.args.self.now.limit) c.in_ok-stepped.stepped.parts.items
-    (all_small (c.args.self.now.limit + c.args.self.now.limit) (keys c.in_ok-stepped.stepped.parts.items)
-    (λ n is. small c.args.self.now.limit c.args.entry.now n (subst (λ (ns : List ℕ). is_in n ns ≡ true) are is))))
+pub returns-clause-messages : goal.returns-clause-messages
+returns-clause-messages c = c.in_ok-entered.ensures.messages ∙ ap (λ (f : Parts). sends c.args.entry.now f) c.in_ok-make_ready.ensures.parts ∙ sends_readied _ c.args.entry.now _
 
-pub returns-clause-parts : goal.returns-clause-parts
-returns-clause-parts c =
-    let limit : ℕ = c.args.self.now.limit in
-    let are : c.deref.result.now ≡ footprint_of limit c.args.entry.now = c.deref.ensures.value ∙ c.in_ok-numbers.ensures in
-    let taken : IsTakenFor limit c.args.entry.now c.args.self.now.parts.items c.in_ok-taken.taken.items = rw are at c.in_ok-taken.ensures.taken in
-    let keyed : keys c.in_ok-stepped.stepped.parts.items ≡ footprint_of limit c.args.entry.now = c.in_ok-stepped.ensures.keys ∙ c.in_ok-taken.ensures.keys ∙ are in
-    let stepped = rw c.take.ensures.limit at c.in_ok-stepped.ensures.parts in
-    after_all c.machine_laws.ensures.frame limit c.args.entry.now c.args.self.now.parts.items c.in_ok-taken.taken.items c.in_ok-stepped.stepped.parts.items c.give.new.self.parts.items taken c.requires stepped
-    (put_back limit c.args.entry.now c.args.self.now.parts.items c.take.new.self.parts.items c.in_ok-stepped.stepped.parts.items c.give.new.self.parts.items keyed
-    (rw are at c.in_ok-taken.ensures.left) c.give.ensures.parts)
+pub returns-clause-resumed : goal.returns-clause-resumed
+returns-clause-resumed c = c.in_ok-entered.ensures.resumed ∙ ap (λ (f : Parts). resumes c.args.entry.now f) c.in_ok-make_ready.ensures.parts ∙ resumes_readied _ c.args.entry.now _

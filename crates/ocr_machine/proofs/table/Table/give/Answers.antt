@@ -1,5 +1,5 @@
 use Rattle.std.proofs.Common.{◌+◌, ◌<◌, ℕ, List, length, ap, sym, ◌∙◌, arith}
-use Rattle.ocr_machine.specs.declared.part.Part.{Part}
+use Rattle.ocr_parts.specs.declared.part.Part.{Part}
 use Rattle.ocr_machine.proofs.Wholes.{given, give_one, all_front}
 use Rattle.ocr_machine.proofs.table.Table.give.Goals as goal
 
@@ -9,6 +9,7 @@ loop-number-preserved c =
     let below : c.in-Some.number < length c.loop-number.self.parts.items = omega (arith, both.1) in
     record {
       limit = c.loop-number.invariant.limit;
+      sets = c.loop-number.invariant.sets;
       below = both.0;
       same = λ n. rw c.set_at.ensures.parts
           (sym (give_one c.pop.new.self.items c.in-Some.number c.in-Some.part c.loop-number.self.parts.items n below)

@@ -12,6 +12,7 @@ loop-number-preserved c =
     c.replace-part.ensures.value ∙ same_part c.loop-number.self.parts.items m c.index_mut.result.now below c.index_mut.ensures.value in
     record {
       limit = c.loop-number.invariant.limit;
+      sets = c.loop-number.invariant.sets;
       room = omega (arith, c.push_reserved.ensures.capacity, c.loop-number.invariant.room);
       len = omega (arith, c.push_reserved.ensures.len, c.loop-number.invariant.len);
       taken_so_far = rw (take_more c.args.numbers.now c.loop-number.number-index c.loop-number-test.true, c.push_reserved.ensures.items, value, c.replace-part.ensures.after)

@@ -1,0 +1,6 @@
+pub mod Edts
+pub mod History
+pub mod Made
+pub mod Numbers
+pub mod Output
+pub mod Weight

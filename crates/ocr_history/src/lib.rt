@@ -1,0 +1,15 @@
+//! The entries of a journal, and what a history of them tells by itself: what was made, which EDTs
+//! started and ended, what a run writes and weighs.
+#![tactic(auto)]
+
+mod entry;
+mod journal;
+mod limits;
+mod objects;
+mod writes;
+
+pub use entry::{Entry, Fault, Message, Stop, What};
+pub use journal::Journal;
+pub use limits::{MOST_OBJECTS, SHARE};
+pub use objects::{ARGUMENTS, MAIN_EDT};
+pub use writes::Writes;

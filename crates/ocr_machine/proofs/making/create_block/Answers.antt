@@ -1,0 +1,23 @@
+use Rattle.std.proofs.Common.{ap, refl, ◌/◌, []}
+use Rattle.ocr_datablock.specs.Block.{State, state_of}
+use Rattle.ocr_history.specs.Made.{creator_of}
+use Rattle.ocr_parts.specs.declared.part.Part.TheVariants as part
+use Rattle.ocr_parts.specs.Effects.{with_face, with_core, creating_core}
+use Rattle.ocr_parts.specs.Kinds.{on_core}
+use Rattle.ocr_parts.specs.Parts.{Parts}
+use Rattle.ocr_machine.specs.AtHand.{state}
+use Rattle.ocr_machine.proofs.Places.{core_step, face_then, into}
+use Rattle.ocr_machine.proofs.making.create_block.Goals as goal
+
+pub returns : goal.returns
+returns c =
+    let h = c.args.parts.now in
+    let f : Parts = state h in
+    let t = c.args.edt in
+    let size = c.args.length / 8 in
+    let after = with_core f t (on_core (f.core t) (creating_core c.args.flags c.args.block size)) in
+    into h c.put_face.new.self _ _
+    (face_then h c.put_core.new.self c.put_face.new.self after c.args.block (part.Block c.in_ok-state.state)
+    (core_step h c.take_core.new.self c.put_core.new.self t c.take_core.result c.in_ok-core.core (creating_core c.args.flags c.args.block size) c.take_core.ensures.left c.put_core.ensures c.take_core.ensures.was c.in_ok-core.ensures)
+    c.put_face.ensures c.requires.face refl)
+    (ap (λ (st : State). with_face after c.args.block (part.Block st)) (rw (c.in_ok-state.ensures, c.creator.ensures) refl))

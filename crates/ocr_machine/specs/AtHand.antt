@@ -1,0 +1,90 @@
+-- The parts that an entry has at hand, and what is told of a step that changes them.
+use Rattle.std.specs.Prelude.{◌≡◌, ◌≤◌, ◌<◌, ℕ, ◌+◌, List, Bool, true, false, Option, None, is_some, length}
+use Rattle.ocr_guid.specs.declared.Code.TheVariants.{Done}
+use Rattle.ocr_template.specs.Template.{count_meant}
+use Rattle.ocr_acquire.specs.Mode.{mode_in}
+use Rattle.ocr_datablock.specs.Block as block
+use Rattle.ocr_datablock.specs.Lent.{Loan}
+use Rattle.ocr_meaning.specs.Call.{is_creation}
+use Rattle.ocr_meaning.specs.declared.call.Call as body
+use Rattle.ocr_meaning.specs.declared.call.Call.TheVariants as call
+use Rattle.ocr_meaning.specs.declared.call.Answer.{Answer}
+use Rattle.ocr_parts.specs.declared.part.Part.{Part}
+use Rattle.ocr_parts.specs.declared.part.Part.TheVariants as part
+use Rattle.ocr_parts.specs.Codes.{code_of}
+use Rattle.ocr_parts.specs.Footprint.{makes_core}
+use Rattle.ocr_parts.specs.Kinds.{is_running}
+use Rattle.ocr_parts.specs.LegalOn.{IsAnswered, IsLoanBack}
+use Rattle.ocr_parts.specs.Parts.{Parts}
+use Rattle.ocr_parts.specs.Taken.{has, put, keys, is_within, parts_in, ArePlaced}
+
+-- parts with their numbers, of a state with so many objects
+pub record AtHand : Type 0 where
+  pub limit : ℕ
+  pub items : List (ℕ × Part)
+
+abbrev pub state : AtHand → Parts
+state h = parts_in h.limit h.items
+
+abbrev pub with_part : AtHand → ℕ → Part → AtHand
+with_part h n x = record { limit = h.limit; items = put h.items n x }
+
+abbrev pub is_core : Part → Bool
+is_core (part.Core c) = true
+is_core other = false
+
+-- the number of slots that an EDT made from a template gets
+abbrev pub slots_meant : Part → ℕ → ℕ
+slots_meant (part.Template t) depc = count_meant t.depc depc
+slots_meant other depc = 0
+
+-- A STEP makes these parts of them, each at its number, and in a place of its kind if they all were
+-- so before
+pub record Becomes (old new : AtHand) (f : Parts) : Type 0 where
+  pub limit : new.limit ≡ old.limit
+  pub state : state new ≡ f
+  pub keys : keys new.items ≡ keys old.items
+  pub placed : ArePlaced old.limit old.items → ArePlaced new.limit new.items
+
+-- the face of an object, or the core of an EDT, is at hand
+pub record HasFace (h : AtHand) (g : ℕ) : Type 0 where
+  pub within : is_within h.limit g ≡ true
+  pub here : has h.items g ≡ true
+
+pub record HasCore (h : AtHand) (t : ℕ) : Type 0 where
+  pub within : is_within h.limit t ≡ true
+  pub here : has h.items (h.limit + t) ≡ true
+
+-- the parts of what an accepted call makes are at hand
+pub record HasMade (h : AtHand) (c : body.Call) (a : Answer) : Type 0 where
+  pub face : is_creation c ≡ true → HasFace h a.value
+  pub core : makes_core c ≡ true → HasCore h a.value
+
+-- a call of an EDT that is accepted on these parts
+pub record IsAccepted (h : AtHand) (t : ℕ) (c : body.Call) (a : Answer) : Type 0 where
+  pub running : is_running ((state h).core t) ≡ true
+  pub done : a.code ≡ Done
+  pub code : code_of t (state h).face c ≡ Done
+  pub answered : IsAnswered h.limit (state h) t c a
+  pub made : HasMade h c a
+
+-- a hold that may end
+pub record IsReturning (t : ℕ) (loan : Option Loan) (st : block.State) : Type 0 where
+  pub holder : is_some (mode_in t st.holders) ≡ true
+  pub loan_back : IsLoanBack t loan st
+
+-- a block that may be destroyed
+pub record IsDoomable (t : ℕ) (loan : Option Loan) (st : block.State) : Type 0 where
+  pub live : st.destroyed ≡ false
+  pub loan_back : IsLoanBack t loan st
+
+-- a word that may be set
+pub record IsStorable (k : ℕ) (st : block.State) : Type 0 where
+  pub exists : k < st.size
+  pub not_lent : st.borrower ≡ None
+
+-- a slot that can be linked has a small number
+abbrev pub HasFewSlots : body.Call → Type 0
+HasFewSlots (call.AddDependence from x i m) = i < 32
+HasFewSlots (call.EdtCreate from pc ps dc ds fl o) = length ds ≤ 32
+HasFewSlots other = Unit {0}

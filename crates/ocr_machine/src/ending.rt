@@ -1,0 +1,194 @@
+// What ends a hold, and what ends an EDT.
+ghost use Rattle.std.specs.Prelude.{◌≡◌, ◌≢◌, true, false, is_some, Some, IfOk};
+ghost use Rattle.ocr_acquire.specs.Mode.{mode_in};
+ghost use Rattle.ocr_datablock.specs.Steps.{after_release, after_doom};
+ghost use Rattle.ocr_parts.specs.Calls.{is_number};
+ghost use Rattle.ocr_parts.specs.Effects.{with_face, with_core, with_phase, dropped_edt, ended_edt, dropping_core, returned, hold_ended, ended};
+ghost use Rattle.ocr_parts.specs.Kinds.{IsBlock, with_block, on_core, is_running, is_destroyed, loan_on};
+ghost use Rattle.ocr_parts.specs.LegalOn.{IsEnding, IsDooming, IsEndOn, IsLoanBack};
+ghost use Rattle.ocr_parts.specs.Loans.{loan_in};
+ghost use Rattle.ocr_parts.specs.Messages.{resumed_by, resumed_by_doom};
+ghost use Rattle.ocr_machine.specs.AtHand.{state, Becomes, IsReturning, IsDoomable};
+
+use crate::taken::Taken;
+use ocr_base::NoMemory;
+use ocr_datablock::{Block, Lent};
+use ocr_edt::Edt;
+use ocr_guid::Guid;
+use ocr_history::Writes;
+use ocr_parts::{Core, Kept, Part};
+use std::alloc::Global;
+
+/// The EDT's hold of the block ends; gives who is resumed.
+pub(crate) fn end_hold(
+    alloc: Global,
+    parts: &mut Taken,
+    edt: u64,
+    block: u64,
+    writes: &Writes,
+) -> Result<Vec<Guid>, NoMemory>
+    requires held { IsEnding (state parts.old) edt block }
+    requires running { is_running ((state parts.old).core edt) ≡ true }
+    ensures parts { IfOk result (λ _. Becomes parts.old parts.new
+        (ended after_release (state parts.old) edt block writes.now)) }
+    ensures resumed { IfOk result (λ r. r.items ≡ resumed_by ((state parts.old).face block) edt) }
+{
+    let lent = drop_core(parts, edt, block);
+    release_at(alloc, parts, edt, block, lent, writes)
+}
+
+/// The EDT drops its hold of the block; gives the loan.
+fn drop_core(parts: &mut Taken, edt: u64, block: u64) -> Option<Lent>
+    requires { is_running ((state parts.old).core edt) ≡ true }
+    ensures loan { result ≡ loan_on ((state parts.old).core edt) block }
+    ensures parts { Becomes parts.old parts.new
+        (with_core (state parts.old) edt
+        (on_core ((state parts.old).core edt) (dropping_core block))) }
+{
+    let Core {
+        function,
+        params,
+        edt: phase,
+        loans,
+    } = parts.take_core(edt);
+    let mut loans = loans;
+    let kept = loans.take(Guid(block));
+    let core = Core {
+        function,
+        params,
+        edt: dropped(phase, block),
+        loans,
+    };
+    parts.put_core(edt, core);
+    loan_in(kept)
+}
+
+fn loan_in(kept: Option<Kept>) -> Option<Lent>
+    ensures { result ≡ loan_in kept }
+{
+    match kept {
+        Some(kept) => kept.loan,
+        None => None,
+    }
+}
+
+fn dropped(edt: Edt, block: u64) -> Edt
+    ensures { result ≡ dropped_edt block edt }
+{
+    match edt {
+        Edt::Running(mut running) => {
+            running.drop_hold(Guid(block));
+            Edt::Running(running)
+        }
+        Edt::Filling(filling) => Edt::Filling(filling),
+        Edt::Acquiring(acquiring) => Edt::Acquiring(acquiring),
+        Edt::Waiting(waiting) => Edt::Waiting(waiting),
+        Edt::Ended(ended) => Edt::Ended(ended),
+    }
+}
+
+/// The block gets its loan back, and the EDT's hold of it ends; gives who is resumed.
+fn release_at(
+    alloc: Global,
+    parts: &mut Taken,
+    edt: u64,
+    block: u64,
+    lent: Option<Lent>,
+    writes: &Writes,
+) -> Result<Vec<Guid>, NoMemory>
+    requires { IsBlock ((state parts.old).face block) (IsReturning edt lent) }
+    ensures parts { IfOk result (λ _. Becomes parts.old parts.new
+        (with_face (state parts.old) block
+        (with_block ((state parts.old).face block)
+        (hold_ended after_release edt writes.now lent)))) }
+    ensures resumed { IfOk result (λ r. r.items ≡ resumed_by ((state parts.old).face block) edt) }
+{
+    let mut state = parts.take_block(block);
+    give_back(&mut state, edt, lent, writes);
+    let resumed = state.release(alloc, Guid(edt))?;
+    parts.put_face(block, Part::Block(state));
+    Ok(resumed)
+}
+
+/// A loan comes back with the private writes of an entry, where there is one.
+fn give_back(state: &mut Block, edt: u64, lent: Option<Lent>, writes: &Writes)
+    requires { IsLoanBack edt lent state.old }
+    ensures state { state.new ≡ returned writes.now lent state.old }
+    ensures none { is_number edt state.new.borrower ≡ false }
+    ensures holders { state.new.holders ≡ state.old.holders }
+    ensures queue { state.new.queue ≡ state.old.queue }
+    ensures destroyed { state.new.destroyed ≡ state.old.destroyed }
+{
+    if let Some(lent) = lent {
+        state.take_back_with(Guid(edt), lent, writes.as_slice());
+    }
+}
+
+/// The block is destroyed, and the EDT's hold of it ends, where it has one; gives who is resumed.
+pub(crate) fn destroy(
+    alloc: Global,
+    parts: &mut Taken,
+    edt: u64,
+    block: u64,
+    writes: &Writes,
+) -> Result<Vec<Guid>, NoMemory>
+    requires agreed { IsDooming (state parts.old) edt block }
+    requires live { is_destroyed ((state parts.old).face block) ≡ false }
+    requires running { is_running ((state parts.old).core edt) ≡ true }
+    ensures parts { IfOk result (λ _. Becomes parts.old parts.new
+        (ended after_doom (state parts.old) edt block writes.now)) }
+    ensures resumed { IfOk result (λ r. r.items
+        ≡ resumed_by_doom ((state parts.old).face block) edt) }
+{
+    let lent = drop_core(parts, edt, block);
+    doom_at(alloc, parts, edt, block, lent, writes)
+}
+
+/// The block gets its loan back, and is destroyed; gives who is resumed.
+fn doom_at(
+    alloc: Global,
+    parts: &mut Taken,
+    edt: u64,
+    block: u64,
+    lent: Option<Lent>,
+    writes: &Writes,
+) -> Result<Vec<Guid>, NoMemory>
+    requires { IsBlock ((state parts.old).face block) (IsDoomable edt lent) }
+    ensures parts { IfOk result (λ _. Becomes parts.old parts.new
+        (with_face (state parts.old) block
+        (with_block ((state parts.old).face block)
+        (hold_ended after_doom edt writes.now lent)))) }
+    ensures resumed { IfOk result (λ r. r.items
+        ≡ resumed_by_doom ((state parts.old).face block) edt) }
+{
+    let mut state = parts.take_block(block);
+    give_back(&mut state, edt, lent, writes);
+    let resumed = state.doom(alloc, Guid(edt))?;
+    parts.put_face(block, Part::Block(state));
+    Ok(resumed)
+}
+
+/// The EDT ends.
+pub(crate) fn end_core(parts: &mut Taken, edt: u64)
+    requires { IsEndOn (state parts.old) edt }
+    ensures { Becomes parts.old parts.new
+        (with_core (state parts.old) edt
+        (on_core ((state parts.old).core edt) (with_phase ended_edt))) }
+{
+    let Core {
+        function,
+        params,
+        edt: phase,
+        loans,
+    } = parts.take_core(edt);
+    let Edt::Running(running) = phase else {
+        unreachable!()
+    };
+    let core = Core {
+        function,
+        params,
+        edt: Edt::Ended(running.end()),
+        loans,
+    };
+    parts.put_core(edt, core);
+}

@@ -1,0 +1,215 @@
+// What the calls do that make objects.
+ghost use Rattle.std.specs.Prelude.{◌≡◌, ◌≤◌, ◌/◌, ℕ, [], true, false, IfOk, length, ◌==◌, if◌then◌else◌};
+ghost use Rattle.ocr_acquire.specs.declared.Mode.TheVariants as mode;
+ghost use Rattle.ocr_datablock.specs.Block.{state_of};
+ghost use Rattle.ocr_edt.specs.declared.Edt.TheVariants as phase;
+ghost use Rattle.ocr_history.specs.Made.{creator_of};
+ghost use Rattle.ocr_slots.specs.Slots.{state_of as slots_of};
+ghost use Rattle.ocr_slots.specs.Steps.{after_link};
+ghost use Rattle.ocr_template.specs.Template.{count_meant};
+ghost use Rattle.ocr_parts.specs.Calls.{dep_links, is_given};
+ghost use Rattle.ocr_parts.specs.Effects.{with_face, with_core, creating_core, holding_edt, new_face, new_core};
+ghost use Rattle.ocr_parts.specs.Kinds.{on_core, is_running, is_template};
+ghost use Rattle.ocr_parts.specs.Parts.{identity_of};
+ghost use Rattle.ocr_parts.specs.declared.part.Part.TheVariants as part;
+ghost use Rattle.ocr_machine.specs.AtHand.{state, Becomes, HasFace, HasCore, slots_meant};
+
+use crate::taken::Taken;
+use ocr_acquire::Mode;
+use ocr_base::{NoMemory, Seq};
+use ocr_datablock::Block;
+use ocr_edt::{Edt, Filling};
+use ocr_guid::Guid;
+use ocr_parts::{Core, Kept, Loans, Part};
+use ocr_slots::Slots;
+use ocr_template::{EDT_PARAM_DEF, Template};
+use std::alloc::Global;
+
+/// Makes a block, which its creator holds, unless the flag says that it does not.
+pub(crate) fn create_block(
+    alloc: Global,
+    parts: &mut Taken,
+    edt: u64,
+    length: u64,
+    flags: u64,
+    block: u64,
+) -> Result<(), NoMemory>
+    requires running { is_running ((state parts.old).core edt) ≡ true }
+    requires some { 8 ≤ length }
+    requires few { length ≤ 524288 }
+    requires face { HasFace parts.old block }
+    ensures { IfOk result (λ _. Becomes parts.old parts.new
+        (with_core
+        (with_face (state parts.old) block
+        (part.Block (state_of (length / 8) (creator_of edt flags) [])))
+        edt (on_core ((state parts.old).core edt) (creating_core flags block (length / 8))))) }
+{
+    let size = (length / 8) as u32;
+    let state = Block::new(alloc, size, creator(edt, flags))?;
+    let core = creating(alloc, parts.take_core(edt), block, flags, size)?;
+    parts.put_core(edt, core);
+    parts.put_face(block, Part::Block(state));
+    Ok(())
+}
+
+/// Who holds a block that is made.
+fn creator(edt: u64, flags: u64) -> Guid
+    ensures { result ≡ creator_of edt flags }
+{
+    if flags == 0 { Guid(edt) } else { Guid::NULL }
+}
+
+/// The core of an EDT that made a block of so many words.
+fn creating(alloc: Global, core: Core, block: u64, flags: u64, size: u32) -> Result<Core, NoMemory>
+    ensures { IfOk result (λ after. after ≡ creating_core flags block size core) }
+{
+    if flags != 0 {
+        return Ok(core);
+    }
+    let Core {
+        function,
+        params,
+        edt,
+        loans,
+    } = core;
+    let mut loans = loans;
+    loans.put(Guid(block), Kept { size, loan: None })?;
+    Ok(Core {
+        function,
+        params,
+        edt: holding(alloc, edt, block)?,
+        loans,
+    })
+}
+
+fn holding(alloc: Global, edt: Edt, block: u64) -> Result<Edt, NoMemory>
+    ensures { IfOk result (λ held. held ≡ holding_edt block edt) }
+{
+    match edt {
+        Edt::Running(mut running) => {
+            running.hold(alloc, Guid(block))?;
+            Ok(Edt::Running(running))
+        }
+        Edt::Filling(filling) => Ok(Edt::Filling(filling)),
+        Edt::Acquiring(acquiring) => Ok(Edt::Acquiring(acquiring)),
+        Edt::Waiting(waiting) => Ok(Edt::Waiting(waiting)),
+        Edt::Ended(ended) => Ok(Edt::Ended(ended)),
+    }
+}
+
+/// Makes a template.
+pub(crate) fn create_template(
+    parts: &mut Taken,
+    function: u32,
+    paramc: u64,
+    depc: u64,
+    template: u64,
+)
+    requires { HasFace parts.old template }
+    ensures { Becomes parts.old parts.new
+        (with_face (state parts.old) template
+        (part.Template (record {
+          function = function;
+          paramc = paramc;
+          depc = depc;
+          destroyed = false;
+        }))) }
+{
+    let made = Template {
+        function,
+        paramc,
+        depc,
+        destroyed: false,
+    };
+    parts.put_face(template, Part::Template(made));
+}
+
+/// Makes an EDT from a template.
+pub(crate) fn create_edt(
+    alloc: Global,
+    parts: &mut Taken,
+    template: u64,
+    params: &Seq<u64>,
+    depc: u64,
+    deps: &Seq<u64>,
+    edt: u64,
+) -> Result<(), NoMemory>
+    requires template { is_template ((state parts.old).face template) ≡ true }
+    requires slots { slots_meant ((state parts.old).face template) depc ≤ 32 }
+    requires deps { length deps.now ≤ slots_meant ((state parts.old).face template) depc }
+    requires face { HasFace parts.old edt }
+    requires core { HasCore parts.old edt }
+    ensures { IfOk result (λ _. Becomes parts.old parts.new
+        (with_core
+        (with_face (state parts.old) edt
+        (new_face ((state parts.old).face template) depc deps.now))
+        edt (new_core ((state parts.old).face template) edt params.now))) }
+{
+    let template = parts.template(template);
+    let count = meant_count(template.depc, depc) as u32;
+    let slots = new_slots(alloc, count, deps.as_slice())?;
+    let core = made_core(alloc, template.function, params, edt)?;
+    parts.put_face(edt, Part::Edt(slots));
+    parts.put_core(edt, core);
+    Ok(())
+}
+
+/// The count that a creation means.
+fn meant_count(own: u64, given: u64) -> u64
+    ensures { result ≡ count_meant own given }
+{
+    if given == EDT_PARAM_DEF { own } else { given }
+}
+
+/// The core of a new EDT.
+fn made_core(alloc: Global, function: u32, params: &Seq<u64>, edt: u64) -> Result<Core, NoMemory>
+    ensures { IfOk result
+        (λ core. core ≡ record {
+          function = function;
+          params = params.now;
+          edt = phase.Filling (identity_of edt);
+          loans = [];
+        }) }
+{
+    let Ok(params) = Vec::from_slice(alloc, params.as_slice()) else {
+        return Err(NoMemory);
+    };
+    Ok(Core {
+        function,
+        params: Seq::from_vec(params),
+        edt: Edt::Filling(Filling::new(Guid(edt), Guid::NULL, Guid::NULL, false)),
+        loans: Loans::new(alloc),
+    })
+}
+
+/// The slots of an EDT, of which dependences are given for some.
+fn new_slots(alloc: Global, count: u32, deps: &[u64]) -> Result<Slots, NoMemory>
+    requires most { count ≤ 32 }
+    requires few { length deps.now ≤ count }
+    ensures { IfOk result (λ slots. slots ≡ slots_of count (dep_links 0 deps.now [])) }
+{
+    let mut slots = Slots::new(alloc, count)?;
+    link_all(&mut slots, count, deps);
+    Ok(slots)
+}
+
+/// Links the slots that dependences are given for.
+fn link_all(slots: &mut Slots, count: u32, deps: &[u64])
+    requires few { length deps.now ≤ count }
+    requires fresh { slots.old ≡ slots_of count [] }
+    ensures { slots.new ≡ slots_of count (dep_links 0 deps.now []) }
+{
+    let _count = count;
+    for k in 0..deps.len() {
+        link_given(slots, k as u64, deps[k]);
+    }
+}
+
+fn link_given(slots: &mut Slots, slot: u64, dep: u64)
+    ensures { slots.new
+        ≡ (if is_given dep then after_link slots.old slot mode.Rw else slots.old) }
+{
+    if dep != u64::MAX {
+        slots.link(slot, Mode::Rw);
+    }
+}

@@ -1,0 +1,417 @@
+-- The parts after a legal entry are what the entry makes of the parts before it.
+use Rattle.std.proofs.Common.{not, ◌≡◌, ℕ, ◌/◌, List, [], ◌∷◌, Bool, true, false, Option, Some, ◌==◌, ◌&&◌, ◌||◌, nat_lt, if◌then◌else◌, refl, sym, ◌∙◌, ap, subst}
+use Rattle.std.proofs.lemmas.Bool.{eqb-true}
+use Rattle.ocr_guid.specs.declared.Code.{Code}
+use Rattle.ocr_guid.specs.declared.Code.TheVariants as code
+use Rattle.ocr_acquire.specs.declared.Mode.{Mode}
+use Rattle.ocr_acquire.specs.declared.Mode.TheVariants as mode
+use Rattle.ocr_slots.specs.Slots as slot
+use Rattle.ocr_datablock.specs.Block as block
+use Rattle.ocr_datablock.specs.Lent.{loan_of}
+use Rattle.ocr_edt.specs.declared.Edt.{Edt}
+use Rattle.ocr_edt.specs.Edt as edt
+use Rattle.ocr_edt.specs.Phases.{first_of}
+use Rattle.ocr_meaning.specs.declared.call.Call as body
+use Rattle.ocr_meaning.specs.declared.call.Call.TheVariants as call
+use Rattle.ocr_meaning.specs.declared.call.Answer.{Answer}
+use Rattle.ocr_history.specs.declared.entry.Entry.{Entry}
+use Rattle.ocr_history.specs.declared.entry.Entry.TheVariants.{Call, Acquire, Wait, StaleAcquire, Start, Free, End}
+use Rattle.ocr_parts.specs.declared.part.Part.{Part}
+use Rattle.ocr_parts.specs.declared.part.Part.TheVariants as part
+use Rattle.ocr_history.specs.History.{History, Setting, own}
+use Rattle.ocr_history.specs.Made.{Made, MadeBlock, MadeTemplate, MadeEdt, made, edt_from, size_in, creator_in, is_edt_made}
+use Rattle.ocr_parts.specs.Calls.{dep_links, link_calls, block_calls, edt_calls, loans_of, contents_of, with_plan, awake, plan_of, next_member, mode_next, mode_named, ask_calls, lend_calls, end_calls, kept_now, doom_calls, is_doomed}
+use Rattle.ocr_parts.specs.Parts.{Parts, identity_of, face, core, parts_of}
+use Rattle.ocr_parts.specs.Codes.{link_code, dependence_code, code_of, is_any, is_its_own, is_missing, is_of_other_kind, is_refused_as_stale, number_code, wanted}
+use Rattle.ocr_parts.specs.Effects.{with_phase, made_ready, waiting_edt, started_edt, holding_edt, ended_edt, next_on, granted, hold_ended, new_face, new_core, dropping_core, acquiring_core, ended, called, changed, ready_at, readied_on, creating_core, awoken, doomed_template, stale_edt}
+use Rattle.ocr_parts.specs.LegalOn.{IsTaken, IsEnding, IsNamed, IsCallOn, IsLegalOn, IsDooming}
+use Rattle.ocr_parts.specs.Legal.{IsRun}
+use Rattle.ocr_parts.specs.Laws.{AfterLaw, kept_lent}
+use Rattle.ocr_parts.proofs.Choices.{at_same, twice}
+use Rattle.ocr_parts.proofs.Phases.{IsFormed, formed, formed_ready, next_is, edt_acquired, edt_stale, edt_waited, edt_started, edt_held, edt_dropped, edt_ended}
+use Rattle.ocr_parts.proofs.Blocks.{block_ended, block_doomed, template_doomed, block_stored, block_granted, block_asked, size_is, words_are, edt_linked}
+use Rattle.ocr_parts.specs.declared.part.Core.{Core}
+use Rattle.ocr_parts.proofs.Lent.{lent_law, ready_core}
+use Rattle.ocr_datablock.specs.Steps.{after_ask, after_release, after_store, after_doom}
+use Rattle.ocr_meaning.specs.Holds.{is_done}
+use Rattle.ocr_parts.specs.Kinds.{IsBlock, core_progress, is_acquiring, is_running, loan_on, mode_on, next_in, on_core, size_on, with_block, with_links, words_on, is_template, with_template}
+use Rattle.ocr_parts.specs.Loans.{kept_created, kept_in, kept_of, loan_in, without_kept}
+use Rattle.ocr_parts.specs.declared.loans.Kept.{Kept}
+use Rattle.ocr_slots.specs.Steps.{after_link}
+
+-- CHOICES OF LISTS
+chosen_face : (b : Bool) (m n : Option Made) (first links : List slot.SlotCall) (blocks : List block.BlockCall) (doomed : Bool)
+    → face (if b then m else n) (if b then first else links) (if b then [] else blocks) (if b then false else doomed) ≡ (if b then face m first [] false else face n links blocks doomed)
+chosen_face true m n first links blocks doomed = refl
+chosen_face false m n first links blocks doomed = refl
+
+chosen_core : (b : Bool) (m n : Option Made) (t : ℕ) (calls : List edt.EdtCall) (loans : List (ℕ × Kept))
+    → core (if b then m else n) t (if b then [] else calls) (if b then [] else loans) ≡ (if b then core m t [] [] else core n t calls loans)
+chosen_core true m n t calls loans = refl
+chosen_core false m n t calls loans = refl
+
+blocks_if : (b : Bool) (m : Option Made) (links : List slot.SlotCall) (x y : List block.BlockCall) (doomed : Bool) → face m links (if b then x else y) doomed ≡ (if b then face m links x doomed else face m links y doomed)
+blocks_if true m links x y doomed = refl
+blocks_if false m links x y doomed = refl
+
+links_if : (b : Bool) (m : Option Made) (x y : List slot.SlotCall) (blocks : List block.BlockCall) (doomed : Bool) → face m (if b then x else y) blocks doomed ≡ (if b then face m x blocks doomed else face m y blocks doomed)
+links_if true m x y blocks doomed = refl
+links_if false m x y blocks doomed = refl
+
+core_if : (b : Bool) (m : Option Made) (t : ℕ) (x y : List edt.EdtCall) (p q : List (ℕ × Kept)) → core m t (if b then x else y) (if b then p else q) ≡ (if b then core m t x p else core m t y q)
+core_if true m t x y p q = refl
+core_if false m t x y p q = refl
+
+calls_if : (b : Bool) (m : Option Made) (t : ℕ) (x y : List edt.EdtCall) (p : List (ℕ × Kept)) → core m t (if b then x else y) p ≡ (if b then core m t x p else core m t y p)
+calls_if true m t x y p = refl
+calls_if false m t x y p = refl
+
+-- CREATIONS
+edt_face : (m : Option Made) (ps : List ℕ) (dc : ℕ) (ds : List ℕ) (links : List slot.SlotCall) (blocks : List block.BlockCall) (doomed : Bool) → face (edt_from m ps dc) (dep_links 0 ds []) [] false ≡ new_face (face m links blocks doomed) dc ds
+edt_face (Some (MadeTemplate f pc own)) ps dc ds links blocks doomed = refl
+edt_face other ps dc ds links blocks doomed = refl
+
+edt_core : (m : Option Made) (g : ℕ) (ps : List ℕ) (dc : ℕ) (links : List slot.SlotCall) (blocks : List block.BlockCall) (doomed : Bool) → core (edt_from m ps dc) g [] [] ≡ new_core (face m links blocks doomed) g ps
+edt_core (Some (MadeTemplate f pc own)) g ps dc links blocks doomed = refl
+edt_core other g ps dc links blocks doomed = refl
+
+no_core : (m : Option Made) (t : ℕ) (links : List slot.SlotCall) (blocks : List block.BlockCall) (doomed : Bool) (calls : List edt.EdtCall) (loans : List (ℕ × Kept)) → face m links blocks doomed ≡ part.Vacant → core m t calls loans ≡ part.Vacant
+no_core (Some (MadeEdt f ps n)) t links blocks doomed calls loans is = cc
+no_core other t links blocks doomed calls loans is = refl
+
+fresh_core : (s : Setting) (past : History) (a : Answer) → is_done a.code ≡ true → IsNamed s.limit (parts_of s past) a → (parts_of s past).core a.value ≡ part.Vacant
+fresh_core s past a on named = no_core (made s past a.value) a.value (link_calls past a.value) (block_calls s past a.value) (is_doomed past a.value) (edt_calls s past a.value) (loans_of s past a.value) (named.fresh on).vacant
+
+pub done_is : (c : Code) → is_done c ≡ true → c ≡ code.Done
+done_is code.Done is = refl
+done_is other is = cc
+
+-- an accepted call is refused by no object, and an accepted dependence links its slot
+pub last_if : (b : Bool) (c rest : Code) → (c ≡ code.Done → ⊥) → (if b then c else rest) ≡ code.Done → rest ≡ code.Done
+last_if true c rest wrong is = absurd (wrong is)
+last_if false c rest wrong is = is
+
+pub accepted : (t : ℕ) (f : ℕ → Part) (c : body.Call) → code_of t f c ≡ code.Done → number_code t f c ≡ code.Done
+accepted t f c is =
+    last_if (is_any (is_refused_as_stale t) f (wanted c)) code.Stale _ (λ wrong. cc wrong)
+    (last_if (is_its_own c || is_any is_of_other_kind f (wanted c)) code.Einval _ (λ wrong. cc wrong)
+    (last_if (is_any is_missing f (wanted c)) code.Enoent _ (λ wrong. cc wrong) is))
+
+first_off : (b : Bool) (c rest : Code) → (c ≡ code.Done → ⊥) → (if b then c else rest) ≡ code.Done → b ≡ false
+first_off true c rest wrong is = absurd (wrong is)
+first_off false c rest wrong is = refl
+
+-- what it wants is of its kind, and not stale
+pub of_kind : (t : ℕ) (f : ℕ → Part) (c : body.Call) → code_of t f c ≡ code.Done → (is_its_own c || is_any is_of_other_kind f (wanted c)) ≡ false
+of_kind t f c is =
+    first_off (is_its_own c || is_any is_of_other_kind f (wanted c)) code.Einval _ (λ wrong. cc wrong)
+    (last_if (is_any is_missing f (wanted c)) code.Enoent _ (λ wrong. cc wrong) is)
+
+pub not_stale : (t : ℕ) (f : ℕ → Part) (c : body.Call) → code_of t f c ≡ code.Done → is_any (is_refused_as_stale t) f (wanted c) ≡ false
+not_stale t f c is =
+    first_off (is_any (is_refused_as_stale t) f (wanted c)) code.Stale _ (λ wrong. cc wrong)
+    (last_if (is_its_own c || is_any is_of_other_kind f (wanted c)) code.Einval _ (λ wrong. cc wrong)
+    (last_if (is_any is_missing f (wanted c)) code.Enoent _ (λ wrong. cc wrong) is))
+
+pub not_other : (b : Bool) → (not b || false) ≡ false → b ≡ true
+not_other true is = refl
+not_other false is = cc is
+
+pub no_other : (b : Bool) → (b || false) ≡ false → b ≡ false
+no_other true is = cc is
+no_other false is = refl
+
+pub linkable : (target : Part) (i m : ℕ) → dependence_code target i m ≡ code.Done → link_code target i ≡ code.Done
+linkable target i m is = last_if (nat_lt 4 m) code.Einval _ (λ wrong. cc wrong) is
+
+-- THE LOAN that comes back is the one that the block gave out
+loan_is : (m : Option Made) (t d : ℕ) (calls : List edt.EdtCall) (loans : List (ℕ × Kept)) (k : Kept) → is_edt_made m ≡ true → kept_in d loans ≡ Some k → loan_on (core m t calls loans) d ≡ k.loan
+loan_is (Some (MadeEdt f ps n)) t d calls loans k is kept = ap loan_in kept
+loan_is other t d calls loans k is kept = cc
+
+lent_to : (s : Setting) (past : History) (t d : ℕ) → IsRun s past → block.borrower_of (block_calls s past d) ≡ Some t → loan_on ((parts_of s past).core t) d ≡ Some (loan_of mode.Ew (contents_of s past d) [])
+lent_to s past t d run is =
+    let fit = lent_law s past run d t is in
+    loan_is (made s past t) t d (edt_calls s past t) (loans_of s past t) (kept_lent s past d) fit.1 fit.0
+
+-- FACES
+gone_face : (s : Setting) (past : History) (d g : ℕ) (ends : List block.BlockCall → List block.BlockCall) (step : block.State → block.State)
+    → face (made s past d) (link_calls past d) (ends (block_calls s past d)) (is_doomed past d) ≡ with_block ((parts_of s past).face d) step
+    → face (made s past g) (link_calls past g) (if d == g then ends (block_calls s past g) else block_calls s past g) (is_doomed past g) ≡ (if d == g then with_block ((parts_of s past).face d) step else (parts_of s past).face g)
+gone_face s past d g ends step is =
+    blocks_if (d == g) (made s past g) (link_calls past g) (ends (block_calls s past g)) (block_calls s past g) (is_doomed past g)
+    ∙ at_same (λ k. face (made s past k) (link_calls past k) (ends (block_calls s past k)) (is_doomed past k)) (λ k. with_block ((parts_of s past).face k) step) d g ((parts_of s past).face g) is
+
+ended_face : (s : Setting) (past : History) (t d : ℕ) (w : List (ℕ × ℕ)) (g : ℕ) → IsRun s past → IsEnding (parts_of s past) t d
+    → face (made s past g) (link_calls past g) (if d == g then end_calls t w (block_calls s past g) else block_calls s past g) (is_doomed past g) ≡ (ended after_release (parts_of s past) t d w).face g
+ended_face s past t d w g run held =
+    let loan = loan_on ((parts_of s past).core t) d in
+    gone_face s past d g (end_calls t w) (hold_ended after_release t w loan)
+    (block_ended (made s past d) (link_calls past d) (block_calls s past d) (is_doomed past d) t w (mode_on ((parts_of s past).core t) d) loan (lent_to s past t d run) held)
+
+destroyed_face : (s : Setting) (past : History) (t d : ℕ) (w : List (ℕ × ℕ)) (g : ℕ) → IsRun s past → IsDooming (parts_of s past) t d
+    → face (made s past g) (link_calls past g) (if d == g then doom_calls t w (block_calls s past g) else block_calls s past g) (is_doomed past g) ≡ (ended after_doom (parts_of s past) t d w).face g
+destroyed_face s past t d w g run held =
+    let loan = loan_on ((parts_of s past).core t) d in
+    gone_face s past d g (doom_calls t w) (hold_ended after_doom t w loan)
+    (block_doomed (made s past d) (link_calls past d) (block_calls s past d) (is_doomed past d) t w (mode_on ((parts_of s past).core t) d) loan (lent_to s past t d run) held)
+
+doomed_face : (s : Setting) (past : History) (x g : ℕ) → is_template ((parts_of s past).face x) ≡ true
+    → face (made s past g) (link_calls past g) (block_calls s past g) ((x == g) || is_doomed past g) ≡ (if x == g then with_template ((parts_of s past).face x) doomed_template else (parts_of s past).face g)
+doomed_face s past x g is = elim (x == g) as (λ b. (x == g) ≡ b → face (made s past g) (link_calls past g) (block_calls s past g) (b || is_doomed past g) ≡ (if b then with_template ((parts_of s past).face x) doomed_template else (parts_of s past).face g)) [
+  | true ↦ λ here. subst (λ (k : ℕ). face (made s past k) (link_calls past k) (block_calls s past k) true ≡ with_template ((parts_of s past).face x) doomed_template) (eqb-true x g here)
+      (template_doomed (made s past x) (link_calls past x) (block_calls s past x) (is_doomed past x) is)
+  | false ↦ λ _. refl
+] refl
+
+refused_face : (s : Setting) (past : History) (t home : ℕ) (c : body.Call) (a : Answer) (w : List (ℕ × ℕ)) → is_done a.code ≡ false
+    → (g : ℕ) → (parts_of s (Call t home c a w ∷ past)).face g ≡ (parts_of s past).face g
+refused_face s past t home (call.TemplateCreate f pc dc) a w off g = rw off refl
+refused_face s past t home (call.EdtCreate from pc ps dc ds fl o) a w off g = rw off refl
+refused_face s past t home (call.DbCreate n fl) a w off g = rw off refl
+refused_face s past t home (call.DbRelease d) a w off g = rw off refl
+refused_face s past t home (call.Store d k v) a w off g = rw off refl
+refused_face s past t home (call.DbDestroy d) a w off g = rw off refl
+refused_face s past t home (call.TemplateDestroy x) a w off g = rw off refl
+refused_face s past t home (call.AddDependence from x i m) a w off g = rw off refl
+refused_face s past t home (call.EventCreate k fl) a w off g = rw off refl
+refused_face s past t home (call.EventCreateParams k fl gen sat deps) a w off g = rw off refl
+refused_face s past t home other a w off g = refl
+
+called_face : (s : Setting) (past : History) (t home : ℕ) (c : body.Call) (a : Answer) (w : List (ℕ × ℕ)) → IsRun s past → is_done a.code ≡ true → IsCallOn s.limit (parts_of s past) t home c a w
+    → (g : ℕ) → (parts_of s (Call t home c a w ∷ past)).face g ≡ (called t c a w (parts_of s past)).face g
+called_face s past t home (call.TemplateCreate f pc dc) a w run on legal g = rw on (chosen_face (a.value == g) _ (made s past g) _ (link_calls past g) (block_calls s past g) (is_doomed past g))
+called_face s past t home (call.DbCreate n fl) a w run on legal g = rw on (chosen_face (a.value == g) _ (made s past g) _ (link_calls past g) (block_calls s past g) (is_doomed past g))
+called_face s past t home (call.EdtCreate from pc ps dc ds fl o) a w run on legal g = rw on
+    (chosen_face (a.value == g) _ (made s past g) _ (link_calls past g) (block_calls s past g) (is_doomed past g)
+    ∙ ap (λ (x : Part). if a.value == g then x else (parts_of s past).face g) (edt_face (made s past from) ps dc ds (link_calls past from) (block_calls s past from) (is_doomed past from)))
+called_face s past t home (call.DbRelease d) a w run on legal g = rw on (ended_face s past t d w g run (legal.value.0 on))
+called_face s past t home (call.DbDestroy d) a w run on legal g = rw on (destroyed_face s past t d w g run (legal.value.0 on))
+called_face s past t home (call.TemplateDestroy x) a w run on legal g = rw on
+    (doomed_face s past x g (not_other (is_template ((parts_of s past).face x)) (of_kind t (parts_of s past).face (call.TemplateDestroy x) (sym legal.code ∙ done_is a.code on))))
+called_face s past t home (call.Store d k v) a w run on legal g = rw on
+    (gone_face s past d g (λ calls. block.Store k v ∷ calls) (λ st. after_store st k v)
+    (block_stored (made s past d) (link_calls past d) (block_calls s past d) (is_doomed past d) t k v _ legal.value.0))
+called_face s past t home (call.AddDependence from x i m) a w run on legal g = rw on
+    (links_if (x == g) (made s past g) (slot.Linking i (mode_named m) ∷ link_calls past g) (link_calls past g) (block_calls s past g) (is_doomed past g)
+    ∙ at_same (λ j. face (made s past j) (slot.Linking i (mode_named m) ∷ link_calls past j) (block_calls s past j) (is_doomed past j)) (λ j. with_links ((parts_of s past).face j) (λ slots. after_link slots i (mode_named m))) x g ((parts_of s past).face g)
+    (edt_linked (made s past x) (link_calls past x) (block_calls s past x) (is_doomed past x) i (mode_named m)
+    (linkable ((parts_of s past).face x) i m (accepted t (parts_of s past).face (call.AddDependence from x i m) (sym legal.code ∙ done_is a.code on)))))
+called_face s past t home (call.EventCreate k fl) a w run on legal g = absurd legal.value
+called_face s past t home (call.EventCreateParams k fl gen sat deps) a w run on legal g = absurd legal.value
+called_face s past t home other a w run on legal g = refl
+
+-- what comes next, as the parts that were made ready tell it
+core_next : (m : Option Made) (t : ℕ) (members : List (ℕ × Mode)) (calls : List edt.EdtCall) (loans : List (ℕ × Kept)) (x : ℕ × Mode)
+    → next_in (core_progress (on_core (core m t calls loans) (with_phase (made_ready members)))) ≡ Some x → first_of (edt.undone_of (with_plan members calls)) ≡ Some x
+core_next (Some (MadeEdt f ps n)) t members calls loans x is = next_is (identity_of t) members calls x is
+core_next other t members calls loans x is = cc
+
+abbrev pub readied_parts : Setting → History → ℕ → Parts
+readied_parts s past t = ready_at t (plan_of s past t) (parts_of s past)
+
+ready_next : (s : Setting) (past : History) (t : ℕ) (x : ℕ × Mode) → next_on (readied_parts s past t) t ≡ Some x → next_in (core_progress (on_core ((parts_of s past).core t) (with_phase (made_ready (plan_of s past t))))) ≡ Some x
+ready_next s past t x is = ap (λ (y : Part). next_in (core_progress y)) (sym (ready_core s past t)) ∙ is
+
+pub mode_is : (s : Setting) (past : History) (t : ℕ) (x : ℕ × Mode) → next_on (readied_parts s past t) t ≡ Some x → mode_next (next_member s past t) ≡ x.1
+mode_is s past t x is = ap mode_next (core_next (made s past t) t (plan_of s past t) (edt_calls s past t) (loans_of s past t) x (ready_next s past t x is))
+
+acquired_face : (s : Setting) (past : History) (t d g : ℕ) (k : Mode) → mode_next (next_member s past t) ≡ k → IsBlock ((parts_of s past).face d) (IsTaken t k)
+    → (parts_of s (Acquire t d ∷ past)).face g ≡ (if d == g then with_block ((parts_of s past).face d) (granted t k) else (parts_of s past).face g)
+acquired_face s past t d g k is taken =
+    ap (λ (m : Mode). face (made s past g) (link_calls past g) (if d == g then lend_calls t m (ask_calls t m (creator_in (made s past g)) (block_calls s past g)) else block_calls s past g) (is_doomed past g)) is
+    ∙ blocks_if (d == g) (made s past g) (link_calls past g) (lend_calls t k (ask_calls t k (creator_in (made s past g)) (block_calls s past g))) (block_calls s past g) (is_doomed past g)
+    ∙ at_same (λ j. face (made s past j) (link_calls past j) (lend_calls t k (ask_calls t k (creator_in (made s past j)) (block_calls s past j))) (is_doomed past j)) (λ j. with_block ((parts_of s past).face j) (granted t k)) d g ((parts_of s past).face g)
+    (block_granted (made s past d) (link_calls past d) (block_calls s past d) (is_doomed past d) t k taken)
+
+waited_face : (s : Setting) (past : History) (t d g : ℕ) (k : Mode) → mode_next (next_member s past t) ≡ k
+    → (parts_of s (Wait t d ∷ past)).face g ≡ (if d == g then with_block ((parts_of s past).face d) (λ st. after_ask st t k) else (parts_of s past).face g)
+waited_face s past t d g k is =
+    ap (λ (m : Mode). face (made s past g) (link_calls past g) (if d == g then block.Ask t m ∷ block_calls s past g else block_calls s past g) (is_doomed past g)) is
+    ∙ gone_face s past d g (λ calls. block.Ask t k ∷ calls) (λ st. after_ask st t k)
+    (block_asked (made s past d) (link_calls past d) (block_calls s past d) (is_doomed past d) t k)
+
+after_face : (s : Setting) (past : History) (e : Entry) → IsRun s past → IsLegalOn s.limit (readied_on s past e (parts_of s past)) e
+    → (g : ℕ) → (parts_of s (e ∷ past)).face g ≡ (changed e (readied_on s past e (parts_of s past))).face g
+after_face s past (Call t home c a w) run legal g = elim (is_done a.code) as (λ b. is_done a.code ≡ b → (parts_of s (Call t home c a w ∷ past)).face g ≡ (if b then called t c a w (parts_of s past) else parts_of s past).face g) [
+  | true ↦ λ on. called_face s past t home c a w run on legal g
+  | false ↦ λ off. refused_face s past t home c a w off g
+] refl
+after_face s past (Acquire t d) run legal g = acquired_face s past t d g _ (mode_is s past t _ legal.next) legal.taken
+after_face s past (Wait t d) run legal g = waited_face s past t d g _ (mode_is s past t _ legal.next)
+after_face s past (Free t d w) run legal g = ended_face s past t d w g run legal.held
+after_face s past other run legal g = refl
+
+-- CORES
+refused_core : (s : Setting) (past : History) (t home : ℕ) (c : body.Call) (a : Answer) (w : List (ℕ × ℕ)) → is_done a.code ≡ false
+    → (u : ℕ) → (parts_of s (Call t home c a w ∷ past)).core u ≡ (parts_of s past).core u
+refused_core s past t home (call.TemplateCreate f pc dc) a w off u = rw off refl
+refused_core s past t home (call.EdtCreate from pc ps dc ds fl o) a w off u = rw off refl
+refused_core s past t home (call.DbCreate n fl) a w off u = rw off refl
+refused_core s past t home (call.DbRelease d) a w off u = rw off refl
+refused_core s past t home (call.DbDestroy d) a w off u = rw off refl
+refused_core s past t home (call.EventCreate k fl) a w off u = rw off refl
+refused_core s past t home (call.EventCreateParams k fl gen sat deps) a w off u = rw off refl
+refused_core s past t home other a w off u = refl
+
+-- nothing has a core where a number was free
+none_there : (s : Setting) (past : History) (a : Answer) (u : ℕ) → is_done a.code ≡ true → IsNamed s.limit (parts_of s past) a → (a.value == u) ≡ true → (parts_of s past).core u ≡ part.Vacant
+none_there s past a u on named is = subst (λ (k : ℕ). (parts_of s past).core k ≡ part.Vacant) (eqb-true a.value u is) (fresh_core s past a on named)
+
+-- the calls on a creator, and what it keeps
+abbrev held_calls : Bool → ℕ → List edt.EdtCall → List edt.EdtCall
+held_calls b d calls = if b then edt.Hold d ∷ calls else calls
+
+abbrev held_loans : Bool → ℕ → ℕ → List (ℕ × Kept) → List (ℕ × Kept)
+held_loans b d z loans = if b then (d, kept_created z) ∷ loans else loans
+
+abbrev core_is : ℕ → List ℕ → Edt → List (ℕ × Kept) → Core
+core_is f ps e loans = record { function = f; params = ps; edt = e; loans = loans }
+
+core_created : (m : Option Made) (t fl d z : ℕ) (calls : List edt.EdtCall) (loans : List (ℕ × Kept)) → is_running (core m t calls loans) ≡ true
+    → core m t (held_calls (fl == 0) d calls) (held_loans (fl == 0) d z loans) ≡ on_core (core m t calls loans) (creating_core fl d z)
+core_created (Some (MadeEdt f ps n)) t fl d z calls loans running =
+    elim (fl == 0) as (λ b. part.Core (core_is f ps (edt.edt_of (identity_of t) (held_calls b d calls)) (held_loans b d z loans))
+    ≡ part.Core (if b then core_is f ps (holding_edt d (edt.edt_of (identity_of t) calls)) ((d, kept_created z) ∷ loans) else core_is f ps (edt.edt_of (identity_of t) calls) loans)) [
+      | true ↦ ap (λ (e : Edt). part.Core (core_is f ps e ((d, kept_created z) ∷ loans))) (edt_held (identity_of t) calls d running)
+      | false ↦ refl
+    ]
+core_created other t fl d z calls loans running = cc
+
+core_dropped : (m : Option Made) (t d : ℕ) (calls : List edt.EdtCall) (loans : List (ℕ × Kept)) → is_running (core m t calls loans) ≡ true
+    → core m t (edt.DropHold d ∷ calls) (without_kept d loans) ≡ on_core (core m t calls loans) (dropping_core d)
+core_dropped (Some (MadeEdt f ps n)) t d calls loans running =
+    ap (λ (e : Edt). part.Core (record { function = f; params = ps; edt = e; loans = without_kept d loans })) (edt_dropped (identity_of t) calls d running)
+core_dropped other t d calls loans running = cc
+
+core_ended : (m : Option Made) (t : ℕ) (calls : List edt.EdtCall) (loans : List (ℕ × Kept)) → is_running (core m t calls loans) ≡ true
+    → core m t (edt.End ∷ calls) loans ≡ on_core (core m t calls loans) (with_phase ended_edt)
+core_ended (Some (MadeEdt f ps n)) t calls loans running = ap (λ (e : Edt). part.Core (record { function = f; params = ps; edt = e; loans = loans })) (edt_ended (identity_of t) calls running)
+core_ended other t calls loans running = cc
+
+dropped_core : (s : Setting) (past : History) (t d u : ℕ) → is_running ((parts_of s past).core t) ≡ true
+    → core (made s past u) u (if t == u then edt.DropHold d ∷ edt_calls s past u else edt_calls s past u) (if t == u then without_kept d (loans_of s past u) else loans_of s past u)
+    ≡ (if t == u then on_core ((parts_of s past).core t) (dropping_core d) else (parts_of s past).core u)
+dropped_core s past t d u running =
+    core_if (t == u) (made s past u) u (edt.DropHold d ∷ edt_calls s past u) (edt_calls s past u) (without_kept d (loans_of s past u)) (loans_of s past u)
+    ∙ at_same (λ k. core (made s past k) k (edt.DropHold d ∷ edt_calls s past k) (without_kept d (loans_of s past k))) (λ k. on_core ((parts_of s past).core k) (dropping_core d)) t u ((parts_of s past).core u)
+    (core_dropped (made s past t) t d (edt_calls s past t) (loans_of s past t) running)
+
+created_core : (s : Setting) (past : History) (t z fl : ℕ) (a : Answer) (u : ℕ) → is_done a.code ≡ true → IsNamed s.limit (parts_of s past) a → is_running ((parts_of s past).core t) ≡ true
+    → (if a.value == u then part.Vacant else core (made s past u) u (held_calls ((t == u) && (fl == 0)) a.value (edt_calls s past u)) (held_loans ((t == u) && (fl == 0)) a.value z (loans_of s past u)))
+    ≡ (if t == u then on_core ((parts_of s past).core t) (creating_core fl a.value z) else (parts_of s past).core u)
+created_core s past t z fl a u on named running =
+    let now : Part = on_core ((parts_of s past).core t) (creating_core fl a.value z) in
+    elim (a.value == u) as (λ b. (a.value == u) ≡ b → (if b then part.Vacant else core (made s past u) u (held_calls ((t == u) && (fl == 0)) a.value (edt_calls s past u)) (held_loans ((t == u) && (fl == 0)) a.value z (loans_of s past u)))
+    ≡ (if t == u then now else (parts_of s past).core u)) [
+      | true ↦ λ here. elim (t == u) as (λ b. (t == u) ≡ b → part.Vacant ≡ (if b then now else (parts_of s past).core u)) [
+        | true ↦ λ own. absurd (let e : t ≡ u = eqb-true t u own in
+            let none : (parts_of s past).core t ≡ part.Vacant = ap (parts_of s past).core e ∙ none_there s past a u on named here in
+            cc (sym (ap is_running none) ∙ running))
+        | false ↦ λ _. sym (none_there s past a u on named here)
+      ] refl
+      | false ↦ λ _. elim (t == u) as (λ b. (t == u) ≡ b → core (made s past u) u (held_calls (b && (fl == 0)) a.value (edt_calls s past u)) (held_loans (b && (fl == 0)) a.value z (loans_of s past u))
+          ≡ (if b then now else (parts_of s past).core u)) [
+            | true ↦ λ own. subst (λ (k : ℕ). core (made s past k) k (held_calls (fl == 0) a.value (edt_calls s past k)) (held_loans (fl == 0) a.value z (loans_of s past k)) ≡ now)
+                (eqb-true t u own) (core_created (made s past t) t fl a.value z (edt_calls s past t) (loans_of s past t) running)
+            | false ↦ λ _. refl
+          ] refl
+    ] refl
+
+called_core : (s : Setting) (past : History) (t home : ℕ) (c : body.Call) (a : Answer) (w : List (ℕ × ℕ)) → is_done a.code ≡ true → IsCallOn s.limit (parts_of s past) t home c a w
+    → (u : ℕ) → (parts_of s (Call t home c a w ∷ past)).core u ≡ (called t c a w (parts_of s past)).core u
+called_core s past t home (call.TemplateCreate f pc dc) a w on legal u = rw on (
+    chosen_core (a.value == u) (Some (MadeTemplate f pc dc)) (made s past u) u (edt_calls s past u) (loans_of s past u)
+    ∙ elim (a.value == u) as (λ b. (a.value == u) ≡ b → (if b then part.Vacant else (parts_of s past).core u) ≡ (parts_of s past).core u) [
+      | true ↦ λ here. sym (none_there s past a u on legal.value here)
+      | false ↦ λ _. refl
+    ] refl)
+called_core s past t home (call.EdtCreate from pc ps dc ds fl o) a w on legal u = rw on (
+    chosen_core (a.value == u) (edt_from (made s past from) ps dc) (made s past u) u (edt_calls s past u) (loans_of s past u)
+    ∙ at_same (λ (k : ℕ). core (edt_from (made s past from) ps dc) k [] []) (λ (k : ℕ). new_core ((parts_of s past).face from) k ps) a.value u ((parts_of s past).core u)
+    (edt_core (made s past from) a.value ps dc (link_calls past from) (block_calls s past from) (is_doomed past from)))
+called_core s past t home (call.DbCreate n fl) a w on legal u = rw on (
+    chosen_core (a.value == u) (Some (MadeBlock _ _)) (made s past u) u (held_calls ((t == u) && (fl == 0)) a.value (edt_calls s past u)) (held_loans ((t == u) && (fl == 0)) a.value (n / 8) (loans_of s past u))
+    ∙ created_core s past t (n / 8) fl a u on legal.value legal.running)
+called_core s past t home (call.DbRelease d) a w on legal u = rw on (dropped_core s past t d u legal.running)
+called_core s past t home (call.DbDestroy d) a w on legal u = rw on (dropped_core s past t d u legal.running)
+called_core s past t home (call.EventCreate k fl) a w on legal u = absurd legal.value
+called_core s past t home (call.EventCreateParams k fl gen sat deps) a w on legal u = absurd legal.value
+called_core s past t home other a w on legal u = refl
+
+core_acquired : (m : Option Made) (t d : ℕ) (k : Mode) (size : ℕ) (words : List ℕ) (members : List (ℕ × Mode)) (calls : List edt.EdtCall) (loans : List (ℕ × Kept)) → IsFormed (with_plan members calls)
+    → next_in (core_progress (on_core (core m t calls loans) (with_phase (made_ready members)))) ≡ Some (d, k)
+    → core m t (edt.Acquired d ∷ awake (with_plan members calls)) ((d, kept_of k size words) ∷ loans) ≡ on_core (on_core (core m t calls loans) (with_phase (made_ready members))) (acquiring_core d k size words)
+core_acquired (Some (MadeEdt f ps n)) t d k size words members calls loans is_formed next =
+    ap (λ (e : Edt). part.Core (core_is f ps e ((d, kept_of k size words) ∷ loans))) (edt_acquired (identity_of t) members calls d k is_formed next)
+core_acquired other t d k size words members calls loans is_formed next = cc
+
+core_stale : (m : Option Made) (t d : ℕ) (k : Mode) (members : List (ℕ × Mode)) (calls : List edt.EdtCall) (loans : List (ℕ × Kept)) → IsFormed (with_plan members calls)
+    → next_in (core_progress (on_core (core m t calls loans) (with_phase (made_ready members)))) ≡ Some (d, k)
+    → core m t (edt.FoundStale d ∷ awake (with_plan members calls)) loans ≡ on_core (on_core (core m t calls loans) (with_phase (made_ready members))) (with_phase (λ e. stale_edt (awoken e)))
+core_stale (Some (MadeEdt f ps n)) t d k members calls loans is_formed next = ap (λ (e : Edt). part.Core (core_is f ps e loans)) (edt_stale (identity_of t) members calls d k is_formed next)
+core_stale other t d k members calls loans is_formed next = cc
+
+core_waited : (m : Option Made) (t : ℕ) (members : List (ℕ × Mode)) (calls : List edt.EdtCall) (loans : List (ℕ × Kept)) → is_acquiring (on_core (core m t calls loans) (with_phase (made_ready members))) ≡ true
+    → core m t (edt.Wait ∷ with_plan members calls) loans ≡ on_core (on_core (core m t calls loans) (with_phase (made_ready members))) (with_phase waiting_edt)
+core_waited (Some (MadeEdt f ps n)) t members calls loans is = ap (λ (e : Edt). part.Core (record { function = f; params = ps; edt = e; loans = loans })) (edt_waited (identity_of t) members calls is)
+core_waited other t members calls loans is = cc
+
+core_started : (m : Option Made) (t : ℕ) (members : List (ℕ × Mode)) (calls : List edt.EdtCall) (loans : List (ℕ × Kept)) → is_acquiring (on_core (core m t calls loans) (with_phase (made_ready members))) ≡ true
+    → core m t (edt.Start ∷ with_plan members calls) loans ≡ on_core (on_core (core m t calls loans) (with_phase (made_ready members))) (with_phase started_edt)
+core_started (Some (MadeEdt f ps n)) t members calls loans is = ap (λ (e : Edt). part.Core (record { function = f; params = ps; edt = e; loans = loans })) (edt_started (identity_of t) members calls is)
+core_started other t members calls loans is = cc
+
+-- a step of the own core, which was made ready
+own_step : (s : Setting) (past : History) (t u : ℕ) (P : ℕ → Part) (step : Part → Part) → P t ≡ step (on_core ((parts_of s past).core t) (with_phase (made_ready (plan_of s past t))))
+    → (if t == u then P u else (parts_of s past).core u) ≡ (if t == u then step ((readied_parts s past t).core t) else (readied_parts s past t).core u)
+own_step s past t u P step is =
+    at_same P (λ _. step ((readied_parts s past t).core t)) t u ((parts_of s past).core u) (is ∙ ap step (sym (ready_core s past t)))
+    ∙ sym (twice (t == u) (step ((readied_parts s past t).core t)) (on_core ((parts_of s past).core t) (with_phase (made_ready (plan_of s past t)))) ((parts_of s past).core u))
+
+acquired_core : (s : Setting) (past : History) (t d u : ℕ) (k : Mode) → next_on (readied_parts s past t) t ≡ Some (d, k) → mode_next (next_member s past t) ≡ k → IsBlock ((parts_of s past).face d) (IsTaken t k)
+    → (parts_of s (Acquire t d ∷ past)).core u
+    ≡ (if t == u then on_core ((readied_parts s past t).core t) (acquiring_core d k (size_on ((parts_of s past).face d)) (words_on ((parts_of s past).face d))) else (readied_parts s past t).core u)
+acquired_core s past t d u k next is taken =
+    let here : Part = (parts_of s past).face d in
+    let words : contents_of s past d ≡ words_on here = sym (words_are (made s past d) (link_calls past d) (block_calls s past d) (is_doomed past d) t k taken) in
+    let size : size_in (made s past d) ≡ size_on here = sym (size_is (made s past d) (link_calls past d) (block_calls s past d) (is_doomed past d)) in
+    let members : ℕ → List edt.EdtCall = λ j. with_plan (plan_of s past j) (edt_calls s past j) in
+    core_if (t == u) (made s past u) u (edt.Acquired d ∷ awake (members u)) (edt_calls s past u) ((d, kept_now s past t d) ∷ loans_of s past u) (loans_of s past u)
+    ∙ (λ i. if t == u then core (made s past u) u (edt.Acquired d ∷ awake (members u)) ((d, kept_of (is i) (size i) (words i)) ∷ loans_of s past u) else (parts_of s past).core u)
+    ∙ own_step s past t u (λ j. core (made s past j) j (edt.Acquired d ∷ awake (members j)) ((d, kept_of k (size_on here) (words_on here)) ∷ loans_of s past j)) (λ x. on_core x (acquiring_core d k (size_on here) (words_on here)))
+    (core_acquired (made s past t) t d k (size_on here) (words_on here) (plan_of s past t) (edt_calls s past t) (loans_of s past t)
+    (formed_ready s past t (edt_calls s past t) (formed s past t)) (ready_next s past t (d, k) next))
+
+ready_acquiring : (s : Setting) (past : History) (t : ℕ) → is_acquiring ((readied_parts s past t).core t) ≡ true → is_acquiring (on_core ((parts_of s past).core t) (with_phase (made_ready (plan_of s past t)))) ≡ true
+ready_acquiring s past t is = ap is_acquiring (sym (ready_core s past t)) ∙ is
+
+after_core : (s : Setting) (past : History) (e : Entry) → IsLegalOn s.limit (readied_on s past e (parts_of s past)) e
+    → (u : ℕ) → (parts_of s (e ∷ past)).core u ≡ (changed e (readied_on s past e (parts_of s past))).core u
+after_core s past (Call t home c a w) legal u = elim (is_done a.code) as (λ b. is_done a.code ≡ b → (parts_of s (Call t home c a w ∷ past)).core u ≡ (if b then called t c a w (parts_of s past) else parts_of s past).core u) [
+  | true ↦ λ on. called_core s past t home c a w on legal u
+  | false ↦ λ off. refused_core s past t home c a w off u
+] refl
+after_core s past (Acquire t d) legal u = acquired_core s past t d u _ legal.next (mode_is s past t _ legal.next) legal.taken
+after_core s past (Wait t d) legal u =
+    calls_if (t == u) (made s past u) u (edt.Wait ∷ with_plan (plan_of s past u) (edt_calls s past u)) (edt_calls s past u) (loans_of s past u)
+    ∙ own_step s past t u (λ j. core (made s past j) j (edt.Wait ∷ with_plan (plan_of s past j) (edt_calls s past j)) (loans_of s past j)) (λ x. on_core x (with_phase waiting_edt))
+    (core_waited (made s past t) t (plan_of s past t) (edt_calls s past t) (loans_of s past t) (ready_acquiring s past t legal.acquiring))
+after_core s past (StaleAcquire t d) legal u =
+    calls_if (t == u) (made s past u) u (edt.FoundStale d ∷ awake (with_plan (plan_of s past u) (edt_calls s past u))) (edt_calls s past u) (loans_of s past u)
+    ∙ own_step s past t u (λ j. core (made s past j) j (edt.FoundStale d ∷ awake (with_plan (plan_of s past j) (edt_calls s past j))) (loans_of s past j)) (λ x. on_core x (with_phase (λ e. stale_edt (awoken e))))
+    (core_stale (made s past t) t d _ (plan_of s past t) (edt_calls s past t) (loans_of s past t) (formed_ready s past t (edt_calls s past t) (formed s past t)) (ready_next s past t _ legal.next))
+after_core s past (Start t) legal u =
+    calls_if (t == u) (made s past u) u (edt.Start ∷ with_plan (plan_of s past u) (edt_calls s past u)) (edt_calls s past u) (loans_of s past u)
+    ∙ own_step s past t u (λ j. core (made s past j) j (edt.Start ∷ with_plan (plan_of s past j) (edt_calls s past j)) (loans_of s past j)) (λ x. on_core x (with_phase started_edt))
+    (core_started (made s past t) t (plan_of s past t) (edt_calls s past t) (loans_of s past t) (ready_acquiring s past t legal.acquiring))
+after_core s past (Free t d w) legal u = dropped_core s past t d u legal.running
+after_core s past (End t g) legal u =
+    calls_if (t == u) (made s past u) u (edt.End ∷ edt_calls s past u) (edt_calls s past u) (loans_of s past u)
+    ∙ at_same (λ k. core (made s past k) k (edt.End ∷ edt_calls s past k) (loans_of s past k)) (λ k. on_core ((parts_of s past).core k) (with_phase ended_edt)) t u ((parts_of s past).core u)
+    (core_ended (made s past t) t (edt_calls s past t) (loans_of s past t) legal.running)
+after_core s past other legal u = refl
+
+-- THE EQUATION OF PARTS
+pub after_law : AfterLaw
+after_law s past e run legal = λ i. record { face = λ g. after_face s past e run legal.on_parts g i; core = λ u. after_core s past e legal.on_parts u i }

@@ -1,0 +1,13 @@
+pub mod After
+pub mod Allowed
+pub mod Awaited
+pub mod Blocks
+pub mod Choices
+pub mod Held
+pub mod Keeping
+pub mod Lent
+pub mod Local
+pub mod Phases
+pub mod Settled
+pub mod Starts
+pub mod Within

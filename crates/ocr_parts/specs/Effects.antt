@@ -1,0 +1,242 @@
+-- What an entry changes, told by the parts alone.
+use Rattle.std.specs.Prelude.{ℕ, ◌/◌, List, [], ◌∷◌, true, false, ◌==◌, if◌then◌else◌, Option, Some, None}
+use Rattle.ocr_acquire.specs.declared.Mode.{Mode}
+use Rattle.ocr_acquire.specs.Mode.{is_exclusive}
+use Rattle.ocr_acquire.specs.Writes.{written}
+use Rattle.ocr_template.specs.declared.Template.{Template}
+use Rattle.ocr_template.specs.Template.{count_meant}
+use Rattle.ocr_slots.specs.Slots as slot
+use Rattle.ocr_slots.specs.Steps.{after_link}
+use Rattle.ocr_datablock.specs.Block as block
+use Rattle.ocr_datablock.specs.Steps.{after_ask, after_release, after_doom, after_store, after_lend, with_words}
+use Rattle.ocr_datablock.specs.Lent.{Loan}
+use Rattle.ocr_edt.specs.declared.Edt.{Edt}
+use Rattle.ocr_edt.specs.declared.Edt.TheVariants as phase
+use Rattle.ocr_edt.specs.Steps.{after_ready, after_acquired, after_start, after_hold, after_drop_hold}
+use Rattle.ocr_meaning.specs.Holds.{is_done}
+use Rattle.ocr_meaning.specs.declared.call.Call as body
+use Rattle.ocr_meaning.specs.declared.call.Call.TheVariants as call
+use Rattle.ocr_meaning.specs.declared.call.Answer.{Answer}
+use Rattle.ocr_history.specs.declared.entry.Entry.{Entry}
+use Rattle.ocr_history.specs.declared.entry.Entry.TheVariants.{Call, Acquire, Wait, StaleAcquire, Start, Free, End, Stop}
+use Rattle.ocr_history.specs.declared.entry.Stop.TheVariants as by
+use Rattle.ocr_history.specs.History.{History, Setting}
+use Rattle.ocr_history.specs.Made.{creator_of}
+use Rattle.ocr_parts.specs.declared.loans.Kept.{Kept}
+use Rattle.ocr_parts.specs.declared.part.Core as core_type
+use Rattle.ocr_parts.specs.declared.part.Part.{Part}
+use Rattle.ocr_parts.specs.declared.part.Part.TheVariants as part
+use Rattle.ocr_parts.specs.Loans.{without_kept, kept_of, kept_created, settled_loans}
+use Rattle.ocr_parts.specs.Calls.{dep_links, plan_of, mode_named, mode_next}
+use Rattle.ocr_parts.specs.Parts.{Parts, identity_of}
+use Rattle.ocr_parts.specs.Kinds.{with_block, words_on, size_on, is_held_by, with_links, with_template, on_core, core_progress, next_in, loan_on}
+
+-- these parts, but for one
+abbrev pub with_face : Parts → ℕ → Part → Parts
+with_face f n x = record { face = λ g. if n == g then x else f.face g; core = f.core }
+
+abbrev pub with_core : Parts → ℕ → Part → Parts
+with_core f n x = record { face = f.face; core = λ t. if n == t then x else f.core t }
+
+-- THE STEPS of an EDT.
+abbrev pub made_ready : List (ℕ × Mode) → Edt → Edt
+made_ready members (phase.Filling i) = phase.Acquiring (after_ready i members)
+made_ready members other = other
+
+abbrev pub awoken : Edt → Edt
+awoken (phase.Waiting s) = phase.Acquiring s
+awoken other = other
+
+abbrev pub acquired_edt : Edt → Edt
+acquired_edt (phase.Acquiring s) = phase.Acquiring (after_acquired s false)
+acquired_edt other = other
+
+abbrev pub stale_edt : Edt → Edt
+stale_edt (phase.Acquiring s) = phase.Acquiring (after_acquired s true)
+stale_edt other = other
+
+abbrev pub waiting_edt : Edt → Edt
+waiting_edt (phase.Acquiring s) = phase.Waiting s
+waiting_edt other = other
+
+abbrev pub started_edt : Edt → Edt
+started_edt (phase.Acquiring s) = phase.Running (after_start s)
+started_edt other = other
+
+abbrev pub holding_edt : ℕ → Edt → Edt
+holding_edt d (phase.Running s) = phase.Running (after_hold s d)
+holding_edt d other = other
+
+abbrev pub dropped_edt : ℕ → Edt → Edt
+dropped_edt d (phase.Running s) = phase.Running (after_drop_hold s d)
+dropped_edt d other = other
+
+abbrev pub ended_edt : Edt → Edt
+ended_edt (phase.Running s) = phase.Ended s.identity
+ended_edt other = other
+
+abbrev pub core_with : core_type.Core → Edt → List (ℕ × Kept) → core_type.Core
+core_with c e loans =
+    record { function = c.function; params = c.params; edt = e; loans = loans }
+
+abbrev pub with_phase : (Edt → Edt) → core_type.Core → core_type.Core
+with_phase step c = core_with c (step c.edt) c.loans
+
+-- the creator of a block of so many words holds it, unless the flag says that it does not
+abbrev pub holding_core : ℕ → ℕ → core_type.Core → core_type.Core
+holding_core d size c = core_with c (holding_edt d c.edt) ((d, kept_created size) ∷ c.loans)
+
+abbrev pub creating_core : ℕ → ℕ → ℕ → core_type.Core → core_type.Core
+creating_core flags d size c = if flags == 0 then holding_core d size c else c
+
+abbrev pub dropping_core : ℕ → core_type.Core → core_type.Core
+dropping_core d c = core_with c (dropped_edt d c.edt) (without_kept d c.loans)
+
+abbrev pub acquiring_core : ℕ → Mode → ℕ → List ℕ → core_type.Core → core_type.Core
+acquiring_core d m size words c =
+    core_with c (acquired_edt (awoken c.edt)) ((d, kept_of m size words) ∷ c.loans)
+
+-- the block that an EDT acquires next, with its mode
+abbrev pub next_on : Parts → ℕ → Option (ℕ × Mode)
+next_on f t = next_in (core_progress (f.core t))
+
+abbrev pub next_mode_on : Parts → ℕ → Mode
+next_mode_on f t = mode_next (next_on f t)
+
+-- A BLOCK is granted, and in EW its words go out on loan
+abbrev pub asked_if : ℕ → Mode → block.State → block.State
+asked_if t m st = if is_held_by (part.Block st) t then st else after_ask st t m
+
+abbrev pub lent_if : ℕ → Mode → block.State → block.State
+lent_if t m st = if is_exclusive m then after_lend st t else st
+
+abbrev pub granted : ℕ → Mode → block.State → block.State
+granted t m st = lent_if t m (asked_if t m st)
+
+-- a loan in EW comes back with the entry's writes
+abbrev pub returned : List (ℕ × ℕ) → Option Loan → block.State → block.State
+returned w None st = st
+returned w (Some loan) st =
+    if is_exclusive loan.mode then with_words st None (written w loan.began) else st
+
+-- a hold ends by a step of its block
+abbrev pub hold_ended : (block.State → ℕ → block.State) → ℕ → List (ℕ × ℕ) → Option Loan
+    → block.State → block.State
+hold_ended step t w loan st = step (returned w loan st) t
+
+abbrev pub doomed_template : Template → Template
+doomed_template t =
+    record { function = t.function; paramc = t.paramc; depc = t.depc; destroyed = true }
+
+-- THE PARTS of an EDT that is made from a template.
+abbrev pub new_face : Part → ℕ → List ℕ → Part
+new_face (part.Template t) dc deps =
+    part.Edt (slot.state_of (count_meant t.depc dc) (dep_links 0 deps []))
+new_face other dc deps = part.Vacant
+
+abbrev pub new_core : Part → ℕ → List ℕ → Part
+new_core (part.Template t) g params =
+    part.Core (record {
+      function = t.function;
+      params = params;
+      edt = phase.Filling (identity_of g);
+      loans = [];
+    })
+new_core other g params = part.Vacant
+
+-- the EDT's hold of the block ends by a step of the block
+abbrev pub ended : (block.State → ℕ → block.State) → Parts → ℕ → ℕ → List (ℕ × ℕ) → Parts
+ended step f t d w =
+    with_core
+    (with_face f d (with_block (f.face d) (hold_ended step t w (loan_on (f.core t) d))))
+    t (on_core (f.core t) (dropping_core d))
+
+-- an accepted call
+abbrev pub called : ℕ → body.Call → Answer → List (ℕ × ℕ) → Parts → Parts
+called t (call.DbCreate n fl) a w f =
+    with_core
+    (with_face f a.value (part.Block (block.state_of (n / 8) (creator_of t fl) [])))
+    t (on_core (f.core t) (creating_core fl a.value (n / 8)))
+called t (call.DbRelease d) a w f = ended after_release f t d w
+called t (call.DbDestroy d) a w f = ended after_doom f t d w
+called t (call.Store d k v) a w f =
+    with_face f d (with_block (f.face d) (λ st. after_store st k v))
+called t (call.AddDependence from x i m) a w f =
+    with_face f x (with_links (f.face x) (λ slots. after_link slots i (mode_named m)))
+called t (call.TemplateCreate function pc dc) a w f =
+    with_face f a.value
+    (part.Template (record { function = function; paramc = pc; depc = dc; destroyed = false }))
+called t (call.TemplateDestroy x) a w f =
+    with_face f x (with_template (f.face x) doomed_template)
+called t (call.EdtCreate from pc params dc deps flags output) a w f =
+    with_core (with_face f a.value (new_face (f.face from) dc deps))
+    a.value (new_core (f.face from) a.value params)
+called t other a w f = f
+
+-- THE PARTS AFTER AN ENTRY. The core of an EDT that acquires, waits, finds a block gone or starts
+-- was made ready before
+abbrev pub acquired : Parts → ℕ → ℕ → Parts
+acquired f t d =
+    with_core
+    (with_face f d (with_block (f.face d) (granted t (next_mode_on f t))))
+    t (on_core (f.core t)
+    (acquiring_core d (next_mode_on f t) (size_on (f.face d)) (words_on (f.face d))))
+
+-- the EDT finds the block gone
+abbrev pub passed_by : Parts → ℕ → Parts
+passed_by f t = with_core f t (on_core (f.core t) (with_phase (λ e. stale_edt (awoken e))))
+
+abbrev pub waited : Parts → ℕ → ℕ → Parts
+waited f t d =
+    with_core
+    (with_face f d (with_block (f.face d) (λ st. after_ask st t (next_mode_on f t))))
+    t (on_core (f.core t) (with_phase waiting_edt))
+
+abbrev pub changed : Entry → Parts → Parts
+changed (Call t home c a w) f = if is_done a.code then called t c a w f else f
+changed (Acquire t d) f = acquired f t d
+changed (Wait t d) f = waited f t d
+changed (StaleAcquire t d) f = passed_by f t
+changed (Start t) f = with_core f t (on_core (f.core t) (with_phase started_edt))
+changed (Free t d w) f = ended after_release f t d w
+changed (End t g) f = with_core f t (on_core (f.core t) (with_phase ended_edt))
+changed other f = f
+
+-- READY: the plan is made of the payloads by whoever takes the EDT on
+abbrev pub ready_at : ℕ → List (ℕ × Mode) → Parts → Parts
+ready_at t members f = with_core f t (on_core (f.core t) (with_phase (made_ready members)))
+
+abbrev pub readied : List (ℕ × Mode) → Entry → Parts → Parts
+readied members (Acquire t d) f = ready_at t members f
+readied members (Wait t d) f = ready_at t members f
+readied members (StaleAcquire t d) f = ready_at t members f
+readied members (Start t) f = ready_at t members f
+readied members other f = f
+
+-- the EDT of an entry; 0 for an entry that belongs to none
+abbrev pub edt_in : Entry → ℕ
+edt_in (Call t home c a w) = t
+edt_in (Acquire t d) = t
+edt_in (Wait t d) = t
+edt_in (StaleAcquire t d) = t
+edt_in (Start t) = t
+edt_in (Free t d w) = t
+edt_in (End t g) = t
+edt_in (Stop (by.Shutdown t)) = t
+edt_in (Stop (by.Abort t code)) = t
+edt_in (Stop (by.Fault t why)) = t
+edt_in other = 0
+
+-- with the plan of its EDT
+abbrev pub readied_on : Setting → History → Entry → Parts → Parts
+readied_on s past e f = readied (plan_of s past (edt_in e)) e f
+
+-- SETTLED: without what was stored in loans, which no entry tells yet
+abbrev pub settled_core : core_type.Core → core_type.Core
+settled_core c = core_with c c.edt (settled_loans c.loans)
+
+abbrev pub settled : Part → Part
+settled x = on_core x settled_core
+
+abbrev pub settled_parts : Parts → Parts
+settled_parts f = record { face = f.face; core = λ t. settled (f.core t) }
