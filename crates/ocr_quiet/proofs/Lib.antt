@@ -1,0 +1,10 @@
+pub mod Moving
+pub mod Standing
+pub mod Waiting
+pub mod Choices
+pub mod Passing
+pub mod Stages
+pub mod Given
+pub mod Edts
+pub mod Sleeping
+pub mod Draining

@@ -1,0 +1,19 @@
+use Rattle.ocr_quiet.proofs.Stages.{standing_law, told_law}
+use Rattle.ocr_quiet.proofs.Given.{wanted_law, above_law}
+use Rattle.ocr_quiet.proofs.Edts.{edts_law}
+use Rattle.ocr_quiet.proofs.laws.standing_laws.Goals as goal
+
+pub returns-clause-standing : goal.returns-clause-standing
+returns-clause-standing c = standing_law
+
+pub returns-clause-told : goal.returns-clause-told
+returns-clause-told c = told_law
+
+pub returns-clause-wanted : goal.returns-clause-wanted
+returns-clause-wanted c = wanted_law
+
+pub returns-clause-bound : goal.returns-clause-bound
+returns-clause-bound c = above_law
+
+pub returns-clause-edts : goal.returns-clause-edts
+returns-clause-edts c = edts_law

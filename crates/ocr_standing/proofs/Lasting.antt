@@ -1,0 +1,112 @@
+-- What is made lasts, and the slots and the plan of an EDT stay once its slots are set.
+use Rattle.std.proofs.Common.{◌≡◌, ◌≢◌, ℕ, zero, suc, ◌+◌, ◌<◌, ◌≤◌, List, [], ◌∷◌, map, cond, Bool, true, false, Option, Some, None, ◌==◌, ◌&&◌, not, if◌then◌else◌, refl, sym, ◌∙◌, ap, subst, is_some, arith}
+use Rattle.std.proofs.lemmas.Bool.{eqb-true, eqb-false, ltb-true}
+use Rattle.std.specs.List.{filter, range_with_len}
+use Rattle.ocr_guid.specs.declared.Code.{Code}
+use Rattle.ocr_slots.specs.declared.Slot.{Slot}
+use Rattle.ocr_slots.specs.Slots as slot
+use Rattle.ocr_meaning.specs.Holds.{is_done}
+use Rattle.ocr_meaning.specs.declared.call.Call as body
+use Rattle.ocr_meaning.specs.declared.call.Call.TheVariants as call
+use Rattle.ocr_meaning.specs.declared.call.Answer.{Answer}
+use Rattle.ocr_history.specs.declared.entry.Entry.TheVariants.{Call, Deliver}
+use Rattle.ocr_history.specs.declared.entry.Message.{Message}
+use Rattle.ocr_history.specs.declared.entry.What.{What}
+use Rattle.ocr_history.specs.declared.entry.What.TheVariants as what
+use Rattle.ocr_history.specs.History.{History, Setting}
+use Rattle.ocr_history.specs.Made.{Made, made, makes, is_new, depc_in, is_edt_made}
+use Rattle.ocr_parts.specs.Calls.{mode_named, link_step, link_calls, set_step, set_calls, depc_of, open_slots, slots_now}
+use Rattle.ocr_parts.specs.Parts.{parts_of}
+use Rattle.ocr_parts.specs.LegalOn.{IsAnswered, IsCallOn}
+use Rattle.ocr_parts.specs.Legal.{IsRun, IsLegal}
+use Rattle.ocr_quiet.proofs.Choices.{off_from, not_off, both_true}
+use Rattle.ocr_quiet.proofs.Stages.{made_kept}
+use Rattle.ocr_quiet.proofs.Edts.{new_free, edts_law}
+use Rattle.ocr_standing.specs.Lasting.{MadeLaw, StaysLaw}
+use Rattle.ocr_standing.proofs.Once.{dependence_slot, is_once, set_once_law, bit}
+
+-- WHAT IS MADE lasts
+keeps_made : (b : Bool) (x y : Option Made) (m : Made) → (b ≡ true → y ≡ None) → y ≡ Some m → (if b then x else y) ≡ Some m
+keeps_made true x y m free is = let wrong : None ≡ Some m = sym (free refl) ∙ is in cc wrong
+keeps_made false x y m free is = is
+
+pub made_law : MadeLaw
+made_law s past (Call t home (call.DbCreate n fl) a w) g m legal is = keeps_made (makes a g) _ (made s past g) m (new_free s past a g legal.on_parts.value) is
+made_law s past (Call t home (call.TemplateCreate f pc dc) a w) g m legal is = keeps_made (makes a g) _ (made s past g) m (new_free s past a g legal.on_parts.value) is
+made_law s past (Call t home (call.EdtCreate from pc ps dc ds fl o) a w) g m legal is = keeps_made (makes a g) _ (made s past g) m (new_free s past a g legal.on_parts.value.named) is
+made_law s past other g m legal is = is
+
+-- an EDT is not made anew
+edt_some : (m : Option Made) → m ≡ None → is_edt_made m ≡ true → ⊥
+edt_some None none is = cc is
+edt_some (Some m) none is = cc none
+
+pub made_old : (s : Setting) (past : History) (t : ℕ) (c : body.Call) (a : Answer) (u : ℕ) → IsAnswered s.limit (parts_of s past) t c a → is_edt_made (made s past u) ≡ true → is_new c a u ≡ false
+made_old s past t (call.DbCreate n fl) a u legal is = off_from (makes a u) (λ on. edt_some (made s past u) (new_free s past a u legal on) is)
+made_old s past t (call.TemplateCreate f pc dc) a u legal is = off_from (makes a u) (λ on. edt_some (made s past u) (new_free s past a u legal on) is)
+made_old s past t (call.EdtCreate from pc ps dc ds fl o) a u legal is = off_from (makes a u) (λ on. edt_some (made s past u) (new_free s past a u legal.named on) is)
+made_old s past t (call.EventCreate kind fl) a u legal is = absurd legal
+made_old s past t (call.EventCreateParams kind fl mg ns nd) a u legal is = absurd legal
+made_old s past t other a u legal is = refl
+
+-- WHERE ALL SLOTS ARE SET
+above : (a k : ℕ) → a ≤ k → (a == k) ≡ false → a + 1 ≤ k
+above a k le apart = let differ : a ≢ k = eqb-false a k apart in omega (arith, le, differ)
+
+range_off : (p : ℕ → Bool) (a n k : ℕ) → filter p (range_with_len a n) ≡ [] → a ≤ k → k < a + n → p k ≡ false
+range_off p a zero k none low high = absurd (omega (arith, low, high))
+range_off p a (suc n) k none low high = elim (p a) as (λ b. p a ≡ b → cond b (a ∷ filter p (range_with_len (a + 1) n)) (filter p (range_with_len (a + 1) n)) ≡ [] → p k ≡ false) [
+  | true ↦ λ _ is. cc is
+  | false ↦ λ off is. elim (a == k) as (λ b. (a == k) ≡ b → p k ≡ false) [
+    | true ↦ λ here. subst (λ (j : ℕ). p j ≡ false) (eqb-true a k here) off
+    | false ↦ λ apart. range_off p (a + 1) n k is (above a k low apart) (omega (arith, high))
+  ] refl
+] refl none
+
+pub all_set : (s : Setting) (past : History) (t k : ℕ) → open_slots s past t ≡ [] → k < depc_of s past t → slot.is_set (set_calls past t) k ≡ true
+all_set s past t k none below = not_off _ (range_off (λ j. not (slot.is_set (set_calls past t) j)) 0 (depc_of s past t) k none (omega arith) (omega (arith, below)))
+
+set_linked : (s : Setting) (past : History) (t k : ℕ) → IsRun s past → slot.is_set (set_calls past t) k ≡ true → slot.is_linked (link_calls past t) k ≡ false → ⊥
+set_linked s past t k run set off =
+    let once = is_once s past t k run in
+    let one : bit (slot.is_set (set_calls past t) k) ≡ 1 = ap bit set in
+    let none : bit (slot.is_linked (link_calls past t) k) ≡ 0 = ap bit off in
+    omega (arith, once, one, none)
+
+-- no accepted dependence links one of them
+links_stay : (s : Setting) (past : History) (t home : ℕ) (c : body.Call) (a : Answer) (w : List (ℕ × ℕ)) (u : ℕ) → IsRun s past → IsCallOn s.limit (parts_of s past) t home c a w → open_slots s past u ≡ [] → link_step c a u (link_calls past u) ≡ link_calls past u
+links_stay s past t home (call.AddDependence from x i m) a w u run legal set = elim (is_done a.code && (x == u)) as (λ b. (is_done a.code && (x == u)) ≡ b → (if b then slot.Linking i (mode_named m) ∷ link_calls past u else link_calls past u) ≡ link_calls past u) [
+  | true ↦ λ is. absurd (
+      let both = both_true (is_done a.code) (x == u) is in
+      let slot_is = dependence_slot s past t home from x i m a w both.0 legal in
+      set_linked s past x i run (all_set s past x i (subst (λ (n : ℕ). open_slots s past n ≡ []) (sym (eqb-true x u both.1)) set) (ltb-true i (depc_of s past x) slot_is.0)) slot_is.1)
+  | false ↦ λ _. refl
+] refl
+links_stay s past t home other a w u run legal set = refl
+
+-- and no message sets one
+sets_stay : (s : Setting) (past : History) (m : Message) (c : Code) (w : What) (u : ℕ) → m.what ≡ w → IsRun s past → IsLegal s past (Deliver m c) → open_slots s past u ≡ [] → set_step w u (set_calls past u) ≡ set_calls past u
+sets_stay s past m c (what.Set x i p) u is run legal set = elim (x == u) as (λ b. (x == u) ≡ b → (if b then slot.Setting i p ∷ set_calls past u else set_calls past u) ≡ set_calls past u) [
+  | true ↦ λ here. absurd (
+      let free = set_once_law s past m c x i p run legal is in
+      let filled : slot.is_set (set_calls past x) i ≡ true = all_set s past x i (subst (λ (n : ℕ). open_slots s past n ≡ []) (sym (eqb-true x u here)) set) free.exists in
+      let unset : slot.is_set (set_calls past x) i ≡ false = ap (λ (o : Option ℕ). is_some o) free.unset in
+      cc (filled, unset))
+  | false ↦ λ _. refl
+] refl
+sets_stay s past m c other u is run legal set = refl
+
+abbrev slots_by : ℕ → List slot.SlotCall → List slot.SlotCall → List Slot
+slots_by n links sets = map (λ k. record { mode = slot.mode_of links k; payload = slot.payload_of sets k }) (slot.slots_of n)
+
+call_stays : (s : Setting) (past : History) (t home : ℕ) (c : body.Call) (a : Answer) (w : List (ℕ × ℕ)) (u : ℕ) → IsRun s past → IsCallOn s.limit (parts_of s past) t home c a w → is_new c a u ≡ false → open_slots s past u ≡ [] → slots_now s (Call t home c a w ∷ past) u ≡ slots_now s past u
+call_stays s past t home c a w u run legal off set =
+    let depc : depc_of s (Call t home c a w ∷ past) u ≡ depc_of s past u = ap depc_in (made_kept s past t home c a w u off) in
+    let links : link_calls (Call t home c a w ∷ past) u ≡ link_calls past u = rw off (links_stay s past t home c a w u run legal set) in
+    let sets : set_calls (Call t home c a w ∷ past) u ≡ set_calls past u = rw off refl in
+    λ i. slots_by (depc i) (links i) (sets i)
+
+pub stays_law : StaysLaw
+stays_law s past (Call t home c a w) u run legal is_one set = call_stays s past t home c a w u run legal.on_parts (made_old s past t c a u legal.on_parts.value (edts_law s past run u ∙ is_one)) set
+stays_law s past (Deliver m c) u run legal is_one set = ap (slots_by (depc_of s past u) (link_calls past u)) (sets_stay s past m c m.what u refl run legal set)
+stays_law s past other u run legal is_one set = refl

@@ -1,0 +1,12 @@
+pub mod Holding
+pub mod Entries
+pub mod Held
+pub mod Once
+pub mod Lasting
+pub mod Planned
+pub mod Own
+pub mod Kept
+pub mod Filled
+pub mod Plain
+pub mod Working
+pub mod Found

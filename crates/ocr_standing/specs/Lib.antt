@@ -1,0 +1,5 @@
+pub mod Held
+pub mod Lasting
+pub mod Kept
+pub mod Plain
+pub mod Found
