@@ -5,10 +5,11 @@
 ghost use Rattle.std.specs.Prelude.{◌≡◌, ◌<◌, ◌+◌, ◌^◌, length, IfOk};
 
 use ocr_base::{NoMemory, Seq};
-use ocr_body::{Answer, Call, Checked};
 use ocr_check::check;
+use ocr_code::Checked;
 use ocr_guid::{Code, Guid};
-use ocr_machine::{Entry, Writes};
+use ocr_history::{Entry, Writes};
+use ocr_meaning::{Answer, Call};
 use ocr_program::parse;
 use ocr_replay::replay;
 use ocr_text::tokens;

@@ -1,360 +1,486 @@
 -- A replay goes on by an entry, or stops at it.
-use Rattle.std.proofs.Common.{zero, suc, ◌≡◌, ℕ, ◌+◌, ◌<◌, ◌≤◌, List, [], ◌∷◌, map, take, length, slice_index_or, slice_set, Bool, true, false, not, ◌==◌, ◌||◌, ◌&&◌, if◌then◌else◌, Option, Some, None, is_some, arith, refl, sym, ◌∙◌, ap, subst}
+use Rattle.std.proofs.Common.{◌≡◌, ℕ, ◌+◌, ◌<◌, ◌≤◌, List, [], ◌∷◌, ◌++◌, take, length, slice_index_or, slice_set, Bool, true, false, not, ◌==◌, ◌||◌, nat_lt, if◌then◌else◌, Option, Some, None, is_some, arith, refl, sym, ◌∙◌, ap, subst, rules}
 use Rattle.std.proofs.lemmas.Grind.{common_steps}
 use Rattle.std.proofs.lemmas.Bool.{eqb-true}
-use Rattle.ocr_slots.specs.Slots as slot
-use Rattle.ocr_datablock.specs.Block as block
+use Rattle.std.specs.List.{Contains}
+use Rattle.ocr_acquire.specs.declared.Mode.{Mode}
+use Rattle.ocr_datablock.specs.Lent.{Loan, loan_of}
 use Rattle.ocr_edt.specs.Edt as edt
-use Rattle.ocr_body.specs.Body.{Body}
+use Rattle.ocr_edt.specs.declared.Edt.{Edt}
+use Rattle.ocr_edt.specs.declared.Edt.TheVariants as phase
+use Rattle.ocr_history.specs.Edts.{is_started, IsRunning}
+use Rattle.ocr_history.specs.History.{History, Setting, history_of, is_stopped, own}
+use Rattle.ocr_history.specs.Made.{Made, MadeBlock, MadeTemplate, MadeEdt, made, is_edt, is_edt_made, function_in, params_in}
+use Rattle.ocr_history.specs.declared.entry.Entry.{Entry}
+use Rattle.ocr_history.specs.declared.entry.Entry.TheVariants.{Call, Deliver, Start, Free, End, Stop}
+use Rattle.ocr_history.specs.declared.entry.Stop.TheVariants as by
+use Rattle.ocr_history.specs.declared.entry.What.{What}
+use Rattle.ocr_judge.specs.Cases.{core_holds, case_body, IsFitLoan, IsFitHold, IsFitCore}
+use Rattle.ocr_judge.specs.Judging.{runs, IsMadeBy, IsFormed, IsUnsaid, IsVerdict, at_place}
+use Rattle.ocr_judge.specs.Mailing.{left_from, message_at, sent_row}
+use Rattle.ocr_judge.specs.Tests.{Whether}
+use Rattle.ocr_judge.specs.declared.judging.Verdict.{Verdict}
+use Rattle.ocr_judge.proofs.Letters.{dropped, sent, waiting}
+use Rattle.ocr_judge.proofs.Steps.{same, not_true, not_false, history_next}
+use Rattle.ocr_legality.specs.Tests.{MayEnter}
+use Rattle.ocr_mail.specs.Mail.{without}
+use Rattle.ocr_machine.specs.Table.{state_in, core_on, IsOf, IsBefore}
+use Rattle.ocr_machine.specs.declared.table.Table.{Table}
+use Rattle.ocr_meaning.specs.Body.{Body}
+use Rattle.ocr_meaning.specs.Holds.{is_isolated}
+use Rattle.ocr_meaning.specs.declared.call.Call as body
+use Rattle.ocr_meaning.specs.declared.call.Call.TheVariants as call
+use Rattle.ocr_meaning.specs.declared.call.Answer.{Answer}
+use Rattle.ocr_parts.specs.Bodies.{body_of, says_next, first_holds, hold_of}
+use Rattle.ocr_parts.specs.Calls.{edt_calls, loans_of, depv_of, plan_of}
+use Rattle.ocr_parts.specs.Effects.{with_phase, started_edt, made_ready}
+use Rattle.ocr_parts.specs.Kinds.{is_running, is_acquiring, is_acquiring_edt, work_in, on_core, mode_on, kept_on}
+use Rattle.ocr_parts.specs.Laws.{AfterLaw}
+use Rattle.ocr_parts.specs.Legal.{IsRun, IsLegal, IsSaid, is_stop}
+use Rattle.ocr_parts.specs.LegalOn.{IsCallOn}
+use Rattle.ocr_parts.specs.Messages.{sends, delivered, pending}
+use Rattle.ocr_parts.specs.Parts.{Parts, parts_of, core}
+use Rattle.ocr_parts.specs.Taken.{is_within}
+use Rattle.ocr_parts.specs.declared.loans.Kept.{Kept}
+use Rattle.ocr_parts.specs.declared.part.Core.{Core}
+use Rattle.ocr_parts.specs.declared.part.Part.{Part}
+use Rattle.ocr_parts.specs.declared.part.Part.TheVariants as part
+use Rattle.ocr_quiet.specs.Marks.{mark, mark_in}
+use Rattle.ocr_quiet.specs.Quiet.{ToldLaw, EdtsLaw}
+use Rattle.ocr_standing.specs.Held.{KeptFitsLaw, IsFitting}
+use Rattle.ocr_standing.specs.Lasting.{BodyLaw, NoOwnLaw, has_own}
 use Rattle.ocr_tree.specs.Tree.{FunctionTree}
-use Rattle.ocr_machine.specs.declared.entry.Entry.{Entry}
-use Rattle.ocr_machine.specs.declared.entry.Entry.TheVariants.{Call, Acquire, Start, Free, End, Stop}
-use Rattle.ocr_machine.specs.declared.entry.Stop.TheVariants as by
-use Rattle.ocr_machine.specs.declared.part.Part.{Part}
-use Rattle.ocr_machine.specs.declared.part.Part.TheVariants as part
-use Rattle.ocr_machine.specs.History.{History, Setting, history_of, is_stopped, own}
-use Rattle.ocr_machine.specs.Made.{Made, MadeBlock, MadeTemplate, MadeEdt, made, is_edt, depc_in, function_in, params_in}
-use Rattle.ocr_machine.specs.Calls.{slot_calls, block_calls, edt_calls, payload_or_null}
-use Rattle.ocr_machine.specs.Edts.{is_started, IsRunning, body_of, says_next}
-use Rattle.ocr_machine.specs.Parts.{Parts, parts_of, face, core}
-use Rattle.ocr_machine.specs.Effects.{changed}
-use Rattle.ocr_machine.specs.Progress.{plan_in, core_progress}
-use Rattle.ocr_machine.specs.LegalOn.{is_running, is_lent, IsStartOn, IsLegalOn}
-use Rattle.ocr_machine.specs.Taken.{keys, is_within, look, has, as_face, as_core, parts_in}
-use Rattle.ocr_machine.specs.Legal.{IsRun, IsLegal, IsStop, is_stop}
-use Rattle.ocr_machine.specs.declared.entry.Stop as run
-use Rattle.ocr_machine.specs.Table.{part_at, all_parts, face_at, core_at}
-use Rattle.std.specs.List.{All}
-use Rattle.ocr_machine.proofs.Wholes.{all_keys}
-use Rattle.ocr_machine.proofs.After.{after}
-use Rattle.ocr_machine.proofs.Told.{known, told_law, body_law, fresh_law, begins}
-use Rattle.ocr_machine.proofs.Present.{IsPresent, IsBare, present}
-use Rattle.ocr_replay.specs.Judging.{runs, IsSaidIn, IsUnsaid, IsWrong}
-use Rattle.ocr_machine.specs.Edts.{body_with}
-use Rattle.ocr_machine.specs.Legal.{IsSaidNow}
-use Rattle.ocr_replay.specs.Replaying.{IsVerdict, verdict_at, agrees, IsReplaying, IsFirstIllegal}
-use Rattle.ocr_machine.specs.Bodies.{body_on}
-use Rattle.ocr_replay.proofs.Steps.{same, both_true, not_true, not_false, history_next, item, item_is}
+use Rattle.ocr_replay.specs.Replaying.{entry_at, verdict_at, IsReplayed, IsReplaying, IsNext, IsComing, IsEntered, IsStarted, IsJudged, IsFirstIllegal, mail_after, CanDeliver}
+use Rattle.ocr_replay.specs.declared.state.Replay.{Replay}
 
--- NO BLOCK is on loan
-bare_unlent : (x : Part) → IsBare x → is_lent x ≡ false
-bare_unlent part.Vacant bare = refl
-bare_unlent (part.Edt slots) bare = refl
-bare_unlent (part.Block st) bare = absurd bare
-bare_unlent (part.Template t) bare = refl
-bare_unlent (part.Core c) bare = absurd bare
+-- WHO RUNS has started, and has not ended
+true_false : true ≡ false → ⊥
+true_false is = cc is
 
-pub unlent : (f : Parts) → IsPresent f → (g : ℕ) → is_lent (f.face g) ≡ false
-unlent f p g = elim (1 == g) as (λ b. (1 == g) ≡ b → is_lent (f.face g) ≡ false) [
-  | true ↦ λ one. subst (λ (k : ℕ). is_lent (f.face k) ≡ false) (eqb-true 1 g one) (rw (p.one, p.calm.borrower) refl)
-  | false ↦ λ one. elim (2 == g) as (λ b. (2 == g) ≡ b → is_lent (f.face g) ≡ false) [
-    | true ↦ λ two. subst (λ (k : ℕ). is_lent (f.face k) ≡ false) (eqb-true 2 g two) (rw p.two refl)
-    | false ↦ λ two. bare_unlent (f.face g) (p.bare g one two)
-  ] refl
-] refl
+abbrev some_or : {A : Type 0} → A → Option A → A
+some_or d None = d
+some_or d (Some x) = x
 
-pub unlent_now : (s : Setting) (xs : List Entry) (n : ℕ) (ps : List Part) (vs : List ℕ) → IsReplaying s xs n ps vs → (g : ℕ) → is_lent (face_at s.limit ps g) ≡ false
-unlent_now s xs n ps vs so_far g =
-    ap (λ (f : Parts). is_lent (f.face g)) so_far.parts_are ∙ unlent (parts_of s (history_of (take n xs))) (present s (history_of (take n xs)) so_far.run) g
+some_of : {A : Type 0} (x y : A) → Some x ≡ Some y → x ≡ y
+some_of x y is = ap (some_or x) is
 
--- THE BODY of an EDT, by its parts
-payloads_same : (calls : List slot.SlotCall) (ks : List ℕ) → map (λ one. payload_or_null one.payload) (map (slot.slot_of calls) ks) ≡ map (λ k. payload_or_null (slot.payload_of calls k)) ks
-payloads_same calls [] = refl
-payloads_same calls (k ∷ rest) = ap (λ (l : List ℕ). payload_or_null (slot.payload_of calls k) ∷ l) (payloads_same calls rest)
+abbrev starter : Entry → ℕ
+starter (Start u) = u
+starter other = 0
 
-body_made : (fs : List FunctionTree) (m : Option Made) (t : ℕ) (slots : List slot.SlotCall) (blocks : List block.BlockCall) (calls : List edt.EdtCall)
-    → body_on fs (face m slots blocks) (core m t calls) ≡ body_with fs (function_in m) (params_in m) (map (λ k. payload_or_null (slot.payload_of slots k)) (slot.slots_of (depc_in m)))
-body_made fs None t slots blocks calls = refl
-body_made fs (Some (MadeBlock n)) t slots blocks calls = refl
-body_made fs (Some (MadeTemplate f pc dc)) t slots blocks calls = refl
-body_made fs (Some (MadeEdt f ps n)) t slots blocks calls = ap (body_with fs f ps) (payloads_same slots (slot.slots_of n))
+start_of : {u t : ℕ} → Start u ≡ Start t → u ≡ t
+start_of is = ap starter is
 
-pub body_parts : (s : Setting) (past : History) (t : ℕ) → body_on s.program ((parts_of s past).face t) ((parts_of s past).core t) ≡ body_of s past t
-body_parts s past t = body_made s.program (made s past t) t (slot_calls past t) (block_calls s past t) (edt_calls s past t)
+core_mark : (e : Edt) → is_some (work_in e) ≡ true → mark_in e ≡ (2, false)
+core_mark (phase.Running w) is = refl
+core_mark other is = cc is
 
--- WHAT A LEGAL ENTRY says of its EDT's body
-moved_said : (s : Setting) (past : History) (u t : ℕ) (e : Entry) → (u == t) ≡ true → IsSaidNow (says_next s past u) e → IsSaidNow (says_next s past t) e
-moved_said s past u t e is said = subst (λ (k : ℕ). IsSaidNow (says_next s past k) e) (eqb-true u t is) said
+running_mark : (x : Part) → is_running x ≡ true → mark x ≡ (2, false)
+running_mark (part.Core c) is = core_mark c.edt is
+running_mark other is = cc is
 
-pub legal_said : (s : Setting) (past : History) (e : Entry) (t : ℕ) → IsLegal s past e → runs t e ≡ true → IsSaidNow (says_next s past t) e
-legal_said s past (Call u home c a w) t legal is = moved_said s past u t (Call u home c a w) is legal.said
-legal_said s past (Free u d w) t legal is = moved_said s past u t (Free u d w) is legal.said
-legal_said s past (End u g) t legal is = moved_said s past u t (End u g) is legal.said
-legal_said s past (Stop (by.Shutdown u)) t legal is = moved_said s past u t (Stop (by.Shutdown u)) is legal.stopping.1
-legal_said s past (Stop (by.Abort u code)) t legal is = moved_said s past u t (Stop (by.Abort u code)) is legal.stopping.1
-legal_said s past (Stop (by.Fault u why)) t legal is = moved_said s past u t (Stop (by.Fault u why)) is legal.stopping.1
-legal_said s past other t legal is = cc
+pub running_now : ToldLaw → (s : Setting) (past : History) (t : ℕ) → IsRun s past → is_running ((parts_of s past).core t) ≡ true → IsRunning past t
+running_now told s past t run is =
+    let m : mark ((parts_of s past).core t) ≡ (2, false) = running_mark ((parts_of s past).core t) is in
+    record {
+      started = (told s past run t).has_started ∙ ap (λ (p : ℕ × Bool). nat_lt 1 p.0) m;
+      not_ended = (told s past run t).has_ended ∙ ap (λ (p : ℕ × Bool). nat_lt 2 p.0) m;
+    }
 
--- THE VERDICT on an EDT
-pub verdict_wrong : (b : Body) (t : ℕ) (xs : List Entry) (start at : ℕ) → IsWrong b t xs start at → IsVerdict b t xs start at
-verdict_wrong b t xs start at wrong = record {
-  after = wrong.after;
-  within = omega (arith, wrong.within);
-  said = wrong.said;
-  unsaid = λ _. wrong.unsaid;
-}
-
-pub verdict_right : (b : Body) (t : ℕ) (xs : List Entry) (start : ℕ) → start ≤ length xs → IsSaidIn b t xs start (length xs) → IsVerdict b t xs start (length xs)
-verdict_right b t xs start within said = record {
-  after = within;
-  within = omega arith;
-  said = said;
-  unsaid = λ below. absurd (omega (arith, below));
-}
-
--- A LEGAL ENTRY by its parts and its EDT's verdict
+-- WHAT A BODY SAYS, by its verdict
 past_it : (v n : ℕ) → n ≤ v → (v == n) ≡ false → n < v
 past_it v n after apart = grind (arith, common_steps)
 
-verdict_said : (s : Setting) (xs : List Entry) (n : ℕ) (ps : List Part) (vs : List ℕ) (t : ℕ) (e : Entry) → IsReplaying s xs n ps vs → n < length xs → e ≡ slice_index_or xs n e
-    → is_running (core_at s.limit ps t) ≡ true → runs t e ≡ true → not (verdict_at vs t == n) ≡ true → IsSaidNow (says_next s (history_of (take n xs)) t) e
-verdict_said s xs n ps vs t e so_far below is running mine agreed =
+made_here : (b : Body) (t n : ℕ) (xs : List Entry) (v : Verdict) (e : Entry) → IsVerdict b t xs n v.at v.told → e ≡ slice_index_or xs n e → runs t e ≡ true → not (v.at == n) ≡ true
+    → IsMadeBy (at_place b t xs n) e
+made_here b t n xs v e verdict is mine apart =
+    let off : (v.at == n) ≡ false = not_true (v.at == n) apart in
+    verdict.said n (omega arith) (past_it v.at n verdict.after off) e is mine
+
+not_made_here : (b : Body) (t n : ℕ) (xs : List Entry) (v : Verdict) (e : Entry) → IsVerdict b t xs n v.at v.told → n < length xs → e ≡ slice_index_or xs n e → not (v.at == n) ≡ false
+    → IsMadeBy (at_place b t xs n) e → ⊥
+not_made_here b t n xs v e verdict below is here =
+    let at : v.at ≡ n = eqb-true v.at n (not_false (v.at == n) here) in
+    let unsaid : IsUnsaid b t xs v.at = verdict.unsaid (omega (arith, at, below)) in
+    (subst (λ (k : ℕ). IsUnsaid b t xs k) at unsaid e is).1
+
+formed : (limit : ℕ) (f : Parts) (t home : ℕ) (c : body.Call) (a : Answer) (w : List (ℕ × ℕ)) → IsCallOn limit f t home c a w → IsFormed c a
+formed limit f t home (call.Load d k) a w on = record { done = on.code; no_scope = on.no_scope; no_output = on.no_output }
+formed limit f t home (call.Store d k v) a w on = (record { done = on.code; no_scope = on.no_scope; no_output = on.no_output }, on.value.1)
+formed limit f t home other a w on = tt
+
+pub said_call : ToldLaw → (s : Setting) (xs : List Entry) (n t home : ℕ) (c : body.Call) (a : Answer) (w : List (ℕ × ℕ)) (r : Replay) (b : Bool) → b ≡ not ((verdict_at r.verdicts.items t).at == n)
+    → IsNext s xs n (Call t home c a w) r → Whether b (IsSaid s (history_of (take n xs)) (Call t home c a w))
+said_call told s xs n t home c a w r b is next =
     let past : History = history_of (take n xs) in
-    let on : is_running ((parts_of s past).core t) ≡ true = sym (ap (λ (f : Parts). is_running (f.core t)) so_far.parts_are) ∙ running in
-    let runs_now : IsRunning past t = (told_law s past t so_far.run).running.0 on in
-    let v = so_far.judged t runs_now in
-    v.said n (omega arith) (past_it (verdict_at vs t) n v.after (not_true _ agreed)) e is mine
-
-unsaid_here : (b : Body) (t : ℕ) (xs : List Entry) (n v : ℕ) → n < length xs → v ≡ n → (v < length xs → IsUnsaid b t xs v) → IsUnsaid b t xs n
-unsaid_here b t xs n v below here unsaid = subst (λ (k : ℕ). IsUnsaid b t xs k) here (unsaid (subst (λ (k : ℕ). k < length xs) (sym here) below))
-
-verdict_unsaid : (s : Setting) (xs : List Entry) (n : ℕ) (ps : List Part) (vs : List ℕ) (t : ℕ) (e : Entry) → IsReplaying s xs n ps vs → n < length xs → e ≡ slice_index_or xs n e
-    → is_running (core_at s.limit ps t) ≡ true → not (verdict_at vs t == n) ≡ false → IsSaidNow (says_next s (history_of (take n xs)) t) e → ⊥
-verdict_unsaid s xs n ps vs t e so_far below is running agreed =
-    let past : History = history_of (take n xs) in
-    let on : is_running ((parts_of s past).core t) ≡ true = sym (ap (λ (f : Parts). is_running (f.core t)) so_far.parts_are) ∙ running in
-    let runs_now : IsRunning past t = (told_law s past t so_far.run).running.0 on in
-    let v = so_far.judged t runs_now in
-    let here : verdict_at vs t ≡ n = eqb-true (verdict_at vs t) n (not_false _ agreed) in
-    let at : IsUnsaid (body_of s past t) t xs n = unsaid_here (body_of s past t) t xs n (verdict_at vs t) below here v.unsaid in
-    (at e is).1
-
-on_now : (s : Setting) (xs : List Entry) (n : ℕ) (ps : List Part) (vs : List ℕ) (e : Entry) → IsReplaying s xs n ps vs → IsLegalOn s.limit (all_parts s.limit ps) e
-    → IsLegalOn s.limit (parts_of s (history_of (take n xs))) e
-on_now s xs n ps vs e so_far legal = subst (λ (f : Parts). IsLegalOn s.limit f e) so_far.parts_are legal
-
-pub legal_at : (s : Setting) (xs : List Entry) (n : ℕ) (ps : List Part) (vs : List ℕ) (e : Entry) → IsReplaying s xs n ps vs → n < length xs → e ≡ slice_index_or xs n e
-    → is_stop e ≡ false → IsLegalOn s.limit (all_parts s.limit ps) e → agrees vs e n ≡ true → IsLegal s (history_of (take n xs)) e
-legal_at s xs n ps vs (Call t home c a w) so_far below is no_stop legal agreed =
-    record { open_run = so_far.open_run; on_parts = on_now s xs n ps vs (Call t home c a w) so_far legal; said = verdict_said s xs n ps vs t (Call t home c a w) so_far below is legal.running (same t) agreed; stopping = tt }
-legal_at s xs n ps vs (Free t d w) so_far below is no_stop legal agreed =
-    record { open_run = so_far.open_run; on_parts = on_now s xs n ps vs (Free t d w) so_far legal; said = verdict_said s xs n ps vs t (Free t d w) so_far below is legal.running (same t) agreed; stopping = tt }
-legal_at s xs n ps vs (End t g) so_far below is no_stop legal agreed =
-    record { open_run = so_far.open_run; on_parts = on_now s xs n ps vs (End t g) so_far legal; said = verdict_said s xs n ps vs t (End t g) so_far below is legal.running (same t) agreed; stopping = tt }
-legal_at s xs n ps vs (Acquire t d) so_far below is no_stop legal agreed = record { open_run = so_far.open_run; on_parts = on_now s xs n ps vs (Acquire t d) so_far legal; said = tt; stopping = tt }
-legal_at s xs n ps vs (Start t) so_far below is no_stop legal agreed = record { open_run = so_far.open_run; on_parts = on_now s xs n ps vs (Start t) so_far legal; said = tt; stopping = tt }
-legal_at s xs n ps vs (Stop why) so_far below is no_stop legal agreed = cc
-legal_at s xs n ps vs other so_far below is no_stop legal agreed = absurd legal
-
--- AN ENTRY THAT IS NOT LEGAL
-pub illegal_at : (s : Setting) (xs : List Entry) (n : ℕ) (ps : List Part) (vs : List ℕ) (e : Entry) → IsReplaying s xs n ps vs → n < length xs → e ≡ slice_index_or xs n e
-    → (IsLegal s (history_of (take n xs)) e → ⊥) → IsFirstIllegal s xs n
-illegal_at s xs n ps vs e so_far below is wrong = record {
-  within = below;
-  run = so_far.run;
-  broken = λ run. wrong (subst (λ (h : History). IsRun s h) (history_next xs n e below is) run).1;
-}
-
-pub not_legal : (s : Setting) (xs : List Entry) (n : ℕ) (ps : List Part) (vs : List ℕ) (e : Entry) → IsReplaying s xs n ps vs → n < length xs → e ≡ slice_index_or xs n e
-    → (IsLegalOn s.limit (all_parts s.limit ps) e → ⊥) → IsFirstIllegal s xs n
-not_legal s xs n ps vs e so_far below is wrong =
-    illegal_at s xs n ps vs e so_far below is (λ legal. wrong (subst (λ (f : Parts). IsLegalOn s.limit f e) (sym so_far.parts_are) legal.on_parts))
-
-pub not_said : (s : Setting) (xs : List Entry) (n : ℕ) (ps : List Part) (vs : List ℕ) (e : Entry) → IsReplaying s xs n ps vs → n < length xs → e ≡ slice_index_or xs n e
-    → IsLegalOn s.limit (all_parts s.limit ps) e → agrees vs e n ≡ false → IsFirstIllegal s xs n
-not_said s xs n ps vs (Call t home c a w) so_far below is legal agreed =
-    illegal_at s xs n ps vs (Call t home c a w) so_far below is (λ l. verdict_unsaid s xs n ps vs t (Call t home c a w) so_far below is legal.running agreed l.said)
-not_said s xs n ps vs (Free t d w) so_far below is legal agreed =
-    illegal_at s xs n ps vs (Free t d w) so_far below is (λ l. verdict_unsaid s xs n ps vs t (Free t d w) so_far below is legal.running agreed l.said)
-not_said s xs n ps vs (End t g) so_far below is legal agreed =
-    illegal_at s xs n ps vs (End t g) so_far below is (λ l. verdict_unsaid s xs n ps vs t (End t g) so_far below is legal.running agreed l.said)
-not_said s xs n ps vs other so_far below is legal agreed = cc
-
--- ONE ENTRY MORE
--- who runs is made
-pub running_made : (s : Setting) (past : History) (t : ℕ) → IsRun s past → IsRunning past t → is_edt past t ≡ true
-running_made s past t run running = elim (is_edt past t) as (λ b. is_edt past t ≡ b → b ≡ true) [
-  | true ↦ λ _. refl
-  | false ↦ λ off. let not_started : is_started past t ≡ false = (told_law s past t run).started off in let started : is_started past t ≡ true = running.started in cc (started, not_started)
-] refl
-
-restrict : (s : Setting) (xs : List Entry) (n : ℕ) (e : Entry) (t v : ℕ) → IsRun s (e ∷ history_of (take n xs)) → n < length xs → e ≡ slice_index_or xs n e
-    → IsRunning (history_of (take n xs)) t → IsVerdict (body_of s (history_of (take n xs)) t) t xs n v → IsVerdict (body_of s (e ∷ history_of (take n xs)) t) t xs (n + 1) v
-restrict s xs n e t v run below is running verdict =
-    let past : History = history_of (take n xs) in
-    let not_here : (v == n) ≡ false = elim (v == n) as (λ b. (v == n) ≡ b → b ≡ false) [
-      | true ↦ λ here.
-          let same_place : v ≡ n = eqb-true v n here in
-          let at : IsUnsaid (body_of s past t) t xs n = unsaid_here (body_of s past t) t xs n v below same_place verdict.unsaid in
-          absurd ((at e is).1 (legal_said s past e t run.1 (at e is).0))
-      | false ↦ λ _. refl
-    ] refl in
-    let more : n < v = past_it v n verdict.after not_here in
-    subst (λ (b : Body). IsVerdict b t xs (n + 1) v) (sym (body_law s past e t run (running_made s past t run.0 running))) (record {
-      after = omega arith;
-      within = verdict.within;
-      said = λ m lower upper. verdict.said m (omega arith) upper;
-      unsaid = verdict.unsaid;
-    })
-
-still_open : (past : History) (e : Entry) → is_stop e ≡ false → is_stopped past ≡ false → is_stopped (e ∷ past) ≡ false
-still_open past (Stop why) no_stop going = cc
-still_open past other no_stop going = going
-
-parts_next : (s : Setting) (xs : List Entry) (n : ℕ) (ps qs : List Part) (vs : List ℕ) (e : Entry) → IsReplaying s xs n ps vs → IsLegal s (history_of (take n xs)) e
-    → all_parts s.limit qs ≡ changed e (all_parts s.limit ps) → all_parts s.limit qs ≡ parts_of s (e ∷ history_of (take n xs))
-parts_next s xs n ps qs vs e so_far legal stepped =
-    stepped ∙ ap (λ (f : Parts). changed e f) so_far.parts_are ∙ sym (after s (history_of (take n xs)) e legal.on_parts)
-
--- the replay of one entry more, whatever the verdicts are then
-pub next_at : (s : Setting) (xs : List Entry) (n : ℕ) (ps qs : List Part) (vs ws : List ℕ) (e : Entry) → IsReplaying s xs n ps vs → n < length xs → e ≡ slice_index_or xs n e → is_stop e ≡ false
-    → IsLegal s (history_of (take n xs)) e → all_parts s.limit qs ≡ changed e (all_parts s.limit ps)
-    → ((t : ℕ) → IsRunning (e ∷ history_of (take n xs)) t → IsVerdict (body_of s (e ∷ history_of (take n xs)) t) t xs (n + 1) (verdict_at ws t)) → IsReplaying s xs (n + 1) qs ws
-next_at s xs n ps qs vs ws e so_far below is no_stop legal stepped verdicts =
-    let h : history_of (take (n + 1) xs) ≡ e ∷ history_of (take n xs) = history_next xs n e below is in
+    let on : IsCallOn s.limit (parts_of s past) t home c a w = next.may.0 in
+    let verdict = next.so_far.judged t (running_now told s past t next.so_far.run on.running) in
     record {
-      run = subst (λ (h : History). IsRun s h) (sym h) (so_far.run, legal);
-      open_run = subst (λ (h : History). is_stopped h ≡ false) (sym h) (still_open (history_of (take n xs)) e no_stop so_far.open_run);
-      parts_are = parts_next s xs n ps qs vs e so_far legal stepped ∙ ap (λ (h : History). parts_of s h) (sym h);
-      judged = λ t started. subst (λ (h : History). IsVerdict (body_of s h t) t xs (n + 1) (verdict_at ws t)) (sym h) (verdicts t (subst (λ (h : History). IsRunning h t) h started));
+      yes = λ on_it. (made_here (body_of s past t) t n xs (verdict_at r.verdicts.items t) (Call t home c a w) verdict next.is (same t) (sym is ∙ on_it)).0;
+      no = λ off said. not_made_here (body_of s past t) t n xs (verdict_at r.verdicts.items t) (Call t home c a w) verdict next.within next.is (sym is ∙ off) (said, formed s.limit (parts_of s past) t home c a w on);
     }
 
+pub said_free : ToldLaw → (s : Setting) (xs : List Entry) (n t d : ℕ) (w : List (ℕ × ℕ)) (r : Replay) (b : Bool) → b ≡ not ((verdict_at r.verdicts.items t).at == n)
+    → IsNext s xs n (Free t d w) r → Whether b (IsSaid s (history_of (take n xs)) (Free t d w))
+said_free told s xs n t d w r b is next =
+    let past : History = history_of (take n xs) in
+    let verdict = next.so_far.judged t (running_now told s past t next.so_far.run next.may.0.running) in
+    record {
+      yes = λ on_it. made_here (body_of s past t) t n xs (verdict_at r.verdicts.items t) (Free t d w) verdict next.is (same t) (sym is ∙ on_it);
+      no = λ off said. not_made_here (body_of s past t) t n xs (verdict_at r.verdicts.items t) (Free t d w) verdict next.within next.is (sym is ∙ off) said;
+    }
+
+pub said_end : ToldLaw → (s : Setting) (xs : List Entry) (n t g : ℕ) (r : Replay) (b : Bool) → b ≡ not ((verdict_at r.verdicts.items t).at == n)
+    → IsNext s xs n (End t g) r → Whether b (IsSaid s (history_of (take n xs)) (End t g))
+said_end told s xs n t g r b is next =
+    let past : History = history_of (take n xs) in
+    let verdict = next.so_far.judged t (running_now told s past t next.so_far.run next.may.0.running) in
+    record {
+      yes = λ on_it. made_here (body_of s past t) t n xs (verdict_at r.verdicts.items t) (End t g) verdict next.is (same t) (sym is ∙ on_it);
+      no = λ off said. not_made_here (body_of s past t) t n xs (verdict_at r.verdicts.items t) (End t g) verdict next.within next.is (sym is ∙ off) said;
+    }
+
+pub said_delivery : (s : Setting) (past : History) (rows : List (List (Option What))) (x : ℕ × ℕ × What) (b : Bool) → left_from 0 rows ≡ pending s past → Whether b (Contains (left_from 0 rows) x) → Whether b (Contains (pending s past) x)
+said_delivery s past rows x b left whether = subst (λ (ms : List (ℕ × ℕ × What)). Whether b (Contains ms x)) left whether
+
+-- LEGAL
+pub coming_legal : (s : Setting) (xs : List Entry) (n : ℕ) (e : Entry) (r : Replay) → IsComing s xs n e r → IsLegal s (history_of (take n xs)) e
+coming_legal s xs n (Stop why) r coming = absurd (cc (coming.next.no_stop))
+coming_legal s xs n other r coming = record {
+  open_run = coming.next.so_far.open_run;
+  on_parts = coming.next.may.0;
+  on_facts = coming.next.may.1;
+  said = coming.said;
+  stopping = tt;
+}
+
+pub first_illegal : (s : Setting) (xs : List Entry) (n : ℕ) (e : Entry) → IsRun s (history_of (take n xs)) → n < length xs → e ≡ slice_index_or xs n e → (IsLegal s (history_of (take n xs)) e → ⊥) → IsFirstIllegal s xs n
+first_illegal s xs n e run below is wrong = record {
+  within = below;
+  run = run;
+  broken = λ more. wrong (subst (λ (h : History). IsRun s h) (history_next xs n e below is) more).1;
+}
+
+-- MESSAGES
+pub can_deliver : (s : Setting) (past : History) (e : Entry) (rows : List (List (Option What))) → left_from 0 rows ≡ pending s past → IsSaid s past e → CanDeliver e rows
+can_deliver s past (Deliver m c) rows left said =
+    let there : message_at rows m.place m.index ≡ Some m.what = waiting rows m.place m.index m.what (subst (λ (ms : List (ℕ × ℕ × What)). Contains ms (m.place, m.index, m.what)) (sym left) said) in
+    λ none. cc (sym there ∙ none)
+can_deliver s past other rows left said = tt
+
+left_after : (s : Setting) (past : History) (e : Entry) (rows : List (List (Option What))) → left_from 0 rows ≡ pending s past → IsSaid s past e → left_from 0 (mail_after e rows) ≡ without (delivered e) (left_from 0 rows)
+left_after s past (Deliver m c) rows left said =
+    sym (dropped m.place m.index rows m.what (waiting rows m.place m.index m.what (subst (λ (ms : List (ℕ × ℕ × What)). Contains ms (m.place, m.index, m.what)) (sym left) said)))
+left_after s past other rows left said = refl
+
+len_after : (e : Entry) (rows : List (List (Option What))) → length (mail_after e rows) ≡ length rows
+len_after (Deliver m c) rows = search rules
+len_after other rows = refl
+
+past_len : (xs : List Entry) (n : ℕ) → n ≤ length xs → length (history_of (take n xs)) ≡ n
+past_len xs n within = grind (arith, common_steps)
+
+pub mail_next : (s : Setting) (past : History) (e : Entry) (rows : List (List (Option What))) (ms : List What) → left_from 0 rows ≡ pending s past → IsSaid s past e → length rows ≡ length past → ms ≡ sends e (parts_of s past)
+    → left_from 0 (mail_after e rows ++ sent_row ms ∷ []) ≡ pending s (e ∷ past)
+mail_next s past e rows ms left said len are =
+    sent (mail_after e rows) ms
+    ∙ rw (left_after s past e rows left said, len_after e rows, len, are, left) refl
+
+still_open : (past : History) (e : Entry) → is_stop e ≡ false → is_stopped past ≡ false → is_stopped (e ∷ past) ≡ false
+still_open past (Stop why) no_stop going = cc no_stop
+still_open past other no_stop going = going
+
+more_len : (xs : List (List (Option What))) (x : List (Option What)) → length (xs ++ x ∷ []) ≡ length xs + 1
+more_len xs x = grind (arith, common_steps)
+
+pub entered_next : (s : Setting) (xs : List Entry) (n : ℕ) (e : Entry) (r : Replay) (table : Table) (rows : List (List (Option What))) (ms : List What) → IsComing s xs n e r
+    → (IsBefore s (history_of (take n xs)) e r.table → IsOf s (e ∷ history_of (take n xs)) table) → ms ≡ sends e (state_in r.table)
+    → rows ≡ mail_after e r.mail ++ sent_row ms ∷ [] → IsEntered s xs (n + 1) table rows
+entered_next s xs n e r table rows ms coming enters sent_are rows_are =
+    let past : History = history_of (take n xs) in
+    let next = coming.next in
+    let legal : IsLegal s past e = coming_legal s xs n e r coming in
+    let h : history_of (take (n + 1) xs) ≡ e ∷ past = history_next xs n e next.within next.is in
+    let len : length r.mail ≡ length past = next.so_far.sent ∙ sym (past_len xs n (omega (arith, next.within))) in
+    let are : ms ≡ sends e (parts_of s past) = sent_are ∙ ap (sends e) next.so_far.of.parts in
+    record {
+      run = subst (λ (p : History). IsRun s p) (sym h) (next.so_far.run, legal);
+      open_run = subst (λ (p : History). is_stopped p ≡ false) (sym h) (still_open past e next.no_stop next.so_far.open_run);
+      of = subst (λ (p : History). IsOf s p table) (sym h) (enters (record { of = next.so_far.of; run = next.so_far.run; legal = legal }));
+      sent = ap length rows_are ∙ more_len (mail_after e r.mail) (sent_row ms) ∙ ap (λ (k : ℕ). k + 1) (len_after e r.mail ∙ next.so_far.sent);
+      left = ap (left_from 0) rows_are ∙ mail_next s past e r.mail ms next.so_far.left coming.said len are ∙ ap (pending s) (sym h);
+    }
+
+-- VERDICTS after one entry more
+legal_made : (s : Setting) (xs : List Entry) (n : ℕ) (e : Entry) (t : ℕ) → IsLegal s (history_of (take n xs)) e → is_stop e ≡ false → runs t e ≡ true → IsMadeBy (says_next s (history_of (take n xs)) t) e
+legal_made s xs n (Call u home c a w) t legal no_stop is =
+    subst (λ (k : ℕ). IsMadeBy (says_next s (history_of (take n xs)) k) (Call u home c a w)) (eqb-true u t is) (legal.said, formed s.limit (parts_of s (history_of (take n xs))) u home c a w legal.on_parts)
+legal_made s xs n (Free u d w) t legal no_stop is = subst (λ (k : ℕ). IsMadeBy (says_next s (history_of (take n xs)) k) (Free u d w)) (eqb-true u t is) legal.said
+legal_made s xs n (End u g) t legal no_stop is = subst (λ (k : ℕ). IsMadeBy (says_next s (history_of (take n xs)) k) (End u g)) (eqb-true u t is) legal.said
+legal_made s xs n (Stop why) t legal no_stop is = absurd (cc no_stop)
+legal_made s xs n other t legal no_stop is = absurd (cc is)
+
+restrict : BodyLaw → (s : Setting) (xs : List Entry) (n : ℕ) (e : Entry) (t : ℕ) (v : Verdict) → IsRun s (history_of (take n xs)) → IsLegal s (history_of (take n xs)) e → is_stop e ≡ false → n < length xs
+    → e ≡ slice_index_or xs n e → is_edt (history_of (take n xs)) t ≡ true → IsRunning (history_of (take n xs)) t
+    → IsVerdict (body_of s (history_of (take n xs)) t) t xs n v.at v.told → IsVerdict (body_of s (history_of (take (n + 1) xs)) t) t xs (n + 1) v.at v.told
+restrict body_law s xs n e t v run legal no_stop below is edt running verdict =
+    let past : History = history_of (take n xs) in
+    let apart : (v.at == n) ≡ false = elim (v.at == n) as (λ b. (v.at == n) ≡ b → b ≡ false) [
+      | true ↦ λ here.
+          let at : v.at ≡ n = eqb-true v.at n here in
+          let unsaid : IsUnsaid (body_of s past t) t xs n = subst (λ (k : ℕ). IsUnsaid (body_of s past t) t xs k) at (verdict.unsaid (omega (arith, at, below))) in
+          absurd ((unsaid e is).1 (legal_made s xs n e t legal no_stop (unsaid e is).0))
+      | false ↦ λ _. refl
+    ] refl in
+    let more : n < v.at = past_it v.at n verdict.after apart in
+    let bodies : body_of s (history_of (take (n + 1) xs)) t ≡ body_of s past t = ap (λ (p : History). body_of s p t) (history_next xs n e below is) ∙ body_law s past e t run legal edt running.started in
+    subst (λ (b : Body). IsVerdict b t xs (n + 1) v.at v.told) (sym bodies) (record {
+      after = omega (arith, more);
+      within = verdict.within;
+      said = λ m lower upper. verdict.said m (omega (arith, lower)) upper;
+      unsaid = verdict.unsaid;
+      told = verdict.told;
+    })
+
 later_or : (b c : Bool) → (b || c) ≡ false → c ≡ false
-later_or true c is = cc
+later_or true c is = cc is
 later_or false c is = is
 
 -- who runs after an entry that did not start it ran before it
-ran_before : (past : History) (e : Entry) (t : ℕ) → ((u : ℕ) → e ≡ Start u → ⊥) → IsRunning (e ∷ past) t → IsRunning past t
-ran_before past (Start u) t no_start running = absurd (no_start u refl)
+ran_before : (past : History) (e : Entry) (t : ℕ) → (e ≡ Start t → ⊥) → IsRunning (e ∷ past) t → IsRunning past t
+ran_before past (Start u) t no_start running = record {
+  started = elim (u == t) as (λ b. (u == t) ≡ b → (b || is_started past t) ≡ true → is_started past t ≡ true) [
+    | true ↦ λ same_edt _. absurd (no_start (ap (λ (k : ℕ). Start k) (eqb-true u t same_edt)))
+    | false ↦ λ _ is. is
+  ] refl running.started;
+  not_ended = running.not_ended;
+}
 ran_before past (End u g) t no_start running = record { started = running.started; not_ended = later_or (u == t) _ running.not_ended }
 ran_before past other t no_start running = record { started = running.started; not_ended = running.not_ended }
 
--- an entry that is no Start
-pub next_other : (s : Setting) (xs : List Entry) (n : ℕ) (ps qs : List Part) (vs : List ℕ) (e : Entry) → IsReplaying s xs n ps vs → n < length xs → e ≡ slice_index_or xs n e → is_stop e ≡ false
-    → ((t : ℕ) → e ≡ Start t → ⊥) → IsLegal s (history_of (take n xs)) e → all_parts s.limit qs ≡ changed e (all_parts s.limit ps) → IsReplaying s xs (n + 1) qs vs
-next_other s xs n ps qs vs e so_far below is no_stop no_start legal stepped =
-    next_at s xs n ps qs vs vs e so_far below is no_stop legal stepped
-    (λ t running. let before : IsRunning (history_of (take n xs)) t = ran_before (history_of (take n xs)) e t no_start running in
-    restrict s xs n e t (verdict_at vs t) (so_far.run, legal) below is before (so_far.judged t before))
+core_edt : (m : Option Made) (t : ℕ) (calls : List edt.EdtCall) (loans : List (ℕ × Kept)) → nat_lt 1 (mark (core m t calls loans)).0 ≡ true → is_edt_made m ≡ true
+core_edt None t calls loans is = cc is
+core_edt (Some (MadeBlock n c)) t calls loans is = cc is
+core_edt (Some (MadeTemplate f pc dc)) t calls loans is = cc is
+core_edt (Some (MadeEdt f ps n)) t calls loans is = refl
 
-verdict_set : (vs : List ℕ) (t u v : ℕ) → t < length vs → verdict_at (slice_set vs t v) u ≡ (if t == u then v else verdict_at vs u)
-verdict_set vs t u v below = grind (arith, common_steps)
+pub running_edt : ToldLaw → EdtsLaw → (s : Setting) (past : History) (t : ℕ) → IsRun s past → IsRunning past t → is_edt past t ≡ true
+running_edt told edts s past t run running =
+    sym (edts s past run t) ∙ core_edt (made s past t) t (edt_calls s past t) (loans_of s past t) (sym (told s past run t).has_started ∙ running.started)
 
--- a Start
-pub next_start : (s : Setting) (xs : List Entry) (n : ℕ) (ps qs : List Part) (vs : List ℕ) (u v : ℕ) → IsReplaying s xs n ps vs → n < length xs → Start u ≡ slice_index_or xs n (Start u)
-    → IsLegal s (history_of (take n xs)) (Start u) → all_parts s.limit qs ≡ changed (Start u) (all_parts s.limit ps) → u < length vs
-    → IsVerdict (body_on s.program (face_at s.limit qs u) (core_at s.limit qs u)) u xs (n + 1) v → IsReplaying s xs (n + 1) qs (slice_set vs u v)
-next_start s xs n ps qs vs u v so_far below is legal stepped room verdict =
+-- THE REPLAY after one entry more
+pub next_other : ToldLaw → EdtsLaw → BodyLaw → (s : Setting) (xs : List Entry) (n : ℕ) (e : Entry) (r new : Replay) → IsComing s xs n e r → IsEntered s xs (n + 1) new.table new.mail
+    → new.verdicts ≡ r.verdicts → ((t : ℕ) → e ≡ Start t → ⊥) → IsReplaying s xs (n + 1) new
+next_other told edts body_law s xs n e r new coming entered same_verdicts no_start = record {
+  run = entered.run;
+  open_run = entered.open_run;
+  of = entered.of;
+  sent = entered.sent;
+  left = entered.left;
+  judged = λ t running.
+      let past : History = history_of (take n xs) in
+      let next = coming.next in
+      let before : IsRunning past t = ran_before past e t (no_start t) (subst (λ (h : History). IsRunning h t) (history_next xs n e next.within next.is) running) in
+      rw same_verdicts (restrict body_law s xs n e t (verdict_at r.verdicts.items t) next.so_far.run (coming_legal s xs n e r coming) next.no_stop next.within next.is
+      (running_edt told edts s past t next.so_far.run before) before (next.so_far.judged t before));
+}
+
+pub next_start : ToldLaw → EdtsLaw → BodyLaw → (s : Setting) (xs : List Entry) (n u : ℕ) (r new : Replay) → IsComing s xs n (Start u) r → IsEntered s xs (n + 1) new.table new.mail
+    → IsJudged s xs n u r.verdicts.items new.verdicts.items → IsReplaying s xs (n + 1) new
+next_start told edts body_law s xs n u r new coming entered judged = record {
+  run = entered.run;
+  open_run = entered.open_run;
+  of = entered.of;
+  sent = entered.sent;
+  left = entered.left;
+  judged = λ t running. elim (u == t) as (λ b. (u == t) ≡ b → IsVerdict (body_of s (history_of (take (n + 1) xs)) t) t xs (n + 1) (verdict_at new.verdicts.items t).at (verdict_at new.verdicts.items t).told) [
+    | true ↦ λ mine. subst (λ (k : ℕ). IsVerdict (body_of s (history_of (take (n + 1) xs)) k) k xs (n + 1) (verdict_at new.verdicts.items k).at (verdict_at new.verdicts.items k).told) (eqb-true u t mine) judged.own
+    | false ↦ λ apart.
+        let past : History = history_of (take n xs) in
+        let next = coming.next in
+        let before : IsRunning past t = ran_before past (Start u) t (λ is. true_false (sym (same u) ∙ ap (λ (k : ℕ). u == k) (start_of is) ∙ apart))
+        (subst (λ (h : History). IsRunning h t) (history_next xs n (Start u) next.within next.is) running) in
+        rw (judged.others t apart) (restrict body_law s xs n (Start u) t (verdict_at r.verdicts.items t) next.so_far.run (coming_legal s xs n (Start u) r coming) refl next.within next.is
+        (running_edt told edts s past t next.so_far.run before) before (next.so_far.judged t before))
+  ] refl;
+}
+
+-- AN EDT THAT HAS STARTED
+no_own : (past : History) (t : ℕ) → has_own past t ≡ false → own past t ≡ []
+no_own [] t is = refl
+no_own (Call u home c a w ∷ past) t is = elim (u == t) as (λ b. (b || has_own past t) ≡ false → (if b then (record { call = c; answer = a }) ∷ own past t else own past t) ≡ []) [
+  | true ↦ λ is. cc is
+  | false ↦ λ is. no_own past t is
+] is
+no_own (Start u ∷ past) t is = no_own past t (later_or (u == t) _ is)
+no_own (Free u d w ∷ past) t is = no_own past t (later_or (u == t) _ is)
+no_own (End u g ∷ past) t is = no_own past t (later_or (u == t) _ is)
+no_own (other ∷ past) t is = no_own past t is
+
+pub fresh_now : NoOwnLaw → (s : Setting) (xs : List Entry) (n t : ℕ) (r : Replay) → IsStarted s xs n t r → own (history_of (take (n + 1) xs)) t ≡ []
+fresh_now law s xs n t r started =
+    let h = history_next xs n (Start t) started.within started.is in
+    ap (λ (p : History). own p t) h
+    ∙ no_own (history_of (take n xs)) t (law s (history_of (take n xs)) t (subst (λ (p : History). IsRun s p) h started.entered.run).0 started.legal)
+
+started_edt_runs : (e : Edt) → is_acquiring_edt e ≡ true → is_some (work_in (started_edt e)) ≡ true
+started_edt_runs (phase.Acquiring p) is = refl
+started_edt_runs other is = cc is
+
+started_runs : (x : Part) → is_acquiring x ≡ true → is_running (on_core x (with_phase started_edt)) ≡ true
+started_runs (part.Core c) is = started_edt_runs c.edt is
+started_runs other is = cc is
+
+pub runs_now : AfterLaw → (s : Setting) (xs : List Entry) (n t : ℕ) (r : Replay) → IsStarted s xs n t r → is_running ((parts_of s (history_of (take (n + 1) xs))).core t) ≡ true
+runs_now after s xs n t r started =
     let past : History = history_of (take n xs) in
-    let now : all_parts s.limit qs ≡ parts_of s (Start u ∷ past) = parts_next s xs n ps qs vs (Start u) so_far legal stepped in
-    let body : body_on s.program (face_at s.limit qs u) (core_at s.limit qs u) ≡ body_of s (Start u ∷ past) u =
-    ap (λ (f : Parts). body_on s.program (f.face u) (f.core u)) now ∙ body_parts s (Start u ∷ past) u in
-    next_at s xs n ps qs vs (slice_set vs u v) (Start u) so_far below is refl legal stepped
-    (λ t started. subst (λ (k : ℕ). IsVerdict (body_of s (Start u ∷ past) t) t xs (n + 1) k) (sym (verdict_set vs u t v room))
-    (elim (u == t) as (λ b. (u == t) ≡ b → IsVerdict (body_of s (Start u ∷ past) t) t xs (n + 1) (if b then v else verdict_at vs t)) [
-      | true ↦ λ mine. subst (λ (k : ℕ). IsVerdict (body_of s (Start u ∷ past) k) k xs (n + 1) v) (eqb-true u t mine) (subst (λ (b : Body). IsVerdict b u xs (n + 1) v) body verdict)
-      | false ↦ λ apart.
-          let before : IsRunning past t = record { started = rw apart at started.started; not_ended = started.not_ended } in
-          restrict s xs n (Start u) t (verdict_at vs t) (so_far.run, legal) below is before (so_far.judged t before)
-    ] refl))
+    let h = history_next xs n (Start t) started.within started.is in
+    let run : IsRun s past = (subst (λ (p : History). IsRun s p) h started.entered.run).0 in
+    ap (λ (p : History). is_running ((parts_of s p).core t)) h
+    ∙ ap (λ (f : Parts). is_running (f.core t)) (after s past (Start t) run started.legal)
+    ∙ rw (same t) (started_runs (on_core ((parts_of s past).core t) (with_phase (made_ready (plan_of s past t)))) (rw (same t) at started.legal.on_parts.acquiring))
 
--- before a Start, its EDT has made no call
-pub fresh_at : (s : Setting) (xs : List Entry) (n : ℕ) (ps : List Part) (vs : List ℕ) (u : ℕ) → IsReplaying s xs n ps vs → n < length xs → Start u ≡ slice_index_or xs n (Start u)
-    → IsLegal s (history_of (take n xs)) (Start u) → own (history_of (take (n + 1) xs)) u ≡ []
-fresh_at s xs n ps vs u so_far below is legal =
-    let past : History = history_of (take n xs) in
-    ap (λ (h : History). own h u) (history_next xs n (Start u) below is)
-    ∙ fresh_law s past u so_far.run ((known s past u so_far.run).started_is ∙ (begins (plan_in ((parts_of s past).face u)) ((parts_of s past).core u) legal.on_parts.acquiring).0)
+-- its body
+abbrev function_of : Part → ℕ
+function_of (part.Core c) = c.function
+function_of other = 0
 
+abbrev params_of : Part → List ℕ
+params_of (part.Core c) = c.params
+params_of other = []
+
+made_function : (m : Option Made) (t : ℕ) (calls : List edt.EdtCall) (loans : List (ℕ × Kept)) → function_in m ≡ function_of (core m t calls loans)
+made_function None t calls loans = refl
+made_function (Some (MadeBlock n c)) t calls loans = refl
+made_function (Some (MadeTemplate f pc dc)) t calls loans = refl
+made_function (Some (MadeEdt f ps n)) t calls loans = refl
+
+made_params : (m : Option Made) (t : ℕ) (calls : List edt.EdtCall) (loans : List (ℕ × Kept)) → params_in m ≡ params_of (core m t calls loans)
+made_params None t calls loans = refl
+made_params (Some (MadeBlock n c)) t calls loans = refl
+made_params (Some (MadeTemplate f pc dc)) t calls loans = refl
+made_params (Some (MadeEdt f ps n)) t calls loans = refl
+
+pub body_now : (s : Setting) (past : History) (t : ℕ) (c : Core) (deps : List ℕ) → (parts_of s (Start t ∷ past)).core t ≡ part.Core c → deps ≡ depv_of s (Start t ∷ past) t
+    → case_body s.program c deps ≡ body_of s (Start t ∷ past) t
+body_now s past t c deps is are =
+    let p : History = Start t ∷ past in
+    let function : function_in (made s p t) ≡ c.function = made_function (made s p t) t (edt_calls s p t) (loans_of s p t) ∙ ap function_of is in
+    let params : params_in (made s p t) ≡ c.params = made_params (made s p t) t (edt_calls s p t) (loans_of s p t) ∙ ap params_of is in
+    let holds : first_holds s p t ≡ core_holds c = rw (same t) (ap (λ (x : Part). λ (d : ℕ). hold_of (mode_on x d) (kept_on x d)) is) in
+    rw (are, sym function, sym params, sym holds) refl
+
+-- and what it keeps fits its holds
+fit_for : (m : Mode) (size : ℕ) (loan : Option Loan) → (is_isolated m ≡ true → (words : List ℕ) × (loan ≡ Some (loan_of m words [])) × (length words ≡ size)) → IsFitLoan m size loan
+fit_for m size None fits = elim (is_isolated m) as (λ b. is_isolated m ≡ b → b ≡ false) [
+  | true ↦ λ on. absurd (cc ((fits on).1))
+  | false ↦ λ _. refl
+] refl
+fit_for m size (Some l) fits = λ on.
+    let f = fits on in
+    let is : l ≡ loan_of m f.0 [] = some_of l (loan_of m f.0 []) f.1 in
+    record { size_is = ap (λ (k : Loan). length k.began) is ∙ f.2; unwritten = ap (λ (k : Loan). k.writes) is }
+
+fit_loan : (m : Mode) (kept : Kept) → (is_isolated m ≡ true → (words : List ℕ) × IsFitting m kept words) → IsFitLoan m kept.size kept.loan
+fit_loan m kept fits = fit_for m kept.size kept.loan (λ on. let f = fits on in (f.0, f.1.loan, f.1.size))
+
+pub fit_now : KeptFitsLaw → (s : Setting) (past : History) (t : ℕ) (c : Core) → IsRun s past → (parts_of s past).core t ≡ part.Core c → IsFitCore c
+fit_now law s past t c run is d = elim (mode_on (part.Core c) d) as (λ o. mode_on (part.Core c) d ≡ o → IsFitHold o (kept_on (part.Core c) d)) [
+  | None ↦ λ _. tt
+  | Some m ↦ λ mode.
+      let kept = law s past t d m run (ap (λ (x : Part). mode_on x d) is ∙ mode) in
+      let there : kept_on (part.Core c) d ≡ Some kept.0 = sym (ap (λ (x : Part). kept_on x d) is) ∙ kept.1.is_kept in
+      rw there (fit_loan m kept.0 kept.1.isolated)
+] refl
+
+-- THE OPENING
+pub first_replaying : (s : Setting) (xs : List Entry) (table : Table) (rows : List (List (Option What))) (vs : List Verdict) → IsOf s [] table → rows ≡ [] → IsReplayed s xs 0 table rows vs
+first_replaying s xs table rows vs of none = record {
+  run = tt;
+  open_run = refl;
+  of = of;
+  sent = rw none refl;
+  left = rw none refl;
+  judged = λ t running. absurd (true_false (sym running.started));
+}
+
+-- THE ENTRY at a place
 pub entry_is : (xs : List Entry) (n : ℕ) (e d : Entry) → n < length xs → e ≡ slice_index_or xs n e → slice_index_or xs n d ≡ e
 entry_is xs n e d below is = grind (arith, common_steps)
 
--- who starts has a number
-pub start_within : (limit : ℕ) (ps : List Part) (u : ℕ) → IsStartOn (all_parts limit ps) u → u ≤ limit
-start_within limit ps u legal = elim (is_within limit u) as (λ b. is_within limit u ≡ b → u ≤ limit) [
+pub no_stop_here : (xs : List Entry) (n : ℕ) (e : Entry) → n < length xs → e ≡ slice_index_or xs n e → is_stop (entry_at xs n) ≡ false → is_stop e ≡ false
+no_stop_here xs n e below is none = ap is_stop (sym (entry_is xs n e (Stop by.Memory) below is)) ∙ none
+
+pub may_not : (s : Setting) (xs : List Entry) (n : ℕ) (e : Entry) (r : Replay) → IsReplaying s xs n r → n < length xs → e ≡ slice_index_or xs n e → (MayEnter s (history_of (take n xs)) e → ⊥) → IsFirstIllegal s xs n
+may_not s xs n e r so_far below is wrong = first_illegal s xs n e so_far.run below is (λ legal. wrong (legal.on_parts, legal.on_facts))
+
+pub said_not : (s : Setting) (xs : List Entry) (n : ℕ) (e : Entry) (r : Replay) → IsReplaying s xs n r → n < length xs → e ≡ slice_index_or xs n e → (IsSaid s (history_of (take n xs)) e → ⊥) → IsFirstIllegal s xs n
+said_not s xs n e r so_far below is wrong = first_illegal s xs n e so_far.run below is (λ legal. wrong legal.said)
+
+-- A START that was entered
+pub start_running : AfterLaw → (s : Setting) (xs : List Entry) (n t : ℕ) (r : Replay) → IsStarted s xs n t r → is_running (core_on r.table t) ≡ true
+start_running after s xs n t r started = ap (λ (f : Parts). is_running (f.core t)) started.entered.of.parts ∙ runs_now after s xs n t r started
+
+pub small_started : (table : Table) (t : ℕ) → is_running (core_on table t) ≡ true → t ≤ table.limit
+small_started table t running = elim (is_within table.limit t) as (λ b. is_within table.limit t ≡ b → t ≤ table.limit) [
   | true ↦ λ within. grind (arith, common_steps)
-  | false ↦ λ off. let none : is_some (core_progress (plan_in (face_at limit ps u)) (core_at limit ps u)) ≡ false = rw off refl in cc (none, legal.acquiring)
+  | false ↦ λ off. let none : is_running (core_on table t) ≡ false = rw off refl in cc (none, running)
 ] refl
 
--- A STOP
-after_true : (a b : Bool) → (a && b) ≡ false → a ≡ true → b ≡ false
-after_true true b off on = off
-after_true false b off on = cc
+core_started : (s : Setting) (xs : List Entry) (n t : ℕ) (r : Replay) (c : Core) → IsStarted s xs n t r → core_on r.table t ≡ part.Core c → (parts_of s (Start t ∷ history_of (take n xs))).core t ≡ part.Core c
+core_started s xs n t r c started is =
+    ap (λ (p : History). (parts_of s p).core t) (sym (history_next xs n (Start t) started.within started.is))
+    ∙ ap (λ (f : Parts). f.core t) (sym started.entered.of.parts) ∙ is
 
-pub stop_illegal : (s : Setting) (xs : List Entry) (n : ℕ) (ps : List Part) (vs : List ℕ) (t : ℕ) (e : Entry) → IsReplaying s xs n ps vs → n < length xs → e ≡ slice_index_or xs n e
-    → (is_running (core_at s.limit ps t) && not (verdict_at vs t == n)) ≡ false → runs t e ≡ true
-    → (IsLegal s (history_of (take n xs)) e → IsRunning (history_of (take n xs)) t) → IsFirstIllegal s xs n
-stop_illegal s xs n ps vs t e so_far below is off mine running =
-    illegal_at s xs n ps vs e so_far below is (λ legal.
-    let on : is_running (core_at s.limit ps t) ≡ true =
-    ap (λ (f : Parts). is_running (f.core t)) so_far.parts_are ∙ (told_law s (history_of (take n xs)) t so_far.run).running.1 (running legal) in
-    verdict_unsaid s xs n ps vs t e so_far below is on (after_true _ _ off on) (legal_said s (history_of (take n xs)) e t legal mine))
+pub fit_started : KeptFitsLaw → (s : Setting) (xs : List Entry) (n t : ℕ) (r : Replay) (c : Core) → IsStarted s xs n t r → core_on r.table t ≡ part.Core c → IsFitCore c
+fit_started law s xs n t r c started is =
+    fit_now law s (Start t ∷ history_of (take n xs)) t c (subst (λ (p : History). IsRun s p) (history_next xs n (Start t) started.within started.is) started.entered.run) (core_started s xs n t r c started is)
 
-pub stop_legal : (s : Setting) (xs : List Entry) (n : ℕ) (ps : List Part) (vs : List ℕ) (t : ℕ) (e : Entry) → IsReplaying s xs n ps vs → n < length xs → e ≡ slice_index_or xs n e
-    → (is_running (core_at s.limit ps t) && not (verdict_at vs t == n)) ≡ true → runs t e ≡ true → IsRunning (history_of (take n xs)) t × IsSaidNow (says_next s (history_of (take n xs)) t) e
-stop_legal s xs n ps vs t e so_far below is on mine =
-    let pair = both_true _ _ on in
-    let running : is_running ((parts_of s (history_of (take n xs))).core t) ≡ true = sym (ap (λ (f : Parts). is_running (f.core t)) so_far.parts_are) ∙ pair.0 in
-    ((told_law s (history_of (take n xs)) t so_far.run).running.0 running, verdict_said s xs n ps vs t e so_far below is pair.0 mine pair.1)
+verdict_set : (vs : List Verdict) (t u : ℕ) (v : Verdict) → t < length vs → verdict_at (slice_set vs t v) u ≡ (if t == u then v else verdict_at vs u)
+verdict_set vs t u v below = grind (arith, common_steps)
 
-pub by_stop : (s : Setting) (xs : List Entry) (n : ℕ) (ps : List Part) (vs : List ℕ) (why : run.Stop) → IsReplaying s xs n ps vs → IsStop s (history_of (take n xs)) why → IsLegal s (history_of (take n xs)) (Stop why)
-by_stop s xs n ps vs why so_far stops = record { open_run = so_far.open_run; on_parts = tt; said = tt; stopping = stops }
+set_len : (vs : List Verdict) (t : ℕ) (v : Verdict) → length (slice_set vs t v) ≡ length vs
+set_len vs t v = search rules
 
--- after a Stop nothing is legal
-pub after_stop : (s : Setting) (xs : List Entry) (n : ℕ) (why : run.Stop) → IsRun s (history_of (take n xs)) → n + 1 < length xs → Stop why ≡ slice_index_or xs n (Stop why) → IsLegal s (history_of (take n xs)) (Stop why)
-    → IsFirstIllegal s xs (n + 1)
-after_stop s xs n why run below is legal =
-    let h : history_of (take (n + 1) xs) ≡ Stop why ∷ history_of (take n xs) = history_next xs n (Stop why) (omega (arith, below)) is in
-    let e : Entry = item xs (n + 1) below in
+pub judged_now : (s : Setting) (xs : List Entry) (n t : ℕ) (r : Replay) (c : Core) (deps : List ℕ) (v : Verdict) (after : List Verdict) (program : List FunctionTree) → IsStarted s xs n t r → s.program ≡ program
+    → is_running (core_on r.table t) ≡ true → core_on r.table t ≡ part.Core c
+    → ((s : Setting) (past : History) → IsOf s past r.table → is_running ((parts_of s past).core t) ≡ true → deps ≡ depv_of s past t) → t < length r.verdicts.items
+    → after ≡ slice_set r.verdicts.items t v → IsVerdict (case_body program c deps) t xs (n + 1) v.at v.told → IsJudged s xs n t r.verdicts.items after
+judged_now s xs n t r c deps v after program started is_program running is deps_are room after_is verdict =
+    let past : History = history_of (take n xs) in
+    let h : history_of (take (n + 1) xs) ≡ Start t ∷ past = history_next xs n (Start t) started.within started.is in
+    let of : IsOf s (Start t ∷ past) r.table = subst (λ (p : History). IsOf s p r.table) h started.entered.of in
+    let runs : is_running ((parts_of s (Start t ∷ past)).core t) ≡ true = ap (λ (f : Parts). is_running (f.core t)) (sym of.parts) ∙ running in
+    let bodies : case_body program c deps ≡ body_of s (Start t ∷ past) t = ap (λ (fs : List FunctionTree). case_body fs c deps) (sym is_program) ∙ body_now s past t c deps (core_started s xs n t r c started is) (deps_are s (Start t ∷ past) of runs) in
+    let at : (u : ℕ) → verdict_at after u ≡ (if t == u then v else verdict_at r.verdicts.items u) = λ u. ap (λ (vs : List Verdict). verdict_at vs u) after_is ∙ verdict_set r.verdicts.items t u v room in
+    let own_is : verdict_at after t ≡ v = at t ∙ rw (same t) refl in
     record {
-      within = below;
-      run = subst (λ (h : History). IsRun s h) (sym h) (run, legal);
-      broken = λ more.
-          let next = subst (λ (h : History). IsRun s h) (history_next xs (n + 1) e below (item_is xs (n + 1) below)) more in
-          let stopped : is_stopped (history_of (take (n + 1) xs)) ≡ true = ap is_stopped h in
-          let going : is_stopped (history_of (take (n + 1) xs)) ≡ false = next.1.open_run in
-          cc (stopped, going);
+      own = rw own_is (subst (λ (p : History). IsVerdict (body_of s p t) t xs (n + 1) v.at v.told) (sym h) (subst (λ (b : Body). IsVerdict b t xs (n + 1) v.at v.told) bodies verdict));
+      others = λ u apart. at u ∙ rw apart refl;
+      len = ap length after_is ∙ set_len r.verdicts.items t v;
     }
 
-pub whole_run : (s : Setting) (xs : List Entry) (n : ℕ) (why : run.Stop) → IsRun s (history_of (take n xs)) → n < length xs → length xs ≤ n + 1 → Stop why ≡ slice_index_or xs n (Stop why) → IsLegal s (history_of (take n xs)) (Stop why)
-    → IsRun s (history_of xs)
-whole_run s xs n why run below last is legal =
-    let all : take (n + 1) xs ≡ xs = grind (arith, common_steps) in
-    subst (λ (l : List Entry). IsRun s (history_of l)) all (subst (λ (h : History). IsRun s h) (sym (history_next xs n (Stop why) below is)) (run, legal))
+-- WHAT GOES ON
+pub next_of : (s : Setting) (xs : List Entry) (n : ℕ) (e : Entry) (r : Replay) → IsReplaying s xs n r → n < length xs → e ≡ slice_index_or xs n e → is_stop (entry_at xs n) ≡ false → MayEnter s (history_of (take n xs)) e → IsNext s xs n e r
+next_of s xs n e r so_far below is none may = record { so_far = so_far; within = below; is = is; no_stop = no_stop_here xs n e below is none; may = may }
 
-pub stop_is : (xs : List Entry) (n : ℕ) (e d : Entry) → n < length xs → slice_index_or xs n d ≡ e → e ≡ slice_index_or xs n e
-stop_is xs n e d below is = grind (arith, common_steps)
+pub comes : (s : Setting) (xs : List Entry) (n : ℕ) (e : Entry) (r : Replay) → IsReplaying s xs n r → n < length xs → e ≡ slice_index_or xs n e → is_stop (entry_at xs n) ≡ false → MayEnter s (history_of (take n xs)) e
+    → (IsNext s xs n e r → IsSaid s (history_of (take n xs)) e) → IsComing s xs n e r
+comes s xs n e r so_far below is none may said = let next : IsNext s xs n e r = next_of s xs n e r so_far below is none may in record { next = next; said = said next }
 
--- THE OPENING. Parts that were put into a table in which nothing is made
-look_has : (ps : List (ℕ × Part)) (n : ℕ) → (if has ps n then look ps n else part.Vacant) ≡ look ps n
-look_has [] n = refl
-look_has (p ∷ rest) n = elim (p.0 == n) as (λ b. (if b || has rest n then (if b then p.1 else look rest n) else part.Vacant) ≡ (if b then p.1 else look rest n)) [ true ↦ refl | false ↦ look_has rest n ]
+pub started_of : (s : Setting) (xs : List Entry) (n t : ℕ) (r new : Replay) → IsComing s xs n (Start t) r → IsEntered s xs (n + 1) new.table new.mail → IsStarted s xs n t new
+started_of s xs n t r new coming entered = record { entered = entered; within = coming.next.within; is = coming.next.is; legal = coming_legal s xs n (Start t) r coming }
 
-opened_all : (limit : ℕ) (ps : List (ℕ × Part)) (qs now : List Part) → ((n : ℕ) → part_at qs n ≡ part.Vacant) → ((n : ℕ) → part_at now n ≡ (if has ps n then look ps n else part_at qs n)) → (n : ℕ) → part_at now n ≡ look ps n
-opened_all limit ps qs now empty given n = given n ∙ rw (empty n) (look_has ps n)
+pub next_same : (ns : List ℕ) (n v : ℕ) → n < length ns → v ≡ slice_index_or ns n 0 → v ≡ slice_index_or ns n v
+next_same ns n v below is = is ∙ or_same ns n 0 v below
+  where
+    or_same : (xs : List ℕ) (k a b : ℕ) → k < length xs → slice_index_or xs k a ≡ slice_index_or xs k b
+    or_same xs k a b under = grind (arith, common_steps)
 
-pub opened_whole : (limit : ℕ) (ps : List (ℕ × Part)) (qs now : List Part) → ((n : ℕ) → part_at qs n ≡ part.Vacant) → ((n : ℕ) → part_at now n ≡ (if has ps n then look ps n else part_at qs n))
-    → all_parts limit now ≡ parts_in limit ps
-opened_whole limit ps qs now empty given = λ i. record {
-  face = λ g. ap (λ (x : Part). if is_within limit g then as_face x else part.Vacant) (opened_all limit ps qs now empty given g) i;
-  core = λ t. ap (λ (x : Part). if is_within limit t then as_core x else part.Vacant) (opened_all limit ps qs now empty given (limit + t)) i;
-}
-
-pub first_replaying : (s : Setting) (xs : List Entry) (ps : List Part) (vs : List ℕ) → all_parts s.limit ps ≡ parts_of s [] → IsReplaying s xs 0 ps vs
-first_replaying s xs ps vs is = record { run = tt; open_run = refl; parts_are = is; judged = λ t running. let on : false ≡ true = running.started in cc on }
-
-pub last_replaying : (s : Setting) (xs : List Entry) (n : ℕ) (ps : List Part) (vs : List ℕ) → IsReplaying s xs n ps vs → length xs ≤ n → IsRun s (history_of xs)
-last_replaying s xs n ps vs so_far all = let whole : take n xs ≡ xs = grind (arith, common_steps) in subst (λ (l : List Entry). IsRun s (history_of l)) whole so_far.run
-
-three_at : (most a b c : ℕ) → a ≤ most → b ≤ most → c ≤ most → (k d : ℕ) → k < length (a ∷ b ∷ c ∷ []) → slice_index_or (a ∷ b ∷ c ∷ []) k d ≤ most
-three_at most a b c first second third zero d below = first
-three_at most a b c first second third (suc zero) d below = second
-three_at most a b c first second third (suc (suc zero)) d below = third
-three_at most a b c first second third (suc (suc (suc k))) d below = absurd (omega (arith, below))
-
-three_small : (most a b c : ℕ) → a ≤ most → b ≤ most → c ≤ most → All (λ n. n ≤ most) (a ∷ b ∷ c ∷ [])
-three_small most a b c first second third = λ k d below. three_at most a b c first second third k d below
-
-pub opening_small : (limit most : ℕ) (ps : List (ℕ × Part)) → keys ps ≡ 1 ∷ 2 ∷ (limit + 2) ∷ [] → 2 ≤ limit → most ≡ limit + limit → All (λ (p : ℕ × Part). p.0 ≤ most) ps
-opening_small limit most ps are enough is =
-    all_keys most ps (subst (All (λ n. n ≤ most)) (sym are) (three_small most 1 2 (limit + 2) (omega (arith, enough, is)) (omega (arith, enough, is)) (omega (arith, enough, is))))
+pub go_start : ToldLaw → EdtsLaw → BodyLaw → (s : Setting) (xs : List Entry) (n u : ℕ) (e : Entry) (r mid new : Replay) → e ≡ Start u → IsComing s xs n e r → IsEntered s xs (n + 1) mid.table mid.mail → mid.verdicts ≡ r.verdicts
+    → new.table ≡ mid.table → new.mail ≡ mid.mail → (IsStarted s xs n u mid → IsJudged s xs n u mid.verdicts.items new.verdicts.items) → IsReplaying s xs (n + 1) new
+go_start told edts body_law s xs n u e r mid new is coming entered kept table mail judges =
+    let comes : IsComing s xs n (Start u) r = subst (λ (x : Entry). IsComing s xs n x r) is coming in
+    let judged : IsJudged s xs n u mid.verdicts.items new.verdicts.items = judges (started_of s xs n u r mid comes entered) in
+    let vs : mid.verdicts.items ≡ r.verdicts.items = rw kept refl in
+    next_start told edts body_law s xs n u r new comes (rw (table, mail) entered) (subst (λ (v : List Verdict). IsJudged s xs n u v new.verdicts.items) vs judged)

@@ -1,14 +1,8 @@
 //! The replay of a journal.
 #![tactic(auto)]
 
-mod judging;
-mod legality;
-mod linking;
+mod mails;
 mod replaying;
-mod stopping;
-mod telling;
+mod state;
 
 pub use replaying::{ReplayStop, replay};
-
-#[cfg(test)]
-mod tests;

@@ -1,7 +1,7 @@
 // Entries in another order, and changed.
-use ocr_body::{Answer, Call};
 use ocr_guid::Guid;
-use ocr_machine::{Entry, Writes};
+use ocr_history::{Entry, Writes};
+use ocr_meaning::{Answer, Call};
 use std::alloc::Global;
 use std::test::Fail;
 

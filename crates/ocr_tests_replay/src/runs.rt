@@ -2,10 +2,10 @@
 ghost use Rattle.std.specs.Prelude.{◌<◌, ◌+◌, ◌^◌, length};
 
 use crate::edits::add;
-use ocr_body::Checked;
 use ocr_check::check;
+use ocr_code::Checked;
+use ocr_history::{Entry, Journal};
 use ocr_io::{MemorySink, MemorySource};
-use ocr_machine::{Entry, Journal};
 use ocr_program::parse;
 use ocr_replay::{ReplayStop, replay};
 use ocr_run::ocr_main;

@@ -1,0 +1,5 @@
+pub mod Begun
+pub mod Held
+pub mod Letters
+pub mod Nexts
+pub mod Steps

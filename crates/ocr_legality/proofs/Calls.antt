@@ -1,0 +1,139 @@
+-- A call may come where it is answered so: the hold that it ends is one that may end.
+use Rattle.std.proofs.Common.{◌≡◌, ℕ, List, [], ◌∷◌, Bool, true, false, ◌||◌, ◌&&◌, not, ◌==◌, if◌then◌else◌, Option, Some, None, refl, sym, ◌∙◌, ap, subst, is_some}
+use Rattle.ocr_guid.specs.declared.Code.{Code}
+use Rattle.ocr_guid.specs.declared.Code.TheVariants as code
+use Rattle.ocr_edt.specs.Phases.{least_of}
+use Rattle.ocr_acquire.specs.declared.Mode.{Mode}
+use Rattle.ocr_meaning.specs.Holds.{is_done}
+use Rattle.ocr_meaning.specs.declared.call.Call as body
+use Rattle.ocr_meaning.specs.declared.call.Call.TheVariants as call
+use Rattle.ocr_meaning.specs.declared.call.Answer.{Answer}
+use Rattle.ocr_history.specs.declared.entry.Entry.{Entry}
+use Rattle.ocr_history.specs.declared.entry.Entry.TheVariants.{Call, Deliver, Free, End, Stop}
+use Rattle.ocr_history.specs.History.{History, Setting}
+use Rattle.ocr_parts.specs.declared.part.Part.{Part}
+use Rattle.ocr_parts.specs.Parts.{Parts, parts_of}
+use Rattle.ocr_parts.specs.Kinds.{is_held_by, is_block, work_of, is_running, holds_of}
+use Rattle.ocr_parts.specs.Codes.{ToRelease, ABlock, is_of_other_kind, release_code, code_of}
+use Rattle.ocr_parts.specs.LegalOn.{IsAnswered, IsCallOn, IsDeliverOn}
+use Rattle.ocr_parts.specs.Legal.{IsRun}
+use Rattle.ocr_parts.proofs.After.{accepted, of_kind, not_other, done_is}
+use Rattle.ocr_machine.specs.Table.{state_in, core_on, IsOf}
+use Rattle.ocr_machine.specs.declared.table.Table.{Table}
+use Rattle.ocr_quiet.proofs.Choices.{or_left, not_off, done_kinds}
+use Rattle.ocr_standing.proofs.Held.{held_law}
+use Rattle.ocr_standing.proofs.Working.{freeing_law, dooming_law}
+use Rattle.ocr_legality.specs.Tests.{Whether, MayEnter, AnswersSo, IsCallSo, is_this}
+use Rattle.ocr_legality.proofs.Goes.{not_both, and_is, turned}
+use Rattle.ocr_history.specs.declared.entry.Message.{Message}
+use Rattle.ocr_history.specs.declared.entry.Stop as run
+use Rattle.ocr_quiet.proofs.Choices.{both_true}
+use Rattle.std.proofs.lemmas.Bool.{eqb-true, eq-eqb}
+
+-- A HOLD THAT ENDS by a call
+release_held : (x : Part) (t : ℕ) → release_code x t ≡ code.Done → is_held_by x t ≡ true
+release_held x t is = elim (is_held_by x t) as (λ b. (if b then code.Done else code.Eperm) ≡ code.Done → b ≡ true) [ true ↦ λ _. refl | false ↦ λ is. cc is ] is
+
+answered : (s : Setting) (past : History) (t : ℕ) (c : body.Call) (a : Answer) → IsRun s past → is_running ((parts_of s past).core t) ≡ true → a.code ≡ code_of t (parts_of s past).face c
+    → AnswersSo s.limit (parts_of s past) t c a → IsAnswered s.limit (parts_of s past) t c a
+answered s past t (call.DbRelease d) a run running is so = (
+  (λ on.
+      let done : code_of t (parts_of s past).face (call.DbRelease d) ≡ code.Done = sym is ∙ done_is a.code on in
+      held_law s past t d run running (release_held ((parts_of s past).face d) t (accepted t (parts_of s past).face (call.DbRelease d) done))),
+  so,
+)
+answered s past t (call.DbDestroy d) a run running is so = (
+  (λ on.
+      let done : code_of t (parts_of s past).face (call.DbDestroy d) ≡ code.Done = sym is ∙ done_is a.code on in
+      dooming_law s past t d run running (not_off (is_block ((parts_of s past).face d)) (or_left (is_of_other_kind ABlock ((parts_of s past).face d)) false (done_kinds t (parts_of s past).face (call.DbDestroy d) done)))),
+  so,
+)
+answered s past t other a run running is so = so
+
+answered_so : (limit : ℕ) (f : Parts) (t : ℕ) (c : body.Call) (a : Answer) → IsAnswered limit f t c a → AnswersSo limit f t c a
+answered_so limit f t (call.DbRelease d) a is = is.1
+answered_so limit f t (call.DbDestroy d) a is = is.1
+answered_so limit f t other a is = is
+
+pub call_on : (s : Setting) (past : History) (t home : ℕ) (c : body.Call) (a : Answer) (w : List (ℕ × ℕ)) → IsRun s past → IsCallSo s.limit (parts_of s past) t home c a → IsCallOn s.limit (parts_of s past) t home c a w
+call_on s past t home c a w run so = record { running = so.running; code = so.code; value = answered s past t c a run so.running so.code so.value; no_scope = so.no_scope; no_output = so.no_output; no_home = so.no_home }
+
+call_so : (s : Setting) (past : History) (t home : ℕ) (c : body.Call) (a : Answer) (w : List (ℕ × ℕ)) → IsCallOn s.limit (parts_of s past) t home c a w → IsCallSo s.limit (parts_of s past) t home c a
+call_so s past t home c a w on = record { running = on.running; code = on.code; value = answered_so s.limit (parts_of s past) t c a on.value; no_scope = on.no_scope; no_output = on.no_output; no_home = on.no_home }
+
+table_so : (s : Setting) (past : History) (table : Table) (t home : ℕ) (c : body.Call) (a : Answer) → IsOf s past table → (IsCallSo table.limit (state_in table) t home c a) ≡ (IsCallSo s.limit (parts_of s past) t home c a)
+table_so s past table t home c a of = λ i. IsCallSo (of.limit i) (of.parts i) t home c a
+
+pub call_tested : (s : Setting) (past : History) (table : Table) (t home : ℕ) (c : body.Call) (a : Answer) (w : List (ℕ × ℕ)) (answer : Bool) → IsOf s past table → IsRun s past → Whether answer (IsCallSo table.limit (state_in table) t home c a)
+    → Whether answer (MayEnter s past (Call t home c a w))
+call_tested s past table t home c a w answer of run tested =
+    let here : Whether answer (IsCallSo s.limit (parts_of s past) t home c a) = subst (Whether answer) (table_so s past table t home c a of) tested in
+    record {
+      yes = λ on. (call_on s past t home c a w run (here.yes on), tt);
+      no = λ off may. here.no off (call_so s past t home c a w may.0);
+    }
+
+-- FREEING and ending
+this_is : (o : Option ℕ) (d : ℕ) → is_this o d ≡ true → o ≡ Some d
+this_is None d is = cc is
+this_is (Some n) d is = ap (λ (k : ℕ). Some k) (eqb-true n d is)
+
+is_so : (o : Option ℕ) (d : ℕ) → o ≡ Some d → is_this o d ≡ true
+is_so o d is = ap (λ (p : Option ℕ). is_this p d) is ∙ eq-eqb d d refl
+
+pub free_tested : (s : Setting) (past : History) (table : Table) (t d : ℕ) (w : List (ℕ × ℕ)) → IsOf s past table → IsRun s past
+    → Whether (is_running (core_on table t) && is_this (least_of (holds_of (work_of (core_on table t)))) d) (MayEnter s past (Free t d w))
+free_tested s past table t d w of run =
+    let is_run : is_running (core_on table t) ≡ is_running ((parts_of s past).core t) = ap (λ (f : Parts). is_running (f.core t)) of.parts in
+    let is_least : least_of (holds_of (work_of (core_on table t))) ≡ least_of (holds_of (work_of ((parts_of s past).core t))) = ap (λ (f : Parts). least_of (holds_of (work_of (f.core t)))) of.parts in
+    record {
+      yes = λ on.
+          let both = both_true (is_running (core_on table t)) (is_this (least_of (holds_of (work_of (core_on table t)))) d) on in
+          (freeing_law s past t d run (sym is_run ∙ both.0) (sym is_least ∙ this_is (least_of (holds_of (work_of (core_on table t)))) d both.1), tt);
+      no = λ off may. not_both (is_running (core_on table t)) (is_this (least_of (holds_of (work_of (core_on table t)))) d) off (is_run ∙ may.0.running)
+          (is_so (least_of (holds_of (work_of (core_on table t)))) d (is_least ∙ may.0.least));
+    }
+
+nothing_held : (holds : List (ℕ × Mode)) → not (is_some (least_of holds)) ≡ true → holds ≡ []
+nothing_held [] is = refl
+nothing_held (hold ∷ rest) is = cc is
+
+pub end_tested : (s : Setting) (past : History) (table : Table) (t g : ℕ) → IsOf s past table → IsRun s past
+    → Whether (is_running (core_on table t) && not (is_some (least_of (holds_of (work_of (core_on table t)))))) (MayEnter s past (End t g))
+end_tested s past table t g of run =
+    let is_run : is_running (core_on table t) ≡ is_running ((parts_of s past).core t) = ap (λ (f : Parts). is_running (f.core t)) of.parts in
+    let is_holds : holds_of (work_of (core_on table t)) ≡ holds_of (work_of ((parts_of s past).core t)) = ap (λ (f : Parts). holds_of (work_of (f.core t))) of.parts in
+    record {
+      yes = λ on.
+          let both = both_true (is_running (core_on table t)) (not (is_some (least_of (holds_of (work_of (core_on table t)))))) on in
+          (record { running = sym is_run ∙ both.0; nothing_held = sym is_holds ∙ nothing_held (holds_of (work_of (core_on table t))) both.1 }, tt);
+      no = λ off may. not_both (is_running (core_on table t)) (not (is_some (least_of (holds_of (work_of (core_on table t)))))) off (is_run ∙ may.0.running)
+          (ap (λ (holds : List (ℕ × Mode)). not (is_some (least_of holds))) (is_holds ∙ may.0.nothing_held));
+    }
+
+pub deliver_tested : (s : Setting) (past : History) (m : Message) (c : Code) (answer : Bool) → Whether answer (IsDeliverOn m.what × (c ≡ code.Done)) → Whether answer (MayEnter s past (Deliver m c))
+deliver_tested s past m c answer is = record { yes = λ on. (is.yes on, tt); no = λ off may. is.no off may.0 }
+
+pub stop_tested : (s : Setting) (past : History) (why : run.Stop) (answer : Bool) → answer ≡ true → Whether answer (MayEnter s past (Stop why))
+stop_tested s past why answer is = record { yes = λ on. (tt, tt); no = λ off may. cc (is, off) }
+
+-- by what the table answers
+pub call_answered : (s : Setting) (past : History) (table : Table) (t home : ℕ) (c : body.Call) (a : Answer) (answer : Bool) → Whether answer (IsCallSo table.limit (state_in table) t home c a) → IsOf s past table → IsRun s past
+    → (w : List (ℕ × ℕ)) → Whether answer (MayEnter s past (Call t home c a w))
+call_answered s past table t home c a answer tested of run w = call_tested s past table t home c a w answer of run tested
+
+free_is : (table : Table) (t u d : ℕ) (both running here : Bool) (least : Option ℕ) → u ≡ t → both ≡ (running && here) → running ≡ is_running (core_on table u) → here ≡ is_this least d → least ≡ least_of (holds_of (work_of (core_on table u)))
+    → both ≡ (is_running (core_on table t) && is_this (least_of (holds_of (work_of (core_on table t)))) d)
+free_is table t u d both running here least same is runs is_here is_least = is ∙ and_is running here (is_running (core_on table t)) (is_this (least_of (holds_of (work_of (core_on table t)))) d) (runs ∙ ap (λ (k : ℕ). is_running (core_on table k)) same) (is_here ∙ ap (λ (o : Option ℕ). is_this o d) (is_least ∙ ap (λ (k : ℕ). least_of (holds_of (work_of (core_on table k)))) same))
+
+pub free_answered : (s : Setting) (past : History) (table : Table) (t u d : ℕ) (both running here : Bool) (least : Option ℕ) → u ≡ t → both ≡ (running && here) → running ≡ is_running (core_on table u) → here ≡ is_this least d → least ≡ least_of (holds_of (work_of (core_on table u)))
+    → IsOf s past table → IsRun s past → (w : List (ℕ × ℕ)) → Whether both (MayEnter s past (Free t d w))
+free_answered s past table t u d both running here least same is runs is_here is_least of run w = turned both _ (MayEnter s past (Free t d w)) (free_is table t u d both running here least same is runs is_here is_least) (free_tested s past table t d w of run)
+
+end_is : (table : Table) (t u : ℕ) (both running here : Bool) (least : Option ℕ) → u ≡ t → both ≡ (running && here) → running ≡ is_running (core_on table u) → here ≡ not (is_some least) → least ≡ least_of (holds_of (work_of (core_on table u)))
+    → both ≡ (is_running (core_on table t) && not (is_some (least_of (holds_of (work_of (core_on table t))))))
+end_is table t u both running here least same is runs is_here is_least = is ∙ and_is running here (is_running (core_on table t)) (not (is_some (least_of (holds_of (work_of (core_on table t)))))) (runs ∙ ap (λ (k : ℕ). is_running (core_on table k)) same) (is_here ∙ ap (λ (o : Option ℕ). not (is_some o)) (is_least ∙ ap (λ (k : ℕ). least_of (holds_of (work_of (core_on table k)))) same))
+
+pub end_answered : (s : Setting) (past : History) (table : Table) (t u : ℕ) (both running here : Bool) (least : Option ℕ) → u ≡ t → both ≡ (running && here) → running ≡ is_running (core_on table u) → here ≡ not (is_some least) → least ≡ least_of (holds_of (work_of (core_on table u)))
+    → IsOf s past table → IsRun s past → (g : ℕ) → Whether both (MayEnter s past (End t g))
+end_answered s past table t u both running here least same is runs is_here is_least of run g = turned both _ (MayEnter s past (End t g)) (end_is table t u both running here least same is runs is_here is_least) (end_tested s past table t g of run)

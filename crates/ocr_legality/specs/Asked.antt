@@ -1,0 +1,50 @@
+-- What a call that comes next weighs, where some answer lets it be entered.
+use Rattle.std.specs.Prelude.{◌≡◌, ℕ, ◌+◌, ◌/◌, [], Bool, true, false, if◌then◌else◌}
+use Rattle.ocr_meaning.specs.declared.call.Call as body
+use Rattle.ocr_meaning.specs.declared.call.Call.TheVariants as call
+use Rattle.ocr_meaning.specs.declared.call.Answer.{Answer}
+use Rattle.ocr_meaning.specs.Holds.{is_done}
+use Rattle.ocr_history.specs.Weight.{call_weight}
+use Rattle.ocr_parts.specs.Kinds.{IsBlock, mode_on}
+use Rattle.ocr_parts.specs.Parts.{Parts}
+use Rattle.ocr_parts.specs.LegalOn.{IsFresh, IsShared, IsCallOn}
+
+-- a number that nothing has yet
+abbrev pub HasRoom : ℕ → Parts → Type 0
+HasRoom limit f = (g : ℕ) × IsFresh limit f g
+
+-- some answer lets it be entered, where it is accepted or not
+abbrev pub IsRoomy : Bool → Bool → Type 0
+IsRoomy room done = done ≡ true → room ≡ true
+
+abbrev pub HasAnswer : Parts → Bool → ℕ → body.Call → Bool → Type 0
+HasAnswer f room t (call.Print v) done = Unit {0}
+HasAnswer f room t (call.Load d k) done = IsBlock (f.face d) (IsShared t k (mode_on (f.core t) d))
+HasAnswer f room t (call.Store d k v) done =
+    IsBlock (f.face d) (IsShared t k (mode_on (f.core t) d))
+HasAnswer f room t (call.TemplateCreate function pc dc) done = IsRoomy room done
+HasAnswer f room t (call.EdtCreate from pc params dc deps flags output) done =
+    IsRoomy room done × (output ≡ false)
+HasAnswer f room t (call.DbCreate n fl) done = IsRoomy room done
+HasAnswer f room t (call.DbRelease d) done = Unit {0}
+HasAnswer f room t (call.DbDestroy d) done = Unit {0}
+HasAnswer f room t (call.TemplateDestroy x) done = Unit {0}
+HasAnswer f room t (call.AddDependence from x i m) done = Unit {0}
+HasAnswer f room t other done = ⊥
+
+-- what it weighs, where a call that is accepted ends a hold of so many writes
+abbrev pub weighs_by : body.Call → Bool → ℕ
+weighs_by (call.DbCreate n fl) done = if done then 1 + n / 8 / 16 else 1
+weighs_by other done = 1
+
+abbrev pub weighs : body.Call → Bool → ℕ → ℕ
+weighs c done count = weighs_by c done + (if done then count else 0)
+
+-- its weight with this answer
+abbrev pub weight_with : body.Call → ℕ → Answer → ℕ
+weight_with c count a = call_weight c a + (if is_done a.code then count else 0)
+
+-- some answer lets it be entered with this weight
+abbrev pub CanWeigh : ℕ → Parts → ℕ → body.Call → ℕ → ℕ → Type 0
+CanWeigh limit f t c count weight =
+    (a : Answer) × IsCallOn limit f t 0 c a [] × (weight_with c count a ≡ weight)

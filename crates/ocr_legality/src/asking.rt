@@ -1,0 +1,131 @@
+// What a call that comes next weighs.
+ghost use Rattle.std.specs.Prelude.{◌≡◌, ◌≤◌, ◌+◌, ℕ, [], true, false};
+ghost use Rattle.ocr_history.specs.History.{Setting, History};
+ghost use Rattle.ocr_meaning.specs.Holds.{is_done};
+ghost use Rattle.ocr_parts.specs.Kinds.{is_running};
+ghost use Rattle.ocr_parts.specs.Codes.{code_of};
+ghost use Rattle.ocr_parts.specs.Legal.{IsRun};
+ghost use Rattle.ocr_parts.specs.Parts.{parts_of};
+ghost use Rattle.ocr_machine.specs.Table.{state_in, face_on, core_on, IsOf};
+ghost use Rattle.ocr_legality.specs.Tests.{Whether};
+ghost use Rattle.ocr_legality.specs.Asked.{HasRoom, HasAnswer, CanWeigh, weighs, weighs_by};
+
+use crate::calling::{is_fresh, is_shared};
+use crate::going::both;
+use crate::tests_of::is_running;
+use ocr_guid::{Code, Guid};
+use ocr_machine::Table;
+use ocr_meaning::Call;
+
+fn finds_fresh(table: &Table) -> bool
+    ensures { Whether result (HasRoom table.now.limit (state_in table.now)) }
+{
+    let mut n = table.limit;
+    while n > 0 {
+        if is_fresh(table, n) {
+            return true;
+        }
+        n -= 1;
+    }
+    false
+}
+
+/// Whether a number is left for an object that is made.
+pub fn has_room(table: &Table) -> bool
+    ensures { (s : Setting) (past : History) → IsOf s past table.now
+        → Whether result (HasRoom s.limit (parts_of s past)) }
+{
+    finds_fresh(table)
+}
+
+fn has_answer(table: &Table, room: bool, edt: Guid, call: &Call, done: bool) -> bool
+    ensures { Whether result (HasAnswer (state_in table.now) room edt call.now done) }
+{
+    match call {
+        Call::Print { value: _ } => true,
+        Call::Load { block, word } => is_shared(table, edt, *block, *word),
+        Call::Store {
+            block,
+            word,
+            value: _,
+        } => is_shared(table, edt, *block, *word),
+        Call::TemplateCreate { .. } => !done || room,
+        Call::DbCreate { .. } => !done || room,
+        Call::EdtCreate {
+            template: _,
+            paramc: _,
+            params: _,
+            depc: _,
+            deps: _,
+            flags: _,
+            output,
+        } => (!done || room) && !*output,
+        Call::DbRelease { .. } => true,
+        Call::DbDestroy { .. } => true,
+        Call::TemplateDestroy { .. } => true,
+        Call::AddDependence { .. } => true,
+        Call::EventCreate { .. } => false,
+        Call::EventCreateParams { .. } => false,
+        Call::EventDestroy { .. } => false,
+        Call::Satisfy { .. } => false,
+        Call::Shutdown => false,
+        Call::Abort { .. } => false,
+    }
+}
+
+fn may_ask(table: &Table, room: bool, edt: u64, call: &Call, done: bool) -> bool
+    ensures { Whether result ((is_running (core_on table.now edt) ≡ true)
+        × HasAnswer (state_in table.now) room edt call.now done) }
+{
+    is_running(table, edt) && has_answer(table, room, Guid(edt), call, done)
+}
+
+fn accepts(table: &Table, edt: u64, call: &Call) -> bool
+    ensures { result ≡ is_done (code_of edt (face_on table.now) call.now) }
+{
+    table.decide(Guid(edt), call) == Code::Done
+}
+
+fn weighs_by(call: &Call, done: bool) -> u64
+    ensures weight { result ≡ weighs_by call.now done }
+    ensures small { result ≤ 1 + 144115188075855872 }
+{
+    if let Call::DbCreate { length, flags: _ } = call {
+        if done {
+            return 1 + *length / 8 / 16;
+        }
+    }
+    1
+}
+
+fn weighs_so(call: &Call, done: bool, count: usize, weight: u64) -> bool
+    ensures { Whether result (weighs call.now done count ≡ weight) }
+{
+    let base = weighs_by(call, done);
+    if done {
+        base <= weight && weight - base == count as u64
+    } else {
+        base == weight
+    }
+}
+
+/// Whether the EDT runs and some answer lets the call be entered with this weight. The room tells
+/// whether a number is left for an object; a call that is accepted may end a hold of so many
+/// private writes.
+pub fn can_weigh(
+    table: &Table,
+    room: bool,
+    edt: u64,
+    call: &Call,
+    count: usize,
+    weight: u64,
+) -> bool
+    ensures { (s : Setting) (past : History) → IsOf s past table.now → IsRun s past
+        → Whether room (HasRoom s.limit (parts_of s past))
+        → Whether result (CanWeigh s.limit (parts_of s past) edt call.now count weight) }
+{
+    let done = accepts(table, edt, call);
+    let may = may_ask(table, room, edt, call, done);
+    let so = weighs_so(call, done, count, weight);
+    both(may, so)
+}

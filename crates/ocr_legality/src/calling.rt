@@ -1,0 +1,136 @@
+// Whether a call is answered so.
+ghost use Rattle.std.specs.Prelude.{◌≡◌, ℕ, [], true, false};
+ghost use Rattle.ocr_meaning.specs.Holds.{is_done};
+ghost use Rattle.ocr_parts.specs.Kinds.{IsBlock, mode_on};
+ghost use Rattle.ocr_parts.specs.LegalOn.{IsNamed, IsFresh, IsShared, IsLoaded};
+ghost use Rattle.ocr_parts.specs.declared.part.Part.TheVariants as part;
+ghost use Rattle.ocr_machine.specs.Table.{state_in, face_on, core_on};
+ghost use Rattle.ocr_legality.specs.Tests.{Whether, AnswersSo, IsCallSo};
+
+use crate::tests_of::{has_no_core, has_no_face, is_running, mode_at};
+use ocr_acquire::Mode;
+use ocr_guid::{Code, Guid};
+use ocr_machine::Table;
+use ocr_meaning::{Answer, Call};
+use ocr_parts::Part;
+
+/// Whether the number is one that nothing has yet.
+pub(crate) fn is_fresh(table: &Table, number: u64) -> bool
+    ensures { Whether result (IsFresh table.now.limit (state_in table.now) number) }
+{
+    1 <= number && number <= table.limit && has_no_face(table, number)
+}
+
+fn is_named(table: &Table, answer: &Answer) -> bool
+    ensures { Whether result (IsNamed table.now.limit (state_in table.now) answer.now) }
+{
+    if answer.code == Code::Done {
+        is_fresh(table, answer.value)
+    } else {
+        answer.value == 0
+    }
+}
+
+fn has_new_core(table: &Table, answer: &Answer) -> bool
+    ensures { Whether result (is_done answer.now.code ≡ true
+        → core_on table.now answer.now.value ≡ part.Vacant) }
+{
+    answer.code != Code::Done || has_no_core(table, answer.value)
+}
+
+fn same_mode(one: Option<Mode>, other: Option<Mode>) -> bool
+    ensures { Whether result (one ≡ other) }
+{
+    one == other
+}
+
+/// Whether a word of the block is there, and held in the same mode by the core and by the block.
+pub(crate) fn is_shared(table: &Table, edt: Guid, block: u64, word: u64) -> bool
+    ensures { Whether result (IsBlock (face_on table.now block)
+        (IsShared edt word (mode_on (core_on table.now edt) block))) }
+{
+    let mode = mode_at(table, edt, block);
+    match table.face(block) {
+        Some(Part::Block(state)) => {
+            word < u64::from(state.words())
+                && same_mode(mode, state.mode_of(edt))
+                && state.borrower().is_none()
+        }
+        Some(Part::Vacant) => false,
+        Some(Part::Core(_)) => false,
+        Some(Part::Edt(_)) => false,
+        Some(Part::Template(_)) => false,
+        None => false,
+    }
+}
+
+/// And whether it has this value.
+fn is_loaded(table: &Table, edt: Guid, block: u64, word: u64, value: u64) -> bool
+    ensures { Whether result (IsBlock (face_on table.now block)
+        (IsLoaded edt word (mode_on (core_on table.now edt) block) value)) }
+{
+    let mode = mode_at(table, edt, block);
+    match table.face(block) {
+        Some(Part::Block(state)) => {
+            word < u64::from(state.words())
+                && same_mode(mode, state.mode_of(edt))
+                && state.borrower().is_none()
+                && state.load(word as u32) == value
+        }
+        Some(Part::Vacant) => false,
+        Some(Part::Core(_)) => false,
+        Some(Part::Edt(_)) => false,
+        Some(Part::Template(_)) => false,
+        None => false,
+    }
+}
+
+/// Whether the call is answered so, but for the hold that it ends.
+fn answers(table: &Table, edt: Guid, call: &Call, answer: &Answer) -> bool
+    ensures { Whether result (AnswersSo table.now.limit
+        (state_in table.now) edt call.now answer.now) }
+{
+    match call {
+        Call::Print { value: _ } => answer.value == 0,
+        Call::Load { block, word } => is_loaded(table, edt, *block, *word, answer.value),
+        Call::Store {
+            block,
+            word,
+            value: _,
+        } => is_shared(table, edt, *block, *word) && answer.value == 0,
+        Call::TemplateCreate { .. } => is_named(table, answer),
+        Call::DbCreate { .. } => is_named(table, answer),
+        Call::EdtCreate {
+            template: _,
+            paramc: _,
+            params: _,
+            depc: _,
+            deps: _,
+            flags: _,
+            output,
+        } => is_named(table, answer) && has_new_core(table, answer) && !*output,
+        Call::DbRelease { .. } => answer.value == answer.code.number(),
+        Call::DbDestroy { .. } => answer.value == answer.code.number(),
+        Call::TemplateDestroy { .. } => answer.value == answer.code.number(),
+        Call::AddDependence { .. } => answer.value == answer.code.number(),
+        Call::EventCreate { .. } => false,
+        Call::EventCreateParams { .. } => false,
+        Call::EventDestroy { .. } => false,
+        Call::Satisfy { .. } => false,
+        Call::Shutdown => false,
+        Call::Abort { .. } => false,
+    }
+}
+
+/// Whether the EDT may make the call, and it is answered so, but for the hold that it ends.
+pub(crate) fn is_call_so(table: &Table, edt: Guid, home: Guid, call: &Call, answer: &Answer) -> bool
+    ensures { Whether result (IsCallSo table.now.limit
+        (state_in table.now) edt home call.now answer.now) }
+{
+    is_running(table, edt.0)
+        && answer.code == table.decide(edt, call)
+        && answers(table, edt, call, answer)
+        && answer.scope == Guid::NULL
+        && answer.output == Guid::NULL
+        && home == Guid::NULL
+}
