@@ -1,6 +1,8 @@
-//! One clerk of the toy machine takes a place and gives it back so often, and makes so many entries
-//! then, as the program's words say; prints how many entries the run has.
+//! So many clerks of the toy machine, each in a thread, take a place and give it back so often, and
+//! make so many entries then, as the program's words say; prints how many entries the run has.
 #![tactic(auto)]
+
+ghost use Rattle.std.specs.Prelude.{◌<◌, IfOk};
 
 use ocr_tests_turns::{Plan, run};
 use std::io::{Error, ErrorKind};
@@ -17,11 +19,22 @@ fn number(rt: &HostRuntime, place: usize) -> io::Result<u64> {
     }
 }
 
+// How many clerks there are to be.
+fn clerks(rt: &HostRuntime) -> io::Result<u32>
+    ensures { IfOk result (λ n. n < 128) }
+{
+    let count = number(rt, 1)?;
+    if count >= 128 {
+        return Err(Error::from(ErrorKind::InvalidInput));
+    }
+    Ok(count as u32)
+}
+
 fn main(rt: HostRuntime) -> io::Result<()> {
     let plan = Plan {
-        threads: 1,
-        visits: number(&rt, 1)?,
-        turns: number(&rt, 2)?,
+        threads: clerks(&rt)?,
+        visits: number(&rt, 2)?,
+        turns: number(&rt, 3)?,
         stop_after: None,
     };
     let Ok(ran) = run(&rt, rt.alloc(), &plan) else {

@@ -1,6 +1,6 @@
 -- What a word tells of an EDT of which nothing is left to be counted.
-use Rattle.std.proofs.Common.{◌≡◌, ℕ, ◌+◌, ◌<◌, ◌≤◌, List, reverse, sym, ap, subst, ◌∙◌, arith, Option}
-use Rattle.ocr_turns.specs.Counting.{Found, slots_of, awaited, is_started}
+use Rattle.std.proofs.Common.{◌≡◌, ℕ, List, reverse, sym, subst, arith}
+use Rattle.ocr_turns.specs.Counting.{slots_of, awaited, is_started}
 use Rattle.ocr_turns.specs.Meaning.{Meaning}
 use Rattle.ocr_turns.specs.Words.{SeesReady, SeesWord}
 use Rattle.ocr_turns.specs.declared.view.View.{View}

@@ -1,17 +1,13 @@
 -- What the calls on the words that count ask and tell.
-use Rattle.std.specs.Prelude.{◌≡◌, ◌≢◌, ℕ, ◌<◌, ◌≤◌}
+use Rattle.std.specs.Prelude.{◌≡◌, ◌≢◌, ℕ, ◌<◌}
 use Rattle.ocr_turns.specs.Counting.{READY}
 use Rattle.ocr_turns.specs.Meaning.{Meaning}
 use Rattle.ocr_turns.specs.Words.{SeesReady, SeesWord, claiming, learning}
-use Rattle.ocr_turns.specs.declared.view.Terms.{Terms}
 use Rattle.ocr_turns.specs.declared.view.View.{View}
 use Rattle.ocr_count.specs.declared.answers.Claimed.{Claimed}
 use Rattle.ocr_count.specs.declared.answers.Claimed.TheVariants as claimed
 use Rattle.ocr_count.specs.declared.answers.Down.{Down}
 use Rattle.ocr_count.specs.declared.answers.Down.TheVariants as down
-
-abbrev pub IsNumber : {G : Type 0} → Terms G → ℕ → Type 0
-IsNumber t n = (1 ≤ n) × (n ≤ t.limit)
 
 abbrev pub left_of : Down → ℕ
 left_of down.Last = 0

@@ -1,8 +1,9 @@
 // Claims, and the payloads that a claim lets be read.
-ghost use Rattle.std.specs.Prelude.{◌≡◌, ◌<◌, ◌≤◌};
+ghost use Rattle.std.specs.Prelude.{◌≡◌};
 ghost use Rattle.ocr_turns.specs.Contract.{IsOf, SameHand};
+ghost use Rattle.ocr_turns.specs.Owing.{IsNumber};
 ghost use Rattle.ocr_turns.specs.Words.{HasClaim, HasSlot, OwesResume, Waits, resuming, unclaiming};
-ghost use Rattle.ocr_count.specs.Counts.{ClaimTells, IsNumber, PayloadTells};
+ghost use Rattle.ocr_count.specs.Counts.{ClaimTells, PayloadTells};
 
 use crate::answers::Claimed;
 use ocr_guid::Guid;
@@ -11,7 +12,7 @@ use ocr_turns::{Clerk, Machine, Turns, WordStep};
 /// Claims the EDT where it is ready. `Lost` carries its word, which is not that of a ready EDT.
 pub fn claim<M: Machine>(turns: &Turns<M>, clerk: &mut Clerk<M>, edt: Guid) -> Claimed
     requires table { IsOf turns.now clerk.old }
-    requires edt { IsNumber turns.now.1 edt }
+    requires edt { IsNumber turns.now.1.limit edt }
     ensures hand { SameHand clerk.old clerk.new }
     ensures told { ClaimTells M.meaning result clerk.old.view clerk.new.view edt }
 {
@@ -27,7 +28,6 @@ pub fn claim<M: Machine>(turns: &Turns<M>, clerk: &mut Clerk<M>, edt: Guid) -> C
 /// the slot is set to it.
 pub fn payload<M: Machine>(turns: &Turns<M>, clerk: &mut Clerk<M>, edt: Guid, slot: u32) -> u64
     requires table { IsOf turns.now clerk.old }
-    requires edt { IsNumber turns.now.1 edt × (slot < 32) }
     requires claimed { HasClaim clerk.old.view edt }
     requires slot { HasSlot M.meaning turns.now.1 clerk.old.view edt slot }
     ensures hand { SameHand clerk.old clerk.new }
@@ -39,7 +39,6 @@ pub fn payload<M: Machine>(turns: &Turns<M>, clerk: &mut Clerk<M>, edt: Guid, sl
 /// Gives up the claim of an EDT that waits, so that whoever resumes it makes it ready.
 pub fn park<M: Machine>(turns: &Turns<M>, clerk: &mut Clerk<M>, edt: Guid)
     requires table { IsOf turns.now clerk.old }
-    requires edt { IsNumber turns.now.1 edt }
     requires claimed { HasClaim clerk.old.view edt }
     requires waits { Waits M.meaning turns.now.1 clerk.old.view edt }
     ensures hand { SameHand clerk.old clerk.new }
@@ -51,7 +50,6 @@ pub fn park<M: Machine>(turns: &Turns<M>, clerk: &mut Clerk<M>, edt: Guid)
 /// Makes an EDT ready that an entry of this clerk resumed.
 pub fn resume<M: Machine>(turns: &Turns<M>, clerk: &mut Clerk<M>, edt: Guid)
     requires table { IsOf turns.now clerk.old }
-    requires edt { IsNumber turns.now.1 edt }
     requires owes { OwesResume clerk.old.view edt }
     ensures hand { SameHand clerk.old clerk.new }
     ensures view { clerk.new.view ≡ resuming clerk.old.view edt }

@@ -1,8 +1,8 @@
 // Payloads and countdowns.
-ghost use Rattle.std.specs.Prelude.{◌≡◌, ◌<◌, ◌≤◌};
+ghost use Rattle.std.specs.Prelude.{◌≡◌};
 ghost use Rattle.ocr_turns.specs.Contract.{IsOf, SameHand};
 ghost use Rattle.ocr_turns.specs.Words.{OwesCount, OwesMaking, OwesPayload, counting_down, counting_made, putting};
-ghost use Rattle.ocr_count.specs.Counts.{DownTells, IsNumber, LeavesSome, left_of};
+ghost use Rattle.ocr_count.specs.Counts.{DownTells, LeavesSome, left_of};
 
 use crate::answers::Down;
 use ocr_guid::Guid;
@@ -17,7 +17,6 @@ pub fn put_payload<M: Machine>(
     payload: u64,
 )
     requires table { IsOf turns.now clerk.old }
-    requires edt { IsNumber turns.now.1 edt × (slot < 32) }
     requires owes { OwesPayload clerk.old.view edt slot payload }
     ensures hand { SameHand clerk.old clerk.new }
     ensures view { clerk.new.view ≡ putting clerk.old.view edt slot payload }
@@ -29,7 +28,6 @@ pub fn put_payload<M: Machine>(
 /// where its making and all its slots are counted.
 pub fn count_down<M: Machine>(turns: &Turns<M>, clerk: &mut Clerk<M>, edt: Guid) -> Down
     requires table { IsOf turns.now clerk.old }
-    requires edt { IsNumber turns.now.1 edt }
     requires owes { OwesCount clerk.old.view edt }
     ensures hand { SameHand clerk.old clerk.new }
     ensures view { clerk.new.view ≡ counting_down clerk.old.view edt (left_of result) }
@@ -43,7 +41,6 @@ pub fn count_down<M: Machine>(turns: &Turns<M>, clerk: &mut Clerk<M>, edt: Guid)
 /// `count_down` does.
 pub fn count_made<M: Machine>(turns: &Turns<M>, clerk: &mut Clerk<M>, edt: Guid, depc: u32) -> Down
     requires table { IsOf turns.now clerk.old }
-    requires edt { IsNumber turns.now.1 edt × (depc ≤ 32) }
     requires owes { OwesMaking clerk.old.view edt depc }
     ensures hand { SameHand clerk.old clerk.new }
     ensures view { clerk.new.view ≡ counting_made clerk.old.view edt (left_of result) }

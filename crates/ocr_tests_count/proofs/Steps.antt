@@ -32,6 +32,11 @@ is_unmade made None is = refl
 is_unmade true (Some x) is = absurd (omega (arith, is))
 is_unmade false (Some x) is = absurd (omega (arith, is))
 
+not_made : (made : Bool) (x : Option ℕ) → slot_part made x ≡ 0 → made ≡ false
+not_made false x is = refl
+not_made true None is = absurd (omega (arith, is))
+not_made true (Some x) is = absurd (omega (arith, is))
+
 open_slot : (past : List Entry) (k : ℕ) → k < 2 → part_at past (3 + k) ≡ 1 → IsOpen past k
 open_slot past zero lt is = let tells = is_open (is_made past) (payload past 0) is in record { made = tells.0; within = lt; unset = tells.1 }
 open_slot past (suc zero) lt is = let tells = is_open (is_made past) (payload past 1) is in record { made = tells.0; within = lt; unset = tells.1 }
@@ -69,6 +74,7 @@ may_set t v k x are lt light = record {
         sends = refl;
         facts = one_fact (stands t.setting.value t.limit (J ++ Set k x ∷ [])) (2, k, x) (λ is. subst (λ past. IsSetTo past k x) (sym next) (is_put (reverse J) k x may));
         wakes = refl;
+        counts = refl;
       };
 }
 
@@ -93,13 +99,14 @@ may_make t v are light drawn = record {
       let second : part_at (reverse J) 4 ≡ 0 = fits.parts 1 4 0 (ap (λ ps. get_elem? ps 1) are) in
       let next : reverse (J ++ Make ∷ []) ≡ Make ∷ reverse J = reverse-append J (Make ∷ []) in
       record {
-        legal = tt;
+        legal = not_made (is_made (reverse J)) (payload (reverse J) 0) first;
         parts = two_parts (part t.setting.value t.limit (J ++ Make ∷ [])) 1 1
             (ap (λ past. part_at past 3) next ∙ opened (is_made (reverse J)) (payload (reverse J) 0) first)
             (ap (λ past. part_at past 4) next ∙ opened (is_made (reverse J)) (payload (reverse J) 1) second);
         sends = refl;
         facts = λ i f at. absurd (some-ne-none f (sym at));
         wakes = refl;
+        counts = refl;
       };
 }
 
@@ -203,6 +210,7 @@ may_wait t v x y ps ms e1 e2 are claims light zeroth first = subst (λ l. MayCom
         sends = refl;
         facts = λ i f at. absurd (some-ne-none f (sym at));
         wakes = refl;
+        counts = refl;
       };
 }))
 
@@ -224,6 +232,7 @@ may_wake t v ps ms e1 e2 are claims light = subst (λ l. MayCommit meaning t v W
         sends = refl;
         facts = λ i f at. absurd (some-ne-none f (sym at));
         wakes = refl;
+        counts = refl;
       };
 }))
 

@@ -1,15 +1,18 @@
 -- The laws of the toy machine.
-use Rattle.std.proofs.Common.{◌≡◌, ℕ, zero, suc, ◌<◌, ◌≤◌, ◌==◌, Bool, true, false, if◌then◌else◌, List, [], ◌∷◌, ◌++◌, reverse, ap, sym, ◌∙◌, subst, refl, arith}
+use Rattle.std.proofs.Common.{◌≡◌, ◌≢◌, ℕ, zero, suc, ◌+◌, ◌*◌, ◌<◌, ◌≤◌, ◌==◌, Bool, true, false, if◌then◌else◌, List, [], ◌∷◌, ◌++◌, reverse, ap, sym, ◌∙◌, subst, refl, arith}
 use Rattle.std.specs.Prelude.{Option, Some, None}
 use Rattle.std.proofs.lemmas.List.{reverse-append, reverse-reverse}
+use mathlib.Core.Logic.{dite}
+use native.Mathlib.Decide.{ℕ_discrete}
 use Rattle.std.proofs.lemmas.Option.{same_Some, some_pair_parts}
 use Rattle.ocr_turns.specs.Counting.{CountingLaws, IsReady, MayCome, awaited, slots_of, payload_of}
-use Rattle.ocr_turns.specs.Meaning.{Lawful}
-use Rattle.ocr_turns.specs.Sums.{is_among, one_at, sum_of}
+use Rattle.ocr_turns.specs.Meaning.{ArePlaces, IsNewNumber, Lawful}
+use Rattle.ocr_turns.specs.Sums.{is_among, made_sum, one_at, sum_of}
+use Rattle.ocr_turns.proofs.Totals.{made_snoc, one_else, one_most, one_same}
 use Rattle.ocr_turns.specs.declared.view.Terms.{Terms}
 use Rattle.ocr_tests_count.specs.declared.toy.Entry.{Entry}
 use Rattle.ocr_tests_count.specs.declared.toy.Entry.TheVariants.{Make, Set, Wait, Wake}
-use Rattle.ocr_tests_count.specs.Toy.{IsOpen, IsSetTo, MayFollow, MayWait, is_made, is_waiting, resumes, wait_part, waits, legal, meaning, part, part_at, payload, places, slot_at, stands}
+use Rattle.ocr_tests_count.specs.Toy.{IsOpen, IsSetTo, MayFollow, MayWait, creates, is_made, is_waiting, makes, resumes, wait_part, waits, legal, meaning, part, part_at, payload, places, slot_at, stands}
 
 abbrev PayloadIf : Bool → ℕ → Option ℕ → Option ℕ
 PayloadIf b x before = if b then Some x else before
@@ -88,6 +91,74 @@ unfolding legal part
 local g limit J e p ok none =
     ap (λ past. part_at past p) (reverse-append J (e ∷ [])) ∙ local_last (reverse J) e p ok none
 
+-- the places and the numbers of an entry
+two_places : (p : ℕ) → one_at p 3 + (one_at p 4 + 0) ≤ 1
+two_places p = dite (ℕ_discrete p 3)
+    (λ e. subst (λ q. one_at q 3 + (one_at q 4 + 0) ≤ 1) (sym e) (omega arith))
+    (λ ne. let none = one_else p 3 ne in let most = one_most p 4 in omega arith)
+
+one_place : (limit q : ℕ) → 1 ≤ q → q ≤ 2 * limit
+    → ArePlaces limit (λ p. sum_of (one_at p) (q ∷ []))
+one_place limit q least most = record {
+  all = q ∷ [];
+  those = λ p. refl;
+  differ = λ p. let one = one_most p q in omega arith;
+  range = λ p is.
+      let same : q ≡ p = sym (one_same p q (omega arith)) in
+      subst (λ r. (1 ≤ r) × (r ≤ 2 * limit)) same (least, most);
+  few = omega arith;
+}
+
+are_places : (g limit : ℕ) (J : List Entry) (e : Entry) → 2 ≤ limit → legal g limit J e
+    → ArePlaces limit (λ p. sum_of (one_at p) (places e))
+unfolding legal
+are_places g limit J Make two ok = record {
+  all = 3 ∷ 4 ∷ [];
+  those = λ p. refl;
+  differ = two_places;
+  range = λ p is. dite (ℕ_discrete p 3)
+      (λ e. subst (λ r. (1 ≤ r) × (r ≤ 2 * limit)) (sym e) (omega arith, omega arith))
+      (λ ne.
+      let none = one_else p 3 ne in
+      let same : 4 ≡ p = sym (one_same p 4 (omega arith)) in
+      subst (λ r. (1 ≤ r) × (r ≤ 2 * limit)) same (omega arith, omega arith));
+  few = omega arith;
+}
+are_places g limit J (Set k x) two ok =
+    let lt = ok.within in one_place limit (3 + k) (omega arith) (omega arith)
+are_places g limit J Wait two ok = one_place limit 2 (omega arith) (omega arith)
+are_places g limit J Wake two ok = one_place limit 2 (omega arith) (omega arith)
+
+makes_none : (past : List Entry) (e : Entry) → makes e ≡ []
+    → made_sum makes (one_at 2) (reverse past) ≡ 0
+    → made_sum makes (one_at 2) (reverse (e ∷ past)) ≡ 0
+makes_none past e none was =
+    let whole = ap (made_sum makes (one_at 2)) (reverse-append (e ∷ []) past) in
+    let last = made_snoc makes (one_at 2) (reverse past) e in
+    let nothing = ap (sum_of (one_at 2)) none in omega arith
+
+none_made : (past : List Entry) → is_made past ≡ false
+    → made_sum makes (one_at 2) (reverse past) ≡ 0
+none_made [] none = refl
+none_made (Make ∷ past) none = absurd (cc none)
+none_made (Set k x ∷ past) none = makes_none past (Set k x) refl (none_made past none)
+none_made (Wait ∷ past) none = makes_none past Wait refl (none_made past none)
+none_made (Wake ∷ past) none = makes_none past Wake refl (none_made past none)
+
+is_new : (g limit : ℕ) (J : List Entry) (e : Entry) (n : ℕ) → 2 ≤ limit → legal g limit J e
+    → 1 ≤ sum_of (one_at n) (makes e) → IsNewNumber meaning limit J e n
+unfolding legal
+is_new g limit J Make n two ok has =
+    let same : 2 ≡ n = sym (one_same n 2 (omega arith)) in
+    let none : made_sum makes (one_at 2) J ≡ 0 =
+    subst (λ l. made_sum makes (one_at 2) l ≡ 0) (reverse-reverse J) (none_made (reverse J) ok)
+    in
+    subst (IsNewNumber meaning limit J Make) same
+    (record { once = refl; range = (omega arith, two); unmade = omega arith })
+is_new g limit J (Set k x) n two ok has = absurd (omega (arith, has))
+is_new g limit J Wait n two ok has = absurd (omega (arith, has))
+is_new g limit J Wake n two ok has = absurd (omega (arith, has))
+
 pub laws : Lawful meaning
 laws = record {
   weighs = λ e goes. omega arith;
@@ -96,6 +167,8 @@ laws = record {
   local = λ g limit J e p most run ok none. local g limit J e p ok none;
   on_core = λ g limit J e t most run ok runs. absurd (cc runs);
   first = λ g limit J e t run ok starts. absurd (cc starts);
+  places = λ g limit J e most run ok. are_places g limit J e most ok;
+  making = λ g limit J e n most run ok has. is_new g limit J e n most ok has;
   starting = λ e t starts. absurd (cc starts);
 }
 
@@ -123,7 +196,7 @@ first_set t is = absurd (omega (arith, is))
 pub is_put : (past : List Entry) (k x : ℕ) → IsOpen past k → IsSetTo (Set k x ∷ past) k x
 is_put past k x may = record { made = may.made; within = may.within; payload = grind arith }
 
-creating : (e : Entry) (n d : ℕ) → meaning.counting.creates e ≡ Some (n, d)
+creating : (e : Entry) (n d : ℕ) → creates e ≡ Some (n, d)
     → (1 ≤ sum_of (one_at n) (meaning.makes e)) × (d ≤ 32)
 creating Make n d is =
     let same = some_pair_parts 2 n 2 d is in

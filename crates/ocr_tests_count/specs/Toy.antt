@@ -65,7 +65,7 @@ pub record MayWait (past : List Entry) : Type 0 where
   pub awake : is_waiting past ≡ false
 
 abbrev pub MayFollow : List Entry → Entry → Type 0
-MayFollow past Make = Unit {0}
+MayFollow past Make = is_made past ≡ false
 MayFollow past (Set k x) = IsOpen past k
 MayFollow past Wait = MayWait past
 MayFollow past Wake = is_waiting past ≡ true
@@ -124,7 +124,8 @@ learns Wake = []
 
 abbrev pub counting : Counting ℕ Entry ℕ (ℕ × ℕ × ℕ)
 counting = record {
-  creates = creates;
+  creates = λ g limit J e. creates e;
+  counts = λ limit e ps. creates e;
   sets = sets;
   waits = waits;
   resumes = λ g limit J e. resumes e;

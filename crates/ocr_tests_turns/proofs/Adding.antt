@@ -1,5 +1,5 @@
 -- A clerk that keeps a place may add to its counter.
-use Rattle.std.proofs.Common.{◌≡◌, ℕ, zero, suc, ◌+◌, ◌<◌, ◌≤◌, ◌==◌, Bool, true, false, if◌then◌else◌, List, [], ◌∷◌, ◌++◌, length, reverse, slice_index_or, ap, sym, ◌∙◌, subst, refl, arith}
+use Rattle.std.proofs.Common.{◌≡◌, ℕ, zero, suc, ◌+◌, ◌*◌, ◌<◌, ◌≤◌, ◌==◌, Bool, true, false, if◌then◌else◌, List, [], ◌∷◌, ◌++◌, length, reverse, slice_index_or, ap, sym, ◌∙◌, subst, refl, arith}
 use Rattle.std.proofs.lemmas.Grind.{common_steps}
 use Rattle.std.specs.Prelude.{Option, Some, None}
 use Rattle.std.proofs.lemmas.List.{reverse-append}
@@ -30,18 +30,19 @@ one_part : (y x k p q : ℕ) → get_elem? {A = ℕ × ℕ} ((q, y) ∷ []) k �
 one_part y x zero p q at = some-injective (q, y) (p, x) at
 one_part y x (suc k) p q at = absurd (some-ne-none (p, x) (sym at))
 
-legal_add : (t : Terms ℕ) (v : View ℕ Entry ℕ ℕ ℕ) (p found n : ℕ) (d : Option (ℕ × ℕ)) → v.parts ≡ (p, found) ∷ []
+legal_add : (t : Terms ℕ) (v : View ℕ Entry ℕ ℕ ℕ) (p found n : ℕ) (d : Option (ℕ × ℕ)) → 1 ≤ p → p ≤ 2 * t.limit → v.parts ≡ (p, found) ∷ []
     → Legal meaning t v (deed meaning t.limit v (Add p found n d) ((p, found + n) ∷ []) (n ∷ []))
 unfolding part legal
-legal_add t v p found n d are J goes fits =
+legal_add t v p found n d least most are J goes fits =
     let was : part t.setting.value t.limit J p ≡ found = fits.parts 0 p found (ap (λ ps. get_elem? ps 0) are) in
     let now : part t.setting.value t.limit (J ++ Add p found n d ∷ []) p ≡ found + n = ap (λ l. counter_at l p) (reverse-append J (Add p found n d ∷ [])) ∙ (when (p == p) (counter_at (reverse J) p + n) (counter_at (reverse J) p) (same_is p) ∙ ap (λ x. x + n) was) in
     record {
-      legal = was;
+      legal = (least, most, was);
       parts = λ k q x at. let same = one_part (found + n) x k q p at in ap (λ (z : ℕ × ℕ). part t.setting.value t.limit (J ++ Add p found n d ∷ []) z.0) (sym same) ∙ (now ∙ ap (λ (z : ℕ × ℕ). z.1) same);
       sends = refl;
       facts = λ k f at. tt;
       wakes = refl;
+      counts = refl;
     }
 
 claims_add : (t : Terms ℕ) (v : View ℕ Entry ℕ ℕ ℕ) (p found n : ℕ) (d : Option (ℕ × ℕ)) (ps : List (ℕ × ℕ)) (ms : List ℕ)
@@ -57,9 +58,9 @@ keeps_add : (t : Terms ℕ) (v : View ℕ Entry ℕ ℕ ℕ) (p found n after : 
 keeps_add t v p found n after d are q = (refl, subst (λ ps. one_at q p + 0 ≤ weigh (one_at q) ps) (sym are) (omega arith))
 
 pub may_add : (t : Terms ℕ) (v : View ℕ Entry ℕ ℕ ℕ) (p found n after : ℕ) (d : Option (ℕ × ℕ)) (ps : List (ℕ × ℕ)) (ms : List ℕ)
-    → v.parts ≡ (p, found) ∷ [] → v.weight < t.share → Has d v.owed → ps ≡ (p, after) ∷ [] → after ≡ found + n → ms ≡ n ∷ []
+    → 1 ≤ p → p ≤ 2 * t.limit → v.parts ≡ (p, found) ∷ [] → v.weight < t.share → Has d v.owed → ps ≡ (p, after) ∷ [] → after ≡ found + n → ms ≡ n ∷ []
     → MayCommit meaning t v (Add p found n d) ps ms
-may_add t v p found n after d ps ms are light has changed sum sent =
+may_add t v p found n after d ps ms least most are light has changed sum sent =
     let parts : ps ≡ (p, found + n) ∷ [] = changed ∙ ap (λ x. (p, x) ∷ []) sum in
     subst (λ ps. MayCommit meaning t v (Add p found n d) ps ms) (sym parts) (subst (λ ms. MayCommit meaning t v (Add p found n d) ((p, found + n) ∷ []) ms) (sym sent) (record {
       goes = refl;
@@ -68,7 +69,7 @@ may_add t v p found n after d ps ms are light has changed sum sent =
       drawn = tt;
       keeps = keeps_add t v p found n (found + n) d are;
       claims = claims_add t v p found n d ((p, found + n) ∷ []) (n ∷ []);
-      legal = legal_add t v p found n d are;
+      legal = legal_add t v p found n d least most are;
     }))
 
 -- the part that was taken is the one at hand

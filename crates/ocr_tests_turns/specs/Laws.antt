@@ -1,12 +1,13 @@
 -- The laws of the toy machine.
-use Rattle.std.proofs.Common.{◌≡◌, ℕ, ◌+◌, ◌≤◌, ◌==◌, Bool, true, false, if◌then◌else◌, List, [], ◌∷◌, ◌++◌, reverse, ap, ◌∙◌, refl, arith}
+use Rattle.std.proofs.Common.{◌≡◌, ℕ, ◌+◌, ◌*◌, ◌≤◌, ◌==◌, sym, subst, Bool, true, false, if◌then◌else◌, List, [], ◌∷◌, ◌++◌, reverse, ap, ◌∙◌, refl, arith}
 use Rattle.std.proofs.lemmas.List.{reverse-append}
 use Rattle.ocr_turns.specs.Counting.{CountingLaws}
-use Rattle.ocr_turns.specs.Meaning.{IsBare, Lawful}
+use Rattle.ocr_turns.specs.Meaning.{ArePlaces, IsBare, Lawful}
 use Rattle.ocr_turns.specs.Sums.{one_at, sum_of}
+use Rattle.ocr_turns.proofs.Totals.{one_most, one_same}
 use Rattle.ocr_tests_turns.specs.declared.toy.Entry.{Entry}
 use Rattle.ocr_tests_turns.specs.declared.toy.Entry.TheVariants.{Add, Stop}
-use Rattle.ocr_tests_turns.specs.Toy.{counter_at, heavy, meaning, part, places, stops}
+use Rattle.ocr_tests_turns.specs.Toy.{counter_at, heavy, legal, meaning, part, places, stops}
 
 weighs : (e : Entry) → stops e ≡ false → 1 ≤ heavy e
 weighs (Add p found n d) goes = omega arith
@@ -22,7 +23,7 @@ bare Stop ends = record {
   ends = λ t. refl;
   sends = λ g limit J. refl;
   weightless = refl;
-  creates = refl;
+  creates = λ g limit J. refl;
   sets = refl;
   waits = λ t. refl;
   resumes = λ g limit J. refl;
@@ -43,6 +44,26 @@ unfolding part
 local g limit J e p none =
     ap (λ past. counter_at past p) (reverse-append J (e ∷ [])) ∙ local_last (reverse J) e p none
 
+are_places : (g limit : ℕ) (J : List Entry) (e : Entry) → legal g limit J e
+    → ArePlaces limit (λ p. sum_of (one_at p) (places e))
+unfolding legal
+are_places g limit J (Add q found n d) ok = record {
+  all = q ∷ [];
+  those = λ p. refl;
+  differ = λ p. let most = one_most p q in omega arith;
+  range = λ p is.
+      let same : q ≡ p = sym (one_same p q (omega arith)) in
+      subst (λ r. (1 ≤ r) × (r ≤ 2 * limit)) same (ok.0, ok.1);
+  few = omega arith;
+}
+are_places g limit J Stop ok = record {
+  all = [];
+  those = λ p. refl;
+  differ = λ p. omega arith;
+  range = λ p is. absurd (omega arith);
+  few = omega arith;
+}
+
 pub laws : Lawful meaning
 laws = record {
   weighs = weighs;
@@ -51,6 +72,8 @@ laws = record {
   local = λ g limit J e p most run ok none. local g limit J e p none;
   on_core = λ g limit J e t most run ok runs. absurd (cc runs);
   first = λ g limit J e t run ok starts. absurd (cc starts);
+  places = λ g limit J e most run ok. are_places g limit J e ok;
+  making = λ g limit J e n most run ok has. absurd (omega (arith, has));
   starting = λ e t starts. absurd (cc starts);
 }
 

@@ -1,5 +1,5 @@
 -- The toy machine's meaning.
-use Rattle.std.specs.Prelude.{◌≡◌, ◌+◌, ◌==◌, ℕ, Bool, true, false, if◌then◌else◌, List, [], ◌∷◌, reverse, Option, None}
+use Rattle.std.specs.Prelude.{◌≡◌, ◌+◌, ◌*◌, ◌≤◌, ◌==◌, ℕ, Bool, true, false, if◌then◌else◌, List, [], ◌∷◌, reverse, Option, None}
 use Rattle.ocr_turns.specs.Meaning.{Counting, Meaning}
 use Rattle.ocr_turns.specs.Sums.{one_at, sum_of}
 use Rattle.ocr_tests_turns.specs.declared.toy.Entry.{Entry}
@@ -15,9 +15,9 @@ counter_at (Stop ∷ past) q = counter_at past q
 unfoldable pub part : ℕ → ℕ → List Entry → ℕ → ℕ
 part g limit J q = counter_at (reverse J) q
 
--- an entry has found its counter as it stands
+-- an entry has a place, and found its counter as it stands
 unfoldable pub legal : ℕ → ℕ → List Entry → Entry → Type 0
-legal g limit J (Add p found n d) = part g limit J p ≡ found
+legal g limit J (Add p found n d) = (1 ≤ p) × (p ≤ 2 * limit) × (part g limit J p ≡ found)
 legal g limit J Stop = Unit {0}
 
 abbrev pub places : Entry → List ℕ
@@ -42,7 +42,8 @@ delivers Stop = None
 
 abbrev pub counting : Counting ℕ Entry ℕ ℕ
 counting = record {
-  creates = λ e. None;
+  creates = λ g limit J e. None;
+  counts = λ limit e ps. None;
   sets = λ e. None;
   waits = λ e n. None;
   resumes = λ g limit J e. [];

@@ -12,8 +12,8 @@ use std::sync::Wait;
 use std::thread;
 use std::thread::Threads;
 
-/// How many places the clerks use.
-pub(crate) const PLACES: u64 = 5;
+/// How many places the clerks use, from 1 on.
+pub(crate) const PLACES: u64 = 4;
 
 /// What a clerk is to do.
 #[derive(Drop)]
@@ -56,7 +56,7 @@ pub fn turn<R: Wait>(
     count: u64,
 ) -> Result<bool, NoMemory>
     requires idle { IsIdle turns.now clerk.old }
-    requires place { place ≤ 2 * turns.now.1.limit }
+    requires place { (1 ≤ place) × (place ≤ 2 * turns.now.1.limit) }
     ensures out { IsOut turns.now clerk.new }
     ensures idle { IfOk result (λ goes. IsTrue goes → IsIdle turns.now clerk.new) }
 {
@@ -101,7 +101,7 @@ fn make_turns<R: Wait>(
     ensures idle { IsTrue result → IsIdle turns.now clerk.new }
 {
     for k in 0..count {
-        let Ok(true) = turn(rt, alloc, turns, clerk, k % PLACES, k) else {
+        let Ok(true) = turn(rt, alloc, turns, clerk, 1 + k % PLACES, k) else {
             return false;
         };
     }
@@ -114,10 +114,10 @@ fn visit<R: Wait>(rt: &R, turns: &Turns<Toy>, clerk: &mut Clerk<Toy>) -> bool
     ensures out { IsOut turns.now clerk.new }
     ensures idle { IsTrue result → IsIdle turns.now clerk.new }
 {
-    let Taken::Mine = turns.take(rt, clerk, 0) else {
+    let Taken::Mine = turns.take(rt, clerk, 1) else {
         return false;
     };
-    turns.give_back(clerk, 0);
+    turns.give_back(clerk, 1);
     true
 }
 

@@ -47,10 +47,13 @@ fn history_of(
     Ok(Some(history))
 }
 
+// The counters by place, with one more for the place 0, which no entry has.
+const COUNTERS: usize = PLACES as usize + 1;
+
 // The counters so far, and of which entries a message is undelivered.
 #[derive(Drop)]
 struct Replay {
-    counters: [u64; PLACES as usize],
+    counters: [u64; COUNTERS],
     is_owed: Vec<bool>,
 }
 
@@ -103,7 +106,7 @@ impl Replay {
 // was sent before and not delivered; as many are undelivered at the end as the root owes.
 fn is_run(alloc: Global, history: &[Entry], owed: usize) -> Result<bool, NoMemory> {
     let mut replay = Replay {
-        counters: [0; PLACES as usize],
+        counters: [0; COUNTERS],
         is_owed: Vec::new(alloc),
     };
     for entry in history {
@@ -191,7 +194,7 @@ fn entries_of_four_threads_are_a_run(rt: HostRuntime) -> Result<(), Fail> {
     Ok(())
 }
 
-// The seventh entry comes to the second place again, and delivers the sixth's message.
+// The seventh entry comes to the third place again, and delivers the sixth's message.
 #[test]
 fn eight_entries_of_one_clerk(rt: HostRuntime) -> Result<(), Fail> {
     let plan = Plan {
@@ -217,8 +220,8 @@ fn eight_entries_of_one_clerk(rt: HostRuntime) -> Result<(), Fail> {
         matches!(
             last,
             Some(Entry::Add {
-                place: 1,
-                found: 1,
+                place: 3,
+                found: 2,
                 count: 6,
                 ..
             })

@@ -1,7 +1,7 @@
 -- What a step does to an EDT's account.
-use Rattle.std.proofs.Common.{◌≡◌, ◌≢◌, ℕ, zero, suc, ◌+◌, ◌-◌, ◌*◌, ◌%◌, ◌^◌, ◌<◌, ◌≤◌, ◌⊎◌, inl, inr, ⊎_elim, Option, Some, None, refl, ap, sym, subst, ◌∙◌, arith}
+use Rattle.std.proofs.Common.{◌≡◌, ℕ, zero, suc, ◌+◌, ◌-◌, ◌%◌, ◌≤◌, inl, inr, ⊎_elim, Option, Some, None, refl, ap, sym, subst, ◌∙◌, arith}
 use Rattle.ocr_turns.specs.Sums.{is_free}
-use Rattle.ocr_turns.specs.Counting.{Account, IsCounting, IsBusy, IsParked, IsBlank, IsInOrder, READY, UNMADE, BUSY, PARKED}
+use Rattle.ocr_turns.specs.Counting.{Account, IsCounting, IsBusy, IsParked, IsInOrder, READY, BUSY, PARKED}
 
 pub account_is : (a b : Account) → a.word ≡ b.word → a.making ≡ b.making → a.owed ≡ b.owed → a.unset ≡ b.unset → a.claims ≡ b.claims → a.resumes ≡ b.resumes → a.waits ≡ b.waits → a.started ≡ b.started → a.ended ≡ b.ended → a.lasts ≡ b.lasts → a ≡ b
 account_is a b word making owed unset claims resumes waits started ended lasts = λ i. record { word = word i; making = making i; owed = owed i; unset = unset i; claims = claims i; resumes = resumes i; waits = waits i; started = started i; ended = ended i; lasts = lasts i }

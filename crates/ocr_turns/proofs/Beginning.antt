@@ -1,6 +1,6 @@
 -- The words of a new table, and that they keep the second rule.
-use Rattle.std.proofs.Common.{◌≡◌, ◌≢◌, ℕ, zero, suc, ◌+◌, ◌-◌, ◌*◌, ◌<◌, ◌≤◌, ◌⊎◌, inl, inr, ⊎_elim, Bool, true, false, ◌&&◌, ◌==◌, if◌then◌else◌, List, [], ◌∷◌, ◌++◌, length, set, get_or, map, reverse, refl, ap, sym, subst, ◌∙◌, arith, eq-eqb, ne_eqb, get_or-set_same, get_or-set_other, length-append, None, Some, Option}
-use Rattle.std.specs.Prelude.{replicate, slice_index, slice_set}
+use Rattle.std.proofs.Common.{◌≡◌, ◌≢◌, ℕ, zero, suc, ◌+◌, ◌-◌, ◌*◌, ◌<◌, ◌≤◌, ◌⊎◌, inl, inr, ⊎_elim, Bool, true, false, ◌&&◌, ◌==◌, if◌then◌else◌, List, [], ◌∷◌, ◌++◌, length, set, get_or, map, refl, ap, sym, subst, ◌∙◌, arith, eq-eqb, ne_eqb, get_or-set_same, get_or-set_other, length-append, None, Some, Option}
+use Rattle.std.specs.Prelude.{replicate, slice_index}
 use Rattle.std.proofs.Math.ListN.{length-set, get_or-append}
 use Rattle.std.proofs.lemmas.List.{get_or-append-add, get_or-replicate, length-replicate}
 use mathlib.Core.Option.{some, some-injective, some-ne-none}
@@ -8,12 +8,11 @@ use mathlib.Core.Logic.{dite}
 use native.Mathlib.Decide.{ℕ_discrete}
 use lib.ListN.{get_elem?}
 use Rattle.atomic_table.specs.Table.{opening}
-use Rattle.ocr_turns.specs.Beginning.{IsLaidOut, unmade_words}
-use Rattle.ocr_turns.specs.Counting.{CountingLaws, Consistent, Counted, Stakes, IsInOrder, IsCounting, IsBlank, account, slots_of, payload_of, awaited, is_none, unset_of, state_at, payload_at, UNMADE, READY}
+use Rattle.ocr_turns.specs.Beginning.{IsLaidOut, front_words, unmade_words}
+use Rattle.ocr_turns.specs.Counting.{CountingLaws, Consistent, Counted, Stakes, IsInOrder, IsCounting, IsBlank, account, slots_of, payload_of, is_none, unset_of, state_at, payload_at, UNMADE, READY}
 use Rattle.ocr_turns.specs.Meaning.{Meaning}
 use Rattle.ocr_turns.specs.Steps.{rooted}
-use Rattle.ocr_turns.specs.Sums.{one_at, up_to, made_sum, is_free}
-use Rattle.ocr_turns.specs.declared.view.View.{View}
+use Rattle.ocr_turns.specs.Sums.{one_at, up_to, is_free}
 use Rattle.ocr_turns.specs.declared.view.Terms.{Terms}
 use Rattle.ocr_turns.proofs.Totals.{one_here, one_else}
 
@@ -30,7 +29,7 @@ unmade_at (suc limit) n lt = let len = unmade_length limit in dite (ℕ_discrete
 
 module _ (first : ℕ × ℕ) (limit drawn : ℕ) (lo : 1 ≤ first.0) (hi : first.0 ≤ limit) where
   abbrev front : List ℕ
-  front = 0 ∷ drawn ∷ replicate (2 * limit + 1) 0
+  front = front_words drawn limit
 
   abbrev pub bare_words : List ℕ
   bare_words = front ++ unmade_words limit
@@ -38,10 +37,21 @@ module _ (first : ℕ × ℕ) (limit drawn : ℕ) (lo : 1 ≤ first.0) (hi : fir
   abbrev pub ready_words : List ℕ
   ready_words = set (set bare_words (state_at (2 * limit + 1) first.0) READY) (payload_at (2 * limit + 1) first.0 0) first.1
 
-  front_length : length front ≡ 2 + (2 * limit + 1)
-  front_length = let l : length (replicate {A = ℕ} (2 * limit + 1) 0) ≡ 2 * limit + 1 = length-replicate {A = ℕ} (2 * limit + 1) 0 in omega arith
+  front_length : length front ≡ 16 + (2 * limit + 1)
+  front_length = let l : length (replicate {A = ℕ} (2 * limit + 8) 0) ≡ 2 * limit + 8 = length-replicate {A = ℕ} (2 * limit + 8) 0 in
+      let b : length (replicate {A = ℕ} 8 0) ≡ 8 = length-replicate {A = ℕ} 8 0 in
+      length-append (replicate {A = ℕ} 8 0) (drawn ∷ replicate (2 * limit + 8) 0) ∙ omega arith
 
-  pub bare_length : length bare_words ≡ 2 + (2 * limit + 1) + 33 * limit
+  commit_at : get_or front 0 0 ≡ 0
+  commit_at = let b : length (replicate {A = ℕ} 8 0) ≡ 8 = length-replicate {A = ℕ} 8 0 in
+      get_or-append (replicate {A = ℕ} 8 0) (drawn ∷ replicate (2 * limit + 8) 0) 0 0 (omega arith) ∙ get_or-replicate {A = ℕ} 8 0 0 0 (omega arith)
+
+  -- the words from the draw word on
+  behind : (i : ℕ) → get_or front (8 + i) 0 ≡ get_or (drawn ∷ replicate (2 * limit + 8) 0) i 0
+  behind i = let b : length (replicate {A = ℕ} 8 0) ≡ 8 = length-replicate {A = ℕ} 8 0 in
+      ap (λ (k : ℕ). get_or front (k + i) 0) (sym b) ∙ get_or-append-add (replicate {A = ℕ} 8 0) (drawn ∷ replicate (2 * limit + 8) 0) i 0
+
+  pub bare_length : length bare_words ≡ 16 + (2 * limit + 1) + 33 * limit
   bare_length = let a = front_length in let b = unmade_length limit in length-append front (unmade_words limit) ∙ omega arith
 
   -- a word that is not the first EDT's
@@ -49,18 +59,18 @@ module _ (first : ℕ × ℕ) (limit drawn : ℕ) (lo : 1 ≤ first.0) (hi : fir
   elsewhere i a b = get_or-set_other (set bare_words (state_at (2 * limit + 1) first.0) READY) (payload_at (2 * limit + 1) first.0 0) i first.1 0 b
       ∙ get_or-set_other bare_words (state_at (2 * limit + 1) first.0) i READY 0 a
 
-  in_front : (i : ℕ) → i < 2 + (2 * limit + 1) → slice_index ready_words i ≡ get_or front i 0
+  in_front : (i : ℕ) → i < 16 + (2 * limit + 1) → slice_index ready_words i ≡ get_or front i 0
   in_front i lt = let len = front_length in elsewhere i (λ e. absurd (omega arith)) (λ e. absurd (omega arith)) ∙ get_or-append front (unmade_words limit) 0 i (omega arith)
 
-  turn_at : (p : ℕ) → p < 2 * limit + 1 → get_or front (p + 2) 0 ≡ 0
-  turn_at p lt = ap (λ (i : ℕ). get_or front i 0) (let h : p + 2 ≡ suc (suc p) = omega arith in h) ∙ get_or-replicate {A = ℕ} (2 * limit + 1) p 0 0 lt
+  turn_at : (p : ℕ) → p < 2 * limit + 1 → get_or front (p + 16) 0 ≡ 0
+  turn_at p lt = ap (λ (i : ℕ). get_or front i 0) (let h : p + 16 ≡ 8 + suc (p + 7) = omega arith in h) ∙ (behind (suc (p + 7)) ∙ get_or-replicate {A = ℕ} (2 * limit + 8) (p + 7) 0 0 (omega arith))
 
   pub laid_out : IsLaidOut first limit drawn ready_words
   laid_out = record {
     size = length-set (set bare_words (state_at (2 * limit + 1) first.0) READY) (payload_at (2 * limit + 1) first.0 0) first.1 ∙ (length-set bare_words (state_at (2 * limit + 1) first.0) READY ∙ bare_length);
-    commit = in_front 0 (omega arith);
-    draw = in_front 1 (omega arith);
-    turns = λ p lt. in_front (p + 2) (omega arith) ∙ turn_at p lt;
+    commit = in_front 0 (omega arith) ∙ commit_at;
+    draw = in_front 8 (omega arith) ∙ behind 0;
+    turns = λ p lt. in_front (p + 16) (omega arith) ∙ turn_at p lt;
     first_ready = get_or-set_other (set bare_words (state_at (2 * limit + 1) first.0) READY) (payload_at (2 * limit + 1) first.0 0) (state_at (2 * limit + 1) first.0) first.1 0 (λ e. absurd (omega arith))
         ∙ get_or-set_same bare_words (state_at (2 * limit + 1) first.0) READY 0 (let l = bare_length in omega arith);
     first_payload = get_or-set_same (set bare_words (state_at (2 * limit + 1) first.0) READY) (payload_at (2 * limit + 1) first.0 0) first.1 0

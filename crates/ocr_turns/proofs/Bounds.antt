@@ -1,21 +1,21 @@
 -- The words do not wrap, and what a seat may rely on.
-use Rattle.std.proofs.Common.{◌≡◌, ◌≢◌, ℕ, zero, suc, ◌+◌, ◌*◌, ◌<◌, ◌≤◌, ◌⊎◌, inl, inr, ⊎_elim, Bool, true, false, List, [], ◌∷◌, ◌++◌, length, refl, ap, sym, subst, ◌∙◌, arith, mul-le-mul_right, None, Some, Option}
-use Rattle.std.specs.Prelude.{slice_index, slice_set, MatchOption}
+use Rattle.std.proofs.Common.{◌≡◌, ◌≢◌, ℕ, ◌+◌, ◌*◌, ◌<◌, ◌≤◌, ⊎_elim, List, length, refl, sym, subst, ◌∙◌, arith, mul-le-mul_right, None, Some, Option}
+use Rattle.std.specs.Prelude.{slice_set, MatchOption}
 use mathlib.Core.Option.{some}
 use mathlib.Core.Logic.{dite}
 use native.Mathlib.Decide.{dec_le}
 use lib.ListN.{get_elem?}
 use Rattle.atomic_table.specs.Table.{State}
-use Rattle.atomic_table.proofs.Lists.{set_here, set_again}
+use Rattle.atomic_table.proofs.Lists.{set_here}
 use Rattle.ocr_mail.specs.Mail.{tally}
 use Rattle.ocr_turns.specs.Meaning.{Meaning, Ended}
-use Rattle.ocr_turns.specs.Rule.{weighed, Fits, Over, Seated, Kept, OPEN, mail}
+use Rattle.ocr_turns.specs.Rule.{weighed, Fits, Over, Seated, Kept, mail}
 use Rattle.ocr_turns.specs.Steps.{Sees, SeesEnd}
-use Rattle.ocr_turns.specs.Sums.{total, weigh, one_at, sum_of, below}
+use Rattle.ocr_turns.specs.Sums.{total, one_at, sum_of, below}
 use Rattle.ocr_turns.specs.declared.view.View.{View}
 use Rattle.ocr_turns.specs.declared.view.Terms.{Terms}
 use Rattle.ocr_turns.proofs.Totals.{total_bound, total_bound_more, total_one, total_two, total_alone, at_less, below_ones, up_to_one, up_to_range}
-use Rattle.ocr_turns.proofs.Same.{keeps_at, after}
+use Rattle.ocr_turns.proofs.Same.{keeps_at}
 
 pub same_terms : {G : Type 0} (t u : Terms G) → ◌≡◌ {A = Option (Terms G)} (Some t) (Some u) → t ≡ u
 same_terms t u e = cc e

@@ -12,11 +12,11 @@ use Rattle.atomic_table.proofs.Lists.{set_again, at_last}
 use Rattle.ocr_mail.specs.Mail.{tally, named, without, Has}
 use Rattle.ocr_turns.specs.Contract.{Next, MayCommit, MayClose}
 use Rattle.ocr_turns.specs.Counting.{Counted, CountingLaws, MayCome, debts_by, leaves, tied_to}
-use Rattle.ocr_turns.specs.Owing.{both_debts, times, without_all}
+use Rattle.ocr_turns.specs.Owing.{listed, AreInRange, both_debts, times, without_all}
 use Rattle.ocr_turns.specs.Meaning.{Meaning, Lawful, IsBare, Run, Open, Ended}
 use Rattle.ocr_turns.specs.Rule.{weighed, LogOf, Seated, Kept, Holds, OPEN, RunsIn, OwnsAll, mail, PartsOf}
-use Rattle.ocr_turns.specs.Steps.{Deed, deed, logged, ended_by, shut_by, commits, closes, looks, SeesEnd}
-use Rattle.ocr_turns.specs.Sums.{made_sum, total, weigh, one_at, sum_of, below, weigh_all, load_of, replace_all, less_all, is_free}
+use Rattle.ocr_turns.specs.Steps.{Deed, deed, limit_of, logged, ended_by, shut_by, commits, closes, looks, SeesEnd}
+use Rattle.ocr_turns.specs.Sums.{made_sum, up_to, total, weigh, one_at, sum_of, below, weigh_all, load_of, replace_all, less_all, is_free}
 use Rattle.ocr_turns.specs.declared.view.View.{View}
 use Rattle.ocr_turns.specs.declared.view.Terms.{Terms}
 use Rattle.ocr_turns.proofs.Bounds.{short, shut_most, fits, sees, sees_end, stepped_at}
@@ -24,6 +24,7 @@ use Rattle.ocr_turns.proofs.Histories.{run_more, open_more, log_later, log_more,
 use Rattle.ocr_turns.proofs.Numbered.{keys_replace_all, weigh_keys, at_replace_all}
 use Rattle.ocr_turns.proofs.Same.{keeps_at, after, total_same, ledger_same, numbers_same, numbers_more, places_same, roster_same, owed_same, seated_each}
 use Rattle.ocr_turns.proofs.Apart.{counted_beside}
+use Rattle.ocr_turns.proofs.Ranges.{deed_owed}
 use Rattle.ocr_turns.proofs.Entered.{entered_kept, adds_none, without_none}
 use Rattle.ocr_turns.proofs.Totals.{reverse_twice, total_set, total_one, total_two, weigh_snoc, weigh_at, below_more, load_snoc, less_all_sum, tally_append, without_tally, log_none, at_append}
 
@@ -31,11 +32,11 @@ use Rattle.ocr_turns.proofs.Totals.{reverse_twice, total_set, total_one, total_t
 pub elsewhere : (ws : List ℕ) (i j n : ℕ) → j ≢ i → slice_index (slice_set ws i n) j ≡ slice_index ws j
 elsewhere ws i j n ne = get_or-set_other ws i j n 0 ne
 
-pub behind_first : (ws : List ℕ) (n p : ℕ) → slice_index (slice_set ws 0 n) (p + 2) ≡ slice_index ws (p + 2)
-behind_first ws n p = elsewhere ws 0 (p + 2) n (λ h. omega arith)
+pub behind_first : (ws : List ℕ) (n p : ℕ) → slice_index (slice_set ws 0 n) (p + 16) ≡ slice_index ws (p + 16)
+behind_first ws n p = elsewhere ws 0 (p + 16) n (λ h. omega arith)
 
-pub second_word : (ws : List ℕ) (n : ℕ) → slice_index (slice_set ws 0 n) 1 ≡ slice_index ws 1
-second_word ws n = elsewhere ws 0 1 n (λ h. omega arith)
+pub second_word : (ws : List ℕ) (n : ℕ) → slice_index (slice_set ws 0 n) 8 ≡ slice_index ws 8
+second_word ws n = elsewhere ws 0 8 n (λ h. omega arith)
 
 -- the words after the commit word grew
 abbrev pub grown : List ℕ → ℕ → List ℕ
@@ -45,10 +46,10 @@ module _ (ws : List ℕ) (more : ℕ) where
   same_length : length (grown ws more) ≡ length ws
   same_length = length-set ws 0 ((slice_index ws 0 + more) % 18446744073709551616)
 
-  draw_word : slice_index (grown ws more) 1 ≡ slice_index ws 1
+  draw_word : slice_index (grown ws more) 8 ≡ slice_index ws 8
   draw_word = second_word ws ((slice_index ws 0 + more) % 18446744073709551616)
 
-  turn_word : (p : ℕ) → slice_index (grown ws more) (p + 2) ≡ slice_index ws (p + 2)
+  turn_word : (p : ℕ) → slice_index (grown ws more) (p + 16) ≡ slice_index ws (p + 16)
   turn_word p = behind_first ws ((slice_index ws 0 + more) % 18446744073709551616) p
 
   commit_word : 0 < length ws → slice_index (grown ws more) 0 ≡ (slice_index ws 0 + more) % 18446744073709551616
@@ -236,18 +237,36 @@ module _ {G E P N F : Type 0} (m : Meaning G E P N F) (laws : Lawful m) (claws :
           let two = total_two (keeps_at p) s.views i id u v ne u_at at in let sum = k.places.keeper p lt in absurd (omega arith))
           (λ none. omega arith)
 
+      may_come : Open m.stops J → MayCome m t (reverse J) e
+      may_come op = let twice = reverse_twice J in let next_is : Next m t J v done = may.legal J op (fits m t J s k id v at was_open) in
+          record { limits = k.limits.0; run = subst (Run (m.legal t.setting.value t.limit)) (sym twice) k.ledger.run; legal = subst (λ l. m.legal t.setting.value t.limit l e) (sym twice) next_is.legal }
+
+      -- what it makes was drawn, and is not made
+      unmade_yet : Open m.stops J → (n : ℕ) → 1 ≤ sum_of (one_at n) (m.makes e) → (1 ≤ n) × (n ≤ t.limit) × (up_to (one_at n) m.opened + made_sum m.makes (one_at n) (reverse (reverse J)) ≡ 0)
+      unmade_yet op n has =
+          let sum = less_all_sum (one_at n) (m.makes e) v.drawn may.drawn in let free = (fits m t J s k id v at was_open).unmade n (omega arith) in
+          let a = free.unopened in let b = free.unmade in let same = ap (made_sum m.makes (one_at n)) (reverse_twice J) in (free.least, free.most, omega arith)
+
+      -- what it adds to what the seat owes
+      adds_owed : Open m.stops J → AreInRange (limit_of v.terms) done.debts []
+      adds_owed op =
+          let next_is : Next m t J v done = may.legal J op (fits m t J s k id v at was_open) in
+          subst (λ l. AreInRange l done.debts []) (sym (ap limit_of ((k.seated id v at).terms is_out)))
+          (deed_owed m claws t (reverse J) e (may_come op) cnt.told (λ n has. let r = unmade_yet op n has in (r.0, r.1)) (m.counting.wakes t.limit e v.parts) (ap (λ l. m.counting.resumes t.setting.value t.limit l e) (reverse_twice J) ∙ next_is.wakes) (m.counting.counts t.limit e v.parts) (ap (λ l. listed (m.counting.creates t.setting.value t.limit l e)) (reverse_twice J) ∙ next_is.counts))
+
       counted_entered : Open m.stops J → Counted m t (reverse (J ++ e ∷ [])) (after s (grown s.words 1) s.homes id (logged v (slice_index s.words 0) done))
       counted_entered op =
-          let can = fits m t J s k id v at was_open in let next_is : Next m t J v done = may.legal J op can in
+          let next_is : Next m t J v done = may.legal J op (fits m t J s k id v at was_open) in
           let twice = reverse_twice J in
           let wakes : m.counting.resumes t.setting.value t.limit (reverse (reverse J)) e ≡ done.debts.resumes = ap (λ l. m.counting.resumes t.setting.value t.limit l e) twice ∙ next_is.wakes in
+          let counts : listed (m.counting.creates t.setting.value t.limit (reverse (reverse J)) e) ≡ done.debts.made = ap (λ l. listed (m.counting.creates t.setting.value t.limit l e)) twice ∙ next_is.counts in
           subst (λ l. Counted m t l (after s (grown s.words 1) s.homes id (logged v (slice_index s.words 0) done))) (sym (reverse-append J (e ∷ [])))
           (entered_kept m claws laws t (reverse J) e
-          (record { limits = k.limits.0; run = subst (Run (m.legal t.setting.value t.limit)) (sym twice) k.ledger.run; legal = subst (λ l. m.legal t.setting.value t.limit l e) (sym twice) next_is.legal })
-          (λ n has. let sum = less_all_sum (one_at n) (m.makes e) v.drawn may.drawn in let free = can.unmade n (omega arith) in let a = free.unopened in let b = free.unmade in let same = ap (made_sum m.makes (one_at n)) twice in (free.least, free.most, omega arith))
+          (may_come op)
+          (unmade_yet op)
           s cnt id v (logged v (slice_index s.words 0) done) at is_out (grown s.words 1) (same_length s.words 1)
           (λ i beyond. get_or-set_other s.words 0 i ((slice_index s.words 0 + 1) % 18446744073709551616) 0 (λ z. absurd (omega arith)))
-          (ap (λ l. both_debts v.debts (debts_by m e l)) (sym wakes)) refl
+          (λ i. both_debts v.debts (record { unput = listed (m.counting.sets e); put = []; made = sym counts i; resumes = sym wakes i; lasts = [] })) refl
           may.claims.starts may.claims.waits (λ n has. may.claims.resumes n (let same = ap (times n) wakes in omega arith))
           (λ p has. let r = may.keeps p in let a = r.0 in let b = r.1 in omega arith) same_keys alone_at)
 
@@ -299,7 +318,7 @@ module _ {G E P N F : Type 0} (m : Meaning G E P N F) (laws : Lawful m) (claws :
             };
             numbers = numbers_more m t J s id v w at ws s.homes e k.numbers (draw_word s.words 1) (λ f. less_all_sum f (m.makes e) v.drawn may.drawn) refl refl;
             places = places_same m t J s id v w at ws s.homes (J ++ e ∷ []) refl (same_length s.words 1) (λ p _. turn_word s.words 1 p) same_keys
-                (λ p lt free. stays ok p (let sum = k.places.keeper p lt in let one = total_one (keeps_at p) s.views id v at in let f : is_free (slice_index s.words (p + 2)) ≡ 1 = ap is_free free in let r = may.keeps p in let a = r.0 in let b = r.1 in omega arith)) k.places;
+                (λ p lt free. stays ok p (let sum = k.places.keeper p lt in let one = total_one (keeps_at p) s.views id v at in let f : is_free (slice_index s.words (p + 16)) ≡ 1 = ap is_free free in let r = may.keeps p in let a = r.0 in let b = r.1 in omega arith)) k.places;
             owed = λ f.
                 let a = total_set (λ (u : View G E P N F). tally f u.owed) s.views id v w at in let old = k.owed f in
                 let new = mail_more m t f J e ms next_is.sends in
@@ -309,7 +328,7 @@ module _ {G E P N F : Type 0} (m : Meaning G E P N F) (laws : Lawful m) (claws :
             roster = roster_same m t J s id v w at ws s.homes k.roster refl refl refl refl refl;
             seated = seated_each m t J s id v w at ws s.homes (J ++ e ∷ []) mine (λ i u ne u_at. later ok op u (k.seated i u u_at) (theirs i u ne u_at) (not_theirs i u ne u_at ok));
           } in
-          (w, (record { history = J ++ e ∷ []; kept = now; counted = counted_entered op }, (refl, inl (omega arith, refl, sees m t (J ++ e ∷ []) (after s ws s.homes id w) now id w (stepped_at s.views id v w at) is_out))))
+          (w, (record { history = J ++ e ∷ []; kept = now; counted = counted_entered op }, (refl, inl (omega arith, refl, (sees m t (J ++ e ∷ []) (after s ws s.homes id w) now id w (stepped_at s.views id v w at) is_out, adds_owed op)))))
 
       pub commit_at : CommitGoal
       commit_at = ⊎_elim (λ h. entered h.0 h.1 h.2)
@@ -339,7 +358,7 @@ module _ {G E P N F : Type 0} (m : Meaning G E P N F) (laws : Lawful m) (claws :
           (λ n has. let none = ap (sum_of (one_at n)) bare.makes in absurd (omega arith))
           s cnt id v (ended_by v (slice_index s.words 0) e) at is_out (grown s.words 281474976710657) (same_length s.words 281474976710657)
           (λ i beyond. get_or-set_other s.words 0 i ((slice_index s.words 0 + 281474976710657) % 18446744073709551616) 0 (λ z. absurd (omega arith)))
-          (adds_none m e v.debts (m.counting.resumes t.setting.value t.limit (reverse (reverse J)) e) bare.creates bare.sets wakes)
+          (adds_none m e v.debts (m.counting.resumes t.setting.value t.limit (reverse (reverse J)) e) (m.counting.creates t.setting.value t.limit (reverse (reverse J)) e) (bare.creates t.setting.value t.limit (reverse (reverse J))) bare.sets wakes)
           (without_none (leaves m e) v.claims (λ n. ap (λ b. b && m.ends e n) (bare.runs n)))
           (λ n on. let off = no_start m laws e n (bare.runs n) in absurd (cc (on, off)))
           (λ n p on. let off = bare.waits n in absurd (cc (on, off)))

@@ -1,25 +1,24 @@
 -- The steps on the words that count keep the second rule.
-use Rattle.std.proofs.Common.{◌≡◌, ◌≢◌, ℕ, zero, suc, ◌+◌, ◌-◌, ◌*◌, ◌%◌, ◌<◌, ◌≤◌, ◌⊎◌, inl, inr, ⊎_elim, Bool, true, false, List, [], ◌∷◌, ◌++◌, length, get_or, reverse, refl, ap, sym, subst, ◌∙◌, arith, get_or-set_same, get_or-set_other, None, Some, Option, eqb-true, if◌then◌else◌, ◌&&◌, ◌==◌}
+use Rattle.std.proofs.Common.{◌≡◌, ◌≢◌, ℕ, ◌+◌, ◌-◌, ◌%◌, ◌<◌, ◌≤◌, inl, inr, ⊎_elim, Bool, true, false, List, [], ◌∷◌, ◌++◌, length, refl, ap, sym, subst, ◌∙◌, arith, get_or-set_same, get_or-set_other, None, Some, Option, if◌then◌else◌}
 use Rattle.std.specs.Prelude.{slice_index, slice_set}
 use Rattle.std.proofs.Math.ListN.{length-set}
-use mathlib.Core.Option.{some, some-injective, some-ne-none}
+use mathlib.Core.Option.{some}
 use mathlib.Core.Logic.{dite}
-use native.Mathlib.Decide.{ℕ_discrete, dec_le}
+use native.Mathlib.Decide.{ℕ_discrete}
 use lib.ListN.{get_elem?}
 use Rattle.atomic_table.specs.Table.{State}
 use Rattle.atomic_table.proofs.Lists.{at_set}
 use Rattle.ocr_mail.specs.Mail.{tally, drop_one}
 use Rattle.ocr_turns.specs.declared.view.View.{View}
 use Rattle.ocr_turns.specs.declared.view.Terms.{Terms}
-use Rattle.ocr_turns.specs.declared.debts.Debts.{Debts}
-use Rattle.ocr_turns.specs.Counting.{Account, IsInOrder, Counted, Stakes, Consistent, account, slots_of, payload_of, awaited, tied_to, is_started, is_ended, is_none, is_true, unset_of, state_at, payload_at, READY, BUSY, PARKED}
+use Rattle.ocr_turns.specs.Counting.{Account, IsInOrder, Counted, Stakes, account, slots_of, payload_of, awaited, tied_to, is_started, is_ended, is_none, is_true, state_at, payload_at, READY, BUSY, PARKED}
 use Rattle.ocr_turns.specs.Meaning.{Meaning}
 use Rattle.ocr_turns.specs.Owing.{put_debts, counted_debts, made_debts, resumed_debts, owed_slots, of_edt, of_slot, making, times}
-use Rattle.ocr_turns.specs.Sums.{is_free, total, weigh, below, one_at, sum_of, less_one, remove_at}
-use Rattle.ocr_turns.proofs.Totals.{total_set, total_one, tally_append, drop_tally, sum_append, less_sum, at_snoc_at, one_here, one_else}
+use Rattle.ocr_turns.specs.Sums.{is_free, total, one_at, less_one}
+use Rattle.ocr_turns.proofs.Totals.{total_set, total_one, tally_append, drop_tally, sum_append, less_sum, one_here, one_else}
 use Rattle.ocr_turns.proofs.Numbered.{at_remove}
-use Rattle.ocr_turns.proofs.Accounts.{account_is, counting, busy, parked, ready, falls, claimed, parks, resumed}
-use Rattle.ocr_turns.proofs.Owing.{times_last, some_view, total_less, spot_less, tally_less, tally_at, slot_here, slot_else, first_tally, less_made, making_at, dropped_in, is_some}
+use Rattle.ocr_turns.proofs.Accounts.{account_is, counting, ready, falls, claimed, parks, resumed}
+use Rattle.ocr_turns.proofs.Owing.{times_last, tally_at, slot_here, slot_else, first_tally, less_made, making_at, dropped_in, is_some}
 
 some_same : {a b : ℕ} → ◌≡◌ {A = Option ℕ} (Some a) (Some b) → a ≡ b
 some_same e = cc e

@@ -1,23 +1,23 @@
 -- The step that draws a number keeps the rule.
-use Rattle.std.proofs.Common.{◌≡◌, ◌≢◌, ℕ, zero, suc, ◌+◌, ◌-◌, ◌*◌, ◌%◌, ◌<◌, ◌≤◌, ◌⊎◌, inl, inr, ⊎_elim, List, [], ◌∷◌, ◌++◌, length, reverse, refl, ap, sym, subst, ◌∙◌, arith, get_or-set_same, get_or-set_other, None, Some, Option}
+use Rattle.std.proofs.Common.{◌≡◌, ℕ, suc, ◌+◌, ◌%◌, ◌<◌, ◌≤◌, ◌⊎◌, inl, inr, ⊎_elim, List, [], ◌∷◌, ◌++◌, length, reverse, refl, ap, sym, subst, ◌∙◌, arith, get_or-set_same, None, Some, Option}
 use Rattle.std.specs.Prelude.{slice_index, slice_set, MatchOption}
 use Rattle.std.proofs.Math.ListN.{length-set}
 use mathlib.Core.Option.{some}
 use mathlib.Core.Logic.{dite}
 use native.Mathlib.Decide.{dec_le}
 use lib.ListN.{get_elem?}
-use Rattle.atomic_table.specs.Table.{State, Me, keeps, stepped}
+use Rattle.atomic_table.specs.Table.{State, keeps, stepped}
 use Rattle.atomic_table.proofs.Lists.{at_set}
 use Rattle.ocr_turns.specs.Counting.{Counted}
 use Rattle.ocr_turns.specs.Meaning.{Meaning}
-use Rattle.ocr_turns.specs.Rule.{weighed, Seated, Kept, Holds}
+use Rattle.ocr_turns.specs.Rule.{Seated, Kept, Holds}
 use Rattle.ocr_turns.specs.Steps.{limit_of, with_drawn, filled_by, draws_from}
 use Rattle.ocr_turns.specs.Sums.{total, sum_of, up_to}
 use Rattle.ocr_turns.specs.declared.view.View.{View}
 use Rattle.ocr_turns.specs.declared.view.Terms.{Terms}
 use Rattle.ocr_turns.proofs.Bounds.{filled_most, sees, stepped_at}
 use Rattle.ocr_turns.proofs.Commits.{elsewhere}
-use Rattle.ocr_turns.proofs.Same.{Reached, after, total_same, ledger_same, places_same, roster_same, owed_same, seated_each}
+use Rattle.ocr_turns.proofs.Same.{Reached, after, ledger_same, places_same, roster_same, owed_same, seated_each}
 use Rattle.ocr_turns.proofs.Apart.{counted_beside}
 use Rattle.ocr_turns.proofs.Totals.{total_set, sum_append}
 
@@ -30,13 +30,13 @@ next_number f n = rw (plus n) refl
 module _ {G E P N F : Type 0} (m : Meaning G E P N F) (t : Terms G) where
   module _ (J : List E) (s : State (Option P) (View G E P N F)) (k : Kept m t J s) (cnt : Counted m t (reverse J) s) (id : ℕ) (v : View G E P N F) (c : List (ℕ × Option P)) (at : get_elem? s.views id ≡ some v) (more : v.full ≡ None) (is_out : 0 < v.root + v.seat) where
     abbrev pub n : ℕ
-    n = slice_index s.words 1
+    n = slice_index s.words 8
 
     abbrev pub next : List ℕ
-    next = slice_set s.words 1 ((n + 1) % 18446744073709551616)
+    next = slice_set s.words 8 ((n + 1) % 18446744073709551616)
 
     abbrev pub DrawGoal : Type 0
-    DrawGoal = (w : View G E P N F) × (Holds m t (stepped s 1 ((n + 1) % 18446744073709551616) id c w keeps) × draws_from m (v, c) n (w, c))
+    DrawGoal = (w : View G E P N F) × (Holds m t (stepped s 8 ((n + 1) % 18446744073709551616) id c w keeps) × draws_from m (v, c) n (w, c))
 
     -- the view changes what it knows of numbers
     drew : (ns : List ℕ) (full reached : Option ℕ) (filled d : ℕ)
@@ -51,13 +51,13 @@ module _ {G E P N F : Type 0} (m : Meaning G E P N F) (t : Terms G) where
         let seat = k.seated id v at in
         let few = filled_most m t J s k in let old_fulls = k.numbers.fulls in let lim = k.limits in
         let is : (n + 1) % 18446744073709551616 ≡ n + 1 = omega (arith, lim.1) in
-        let some_words : 1 < length s.words = (let w = k.places.words in omega arith) in
-        let word : slice_index next 1 ≡ n + 1 = get_or-set_same s.words 1 ((n + 1) % 18446744073709551616) 0 some_words ∙ is in
+        let some_words : 8 < length s.words = (let w = k.places.words in omega arith) in
+        let word : slice_index next 8 ≡ n + 1 = get_or-set_same s.words 8 ((n + 1) % 18446744073709551616) 0 some_words ∙ is in
         let mine : Seated m t s.homes J w = record { log = seat.log; joined = seat.joined; rises = seat.rises; all_rise = seat.all_rise; parts = seat.parts; facts = seat.facts; sent = seat.sent; own = seat.own; weight = seat.weight; light = seat.light; bounded = seat.bounded; filled = room; shut = seat.shut; over = seat.over; empty = seat.empty; spent = λ z. absurd (omega arith); terms = seat.terms; not_root = seat.not_root } in
         record {
           limits = k.limits;
           share = k.share;
-          ledger = ledger_same m t J s id v w at next s.homes k.ledger (elsewhere s.words 1 0 ((n + 1) % 18446744073709551616) (λ h. omega arith)) (λ f. refl) refl refl;
+          ledger = ledger_same m t J s id v w at next s.homes k.ledger (elsewhere s.words 8 0 ((n + 1) % 18446744073709551616) (λ h. omega arith)) (λ f. refl) refl refl;
           numbers = record {
             drawn = d;
             draws = subst (λ (x : ℕ). ((x ≡ d) × (d ≤ t.limit)) ⊎ ((d ≡ t.limit) × (t.limit ≤ x))) (sym word) draws;
@@ -65,7 +65,7 @@ module _ {G E P N F : Type 0} (m : Meaning G E P N F) (t : Terms G) where
             fulls = let tot = total_set (λ (u : View G E P N F). u.filled) s.views id v w at in omega arith;
             reached = λ i u u_at. subst (λ x. Reached t.limit x u.reached) (sym word) (⊎_elim (λ h. subst (λ (y : View G E P N F). Reached t.limit (n + 1) y.reached) h.1 is_reached) (λ h. still u.reached (k.numbers.reached i u h.1)) (at_set s.views id i w u u_at));
           };
-          places = places_same m t J s id v w at next s.homes J refl (length-set s.words 1 ((n + 1) % 18446744073709551616)) (λ p _. elsewhere s.words 1 (p + 2) ((n + 1) % 18446744073709551616) (λ h. omega arith)) (λ p. refl) (λ p _ _. refl) k.places;
+          places = places_same m t J s id v w at next s.homes J refl (length-set s.words 8 ((n + 1) % 18446744073709551616)) (λ p _. elsewhere s.words 8 (p + 16) ((n + 1) % 18446744073709551616) (λ h. omega arith)) (λ p. refl) (λ p _ _. refl) k.places;
           owed = owed_same m t J s id v w at next s.homes k.owed (λ f. refl);
           roster = roster_same m t J s id v w at next s.homes k.roster refl refl refl refl refl;
           seated = seated_each m t J s id v w at next s.homes J mine (λ i u _ u_at. k.seated i u u_at);
@@ -90,7 +90,7 @@ module _ {G E P N F : Type 0} (m : Meaning G E P N F) (t : Terms G) where
               kept = drew v.drawn (Some n) (Some n) (v.filled + 1) k.numbers.drawn
                   (inr (⊎_elim (λ z. let a = z.0 in let b = z.1 in omega arith) (λ z. z.0) k.numbers.draws, omega arith))
                   (λ f. refl) (omega arith) (omega arith) (omega arith);
-              counted = counted_beside m t (reverse J) s cnt id v (filled_by v n) at refl refl is_out (λ p. omega arith) 1 ((n + 1) % 18446744073709551616) s.homes (omega arith) refl;
+              counted = counted_beside m t (reverse J) s cnt id v (filled_by v n) at refl refl is_out (λ p. omega arith) 8 ((n + 1) % 18446744073709551616) s.homes (omega arith) refl;
             },
             (refl, inr (omega arith, refl)),
           ),
@@ -104,7 +104,7 @@ module _ {G E P N F : Type 0} (m : Meaning G E P N F) (t : Terms G) where
         (omega arith) (none v.reached (k.numbers.reached id v at)) seat.filled in (
           with_drawn v (n + 1),
           (
-            record { history = J; kept = now; counted = counted_beside m t (reverse J) s cnt id v (with_drawn v (n + 1)) at refl refl is_out (λ p. omega arith) 1 ((n + 1) % 18446744073709551616) s.homes (omega arith) refl },
+            record { history = J; kept = now; counted = counted_beside m t (reverse J) s cnt id v (with_drawn v (n + 1)) at refl refl is_out (λ p. omega arith) 8 ((n + 1) % 18446744073709551616) s.homes (omega arith) refl },
             (
               refl,
               inl (

@@ -41,8 +41,8 @@ below_least f (suc d) k lt = dite (ℕ_discrete k d) (λ e. let h = ap f e in om
 module _ {G E P N F : Type 0} (m : Meaning G E P N F) (laws : CountingLaws m) (runs : Lawful m) (t : Terms G) (past : List E) (e : E) (may : MayCome m t past e)
     (unmade : (n : ℕ) → 1 ≤ sum_of (one_at n) (m.makes e) → (1 ≤ n) × (n ≤ t.limit) × (up_to (one_at n) m.opened + made_sum m.makes (one_at n) (reverse past) ≡ 0))
     (s : State (Option P) (View G E P N F)) (k : Counted m t past s) (id : ℕ) (v w : View G E P N F) (at : get_elem? s.views id ≡ some v) (is_out : 0 < w.root + w.seat)
-    (words : List ℕ) (same_length : length words ≡ length s.words) (same_words : (i : ℕ) → 2 + length s.homes ≤ i → slice_index words i ≡ slice_index s.words i)
-    (debts : w.debts ≡ both_debts v.debts (debts_by m e (m.counting.resumes t.setting.value t.limit (reverse past) e))) (claims : w.claims ≡ without_all (leaves m e) v.claims)
+    (words : List ℕ) (same_length : length words ≡ length s.words) (same_words : (i : ℕ) → 16 + length s.homes ≤ i → slice_index words i ≡ slice_index s.words i)
+    (debts : w.debts ≡ both_debts v.debts (debts_by m e (m.counting.resumes t.setting.value t.limit (reverse past) e) (m.counting.creates t.setting.value t.limit (reverse past) e))) (claims : w.claims ≡ without_all (leaves m e) v.claims)
     (starter : (n : ℕ) → m.starts e n ≡ true → 1 ≤ times n v.claims) (waiter : (n p : ℕ) → m.counting.waits e n ≡ Some p → 1 ≤ times n v.claims)
     (sleeps : (n : ℕ) → 1 ≤ times n (m.counting.resumes t.setting.value t.limit (reverse past) e) → times n v.claims ≡ 0)
     (keeps : (p : ℕ) → 1 ≤ m.touches t.limit e p → 1 ≤ weigh (one_at p) v.parts) (same_parts : (p : ℕ) → weigh (one_at p) w.parts ≡ weigh (one_at p) v.parts)
@@ -63,8 +63,8 @@ module _ {G E P N F : Type 0} (m : Meaning G E P N F) (laws : CountingLaws m) (r
   tot : (f : Vs → ℕ) → total f views + f v ≡ total f s.views + f w
   tot f = total_set f s.views id v w at
 
-  more_made : (n : ℕ) → total (λ u. making n u.debts.made) views ≡ total (λ u. making n u.debts.made) s.views + making n (listed (m.counting.creates e))
-  more_made n = let a = tot (λ u. making n u.debts.made) in let b = ap (λ d. making n d.made) debts in let h = making_append n v.debts.made (listed (m.counting.creates e)) in omega arith
+  more_made : (n : ℕ) → total (λ u. making n u.debts.made) views ≡ total (λ u. making n u.debts.made) s.views + making n (listed (m.counting.creates t.setting.value t.limit (reverse past) e))
+  more_made n = let a = tot (λ u. making n u.debts.made) in let b = ap (λ d. making n d.made) debts in let h = making_append n v.debts.made (listed (m.counting.creates t.setting.value t.limit (reverse past) e)) in omega arith
 
   more_unput : (f : ℕ × ℕ → ℕ) → total (λ u. tally f u.debts.unput) views ≡ total (λ u. tally f u.debts.unput) s.views + tally f (listed (m.counting.sets e))
   more_unput f = let a = tot (λ u. tally f u.debts.unput) in let b = ap (λ d. tally f d.unput) debts in let h = tally_append f v.debts.unput (listed (m.counting.sets e)) in omega arith
@@ -183,25 +183,25 @@ module _ {G E P N F : Type 0} (m : Meaning G E P N F) (laws : CountingLaws m) (r
       let cl : claims_now n ≤ claims_before n = ⊎_elim (λ y. let z = y.1 in omega arith) (λ y. let z = y.1 in omega arith) (claims_after n) in
       ⊎_elim
       (λ y.
-      let here = count_here (m.counting.creates e) n y.0 (slots_of m t past n) y.1 in let owes = here.1 in
+      let here = count_here (m.counting.creates t.setting.value t.limit (reverse past) e) n y.0 (slots_of m t past n) y.1 in let owes = here.1 in
       let small = (laws.creating t past e n y.0 may y.1).1 in
       let all : unset_of (slots_of m t (e ∷ past) n) (payload_of m t (e ∷ past) n) ≡ y.0 =
       ap (λ o. unset_of o (payload_of m t (e ∷ past) n)) here.0 ∙ below_all (λ j. is_none (payload_of m t (e ∷ past) n j)) y.0 (λ j. ap is_none (unmade_payload n j none)) in
       let is : IsCounting (after n) = record { word = omega arith; most = omega arith; bare = omega arith; once = (let z = ap is_free (same ∙ word) in omega arith) } in
       subst (λ o. IsInOrder o (after n)) (sym here.0) (inl is))
       (λ y.
-      let none_made = count_else (m.counting.creates e) n (slots_of m t past n) y in let owes = none_made.1 in
+      let none_made = count_else (m.counting.creates t.setting.value t.limit (reverse past) e) n (slots_of m t past n) y in let owes = none_made.1 in
       let is : IsBlank (after n) = record { word = omega arith; bare = omega arith } in
       subst (λ o. IsInOrder o (after n)) (sym (none_made.0 ∙ none)) is)
-      (makes_for (m.counting.creates e) n)
+      (makes_for (m.counting.creates t.setting.value t.limit (reverse past) e) n)
 
   -- AN EDT THAT WAS MADE
   module _ (n d : ℕ) (made : slots_of m t past n ≡ Some d) where
     stays_made : slots_of m t (e ∷ past) n ≡ Some d
     stays_made = slots_later m laws runs t past e may k.told unmade n d made
 
-    no_more_made : making n (listed (m.counting.creates e)) ≡ 0
-    no_more_made = ⊎_elim (λ y. absurd (clash (slots_of m t past n) d (created_none m laws runs t past e may k.told unmade n y.0 y.1) made)) (λ y. (count_else (m.counting.creates e) n None y).1) (makes_for (m.counting.creates e) n)
+    no_more_made : making n (listed (m.counting.creates t.setting.value t.limit (reverse past) e)) ≡ 0
+    no_more_made = ⊎_elim (λ y. absurd (clash (slots_of m t past n) d (created_none m laws runs t past e may k.told unmade n y.0 y.1) made)) (λ y. (count_else (m.counting.creates t.setting.value t.limit (reverse past) e) n None y).1) (makes_for (m.counting.creates t.setting.value t.limit (reverse past) e) n)
 
     from_counting : IsCounting (before n) → IsCounting (after n)
     from_counting h =
@@ -320,8 +320,8 @@ module _ {G E P N F : Type 0} (m : Meaning G E P N F) (laws : CountingLaws m) (r
         (at_either v.debts.unput (listed (m.counting.sets e)) i (n, q, x) (ap (λ d. get_elem? d.unput i) (sym debts) ∙ there));
     made = λ i n d there. ⊎_elim
         (λ h. made_later v old i n d h)
-        (λ h. (count_here (m.counting.creates e) n d (slots_of m t past n) (at_listed (m.counting.creates e) h.0 (n, d) h.1)).0)
-        (at_either v.debts.made (listed (m.counting.creates e)) i (n, d) (ap (λ x. get_elem? x.made i) (sym debts) ∙ there));
+        (λ h. (count_here (m.counting.creates t.setting.value t.limit (reverse past) e) n d (slots_of m t past n) (at_listed (m.counting.creates t.setting.value t.limit (reverse past) e) h.0 (n, d) h.1)).0)
+        (at_either v.debts.made (listed (m.counting.creates t.setting.value t.limit (reverse past) e)) i (n, d) (ap (λ x. get_elem? x.made i) (sym debts) ∙ there));
     claims = λ n has. ⊎_elim (λ y. let z = y.2 in absurd (omega arith)) (λ y. let z = y.2 in old.claims n (omega arith)) (claims_after n);
     tied = λ n p has is. ⊎_elim (λ y. let z = y.2 in absurd (omega arith))
         (λ y. let z = y.2 in let same = same_parts p in
@@ -368,8 +368,8 @@ without_none test [] off = refl
 without_none test (n ∷ ns) off = ap (λ l. n ∷ l) (without_none test ns off) ∙ sym (ap (λ b. if b then without_all test ns else n ∷ without_all test ns) (off n))
 
 -- an entry that nobody waits by, is resumed by or is made by adds nothing to what is owed
-pub adds_none : {G E P N F : Type 0} (m : Meaning G E P N F) (e : E) (d : Debts) (rs : List ℕ) → m.counting.creates e ≡ None → m.counting.sets e ≡ None → rs ≡ [] → d ≡ both_debts d (debts_by m e rs)
-adds_none m e d rs creates sets none = λ i. record {
+pub adds_none : {G E P N F : Type 0} (m : Meaning G E P N F) (e : E) (d : Debts) (rs : List ℕ) (one : Option (ℕ × ℕ)) → one ≡ None → m.counting.sets e ≡ None → rs ≡ [] → d ≡ both_debts d (debts_by m e rs one)
+adds_none m e d rs one creates sets none = λ i. record {
   unput = sym (ap (λ o. d.unput ++ listed o) sets ∙ nil_append d.unput) i;
   put = sym (nil_append d.put) i;
   made = sym (ap (λ o. d.made ++ listed o) creates ∙ nil_append d.made) i;

@@ -12,6 +12,7 @@ pub mod Sole
 pub mod Accounts
 pub mod Owing
 pub mod Slots
+pub mod Ranges
 pub mod Counting
 pub mod Apart
 pub mod Entered

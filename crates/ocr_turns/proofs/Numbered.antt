@@ -1,5 +1,5 @@
 -- Lists whose items have numbers: what is found, replaced and taken out.
-use Rattle.std.proofs.Common.{◌≡◌, ◌≢◌, ℕ, zero, suc, ◌+◌, ◌<◌, ◌≤◌, ◌&&◌, ◌⊎◌, inl, inr, ⊎_elim, List, [], ◌∷◌, ◌++◌, length, set, take, drop, refl, ap, sym, subst, ◌∙◌, arith, eq-eqb, ne_eqb, eqb-true, Bool, true, false, Option, Some, None, if◌then◌else◌, ◌==◌}
+use Rattle.std.proofs.Common.{◌≡◌, ◌≢◌, ℕ, zero, suc, ◌+◌, ◌<◌, ◌≤◌, ◌⊎◌, inl, inr, ⊎_elim, List, [], ◌∷◌, ◌++◌, length, set, refl, ap, sym, ◌∙◌, arith, eq-eqb, ne_eqb, eqb-true, true, false, Option, Some, if◌then◌else◌, ◌==◌}
 use mathlib.Core.Option.{some, some-injective, some-ne-none}
 use mathlib.Core.Logic.{dite}
 use native.Mathlib.Decide.{ℕ_discrete}
@@ -7,8 +7,8 @@ use lib.ListN.{get_elem?}
 use Rattle.std.specs.List.{remove}
 use Rattle.ocr_mail.specs.Mail.{drop_one, same_name}
 use Rattle.ocr_turns.specs.Clerks.{IsFirst, IsFirstNamed}
-use Rattle.ocr_turns.specs.Sums.{weigh, one_at, keys, find, replace, replace_all, remove_at, as_some, sum_of, less_one}
-use Rattle.ocr_turns.proofs.Totals.{one_here, one_else, weigh_at}
+use Rattle.ocr_turns.specs.Sums.{weigh, one_at, keys, find, replace, replace_all, remove_at, sum_of, less_one}
+use Rattle.ocr_turns.proofs.Totals.{one_else, weigh_at}
 
 weigh_sum : {A : Type 0} (f : ℕ → ℕ) (xs : List (ℕ × A)) → weigh f xs ≡ sum_of f (keys xs)
 weigh_sum f [] = refl

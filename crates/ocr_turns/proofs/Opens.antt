@@ -1,6 +1,6 @@
 -- A new table keeps both rules.
-use Rattle.std.proofs.Common.{◌≡◌, ◌≢◌, ℕ, zero, suc, ◌+◌, ◌-◌, ◌*◌, ◌<◌, ◌≤◌, ◌⊎◌, inl, inr, ⊎_elim, true, false, ◌==◌, if◌then◌else◌, List, [], ◌∷◌, length, set, map, refl, ap, sym, subst, ◌∙◌, arith, None, Some, Option}
-use Rattle.std.specs.Prelude.{replicate, slice_index, slice_set, MatchOption}
+use Rattle.std.proofs.Common.{◌≡◌, ℕ, zero, suc, ◌+◌, ◌*◌, ◌<◌, ◌≤◌, ◌⊎◌, inl, inr, ⊎_elim, true, false, ◌==◌, if◌then◌else◌, List, [], ◌∷◌, length, set, map, refl, ap, sym, subst, ◌∙◌, arith, Some, Option}
+use Rattle.std.specs.Prelude.{replicate, slice_index, MatchOption}
 use Rattle.std.proofs.Math.ListN.{length-set}
 use Rattle.std.proofs.lemmas.List.{length-replicate}
 use mathlib.Core.Option as maybe
@@ -99,7 +99,7 @@ module _ {G E P N F : Type 0} (m : Meaning G E P N F) (laws : CountingLaws m) (t
       draws = inl (laid.draw, ok.few);
       numbers = λ f. omega arith;
       fulls = omega arith;
-      reached = λ i u there. subst (λ (y : View G E P N F). MatchOption y.reached (Unit {0}) (λ _. t.limit ≤ slice_index ws 1)) (one_view (rooted t) u i there) tt;
+      reached = λ i u there. subst (λ (y : View G E P N F). MatchOption y.reached (Unit {0}) (λ _. t.limit ≤ slice_index ws 8)) (one_view (rooted t) u i there) tt;
     };
     places = record {
       words = omega arith;

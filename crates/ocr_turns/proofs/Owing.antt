@@ -1,14 +1,14 @@
 -- Sums over what views owe and have claimed.
-use Rattle.std.proofs.Common.{◌≡◌, ◌≢◌, ℕ, zero, suc, ◌+◌, ◌-◌, ◌*◌, ◌<◌, ◌≤◌, ◌⊎◌, inl, inr, ⊎_elim, List, [], ◌∷◌, ◌++◌, length, set, refl, ap, sym, subst, ◌∙◌, arith, eq-eqb, ne_eqb, eqb-true, Bool, true, false, Option, Some, None, if◌then◌else◌, ◌&&◌, ◌||◌, ◌==◌}
+use Rattle.std.proofs.Common.{◌≡◌, ◌≢◌, ℕ, zero, suc, ◌+◌, ◌-◌, ◌<◌, ◌≤◌, ◌⊎◌, ⊎_elim, List, [], ◌∷◌, ◌++◌, refl, ap, sym, subst, ◌∙◌, arith, eq-eqb, ne_eqb, eqb-true, Bool, true, false, Option, Some, None, if◌then◌else◌, ◌||◌, ◌==◌}
 use mathlib.Core.Option.{some, some-injective, some-ne-none}
 use mathlib.Core.Logic.{dite}
 use native.Mathlib.Decide.{ℕ_discrete, dec_le}
 use lib.ListN.{get_elem?}
-use Rattle.ocr_turns.specs.Counting.{is_in, is_none, unset_of}
+use Rattle.ocr_turns.specs.Counting.{is_in, is_none}
 use Rattle.ocr_turns.specs.Owing.{last_if, remove_edt, making, of_edt, of_slot, times, without_all}
-use Rattle.ocr_turns.specs.Sums.{is_free, total, one_at, sum_of, below, remove_at}
+use Rattle.ocr_turns.specs.Sums.{is_free, total, one_at, below, remove_at}
 use Rattle.ocr_mail.specs.Mail.{tally, drop_one, same_name}
-use Rattle.ocr_turns.proofs.Totals.{one_here, one_else, total_set, total_one, tally_append, drop_tally, sum_append, less_sum}
+use Rattle.ocr_turns.proofs.Totals.{one_here, one_else, sum_append}
 
 -- one of the views has it
 pub some_view : {V : Type 0} (f : V → ℕ) (vs : List V) → 1 ≤ total f vs → (i : ℕ) × (v : V) × (get_elem? vs i ≡ some v) × (1 ≤ f v)

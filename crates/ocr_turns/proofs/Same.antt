@@ -1,5 +1,5 @@
 -- What a step at one seat leaves as it was: each group of the rule on its own.
-use Rattle.std.proofs.Common.{◌≡◌, ◌≢◌, ℕ, zero, suc, ◌+◌, ◌*◌, ◌<◌, ◌≤◌, ◌⊎◌, inl, inr, ⊎_elim, Bool, List, [], ◌∷◌, ◌++◌, length, refl, ap, sym, subst, ◌∙◌, arith, None, Some, Option}
+use Rattle.std.proofs.Common.{◌≡◌, ◌≢◌, ℕ, ◌+◌, ◌<◌, ◌≤◌, ◌⊎◌, inl, inr, ⊎_elim, List, [], ◌∷◌, ◌++◌, length, ap, sym, subst, ◌∙◌, arith, Option}
 use Rattle.std.specs.Prelude.{slice_index, slice_set, MatchOption}
 use mathlib.Core.Option as maybe
 use mathlib.Core.Option.{some}
@@ -8,8 +8,8 @@ use Rattle.atomic_table.specs.Table.{State}
 use Rattle.atomic_table.proofs.Lists.{at_set}
 use Rattle.ocr_mail.specs.Mail.{tally}
 use Rattle.ocr_turns.specs.Meaning.{Meaning}
-use Rattle.ocr_turns.specs.Rule.{weighed, Seated, Ledger, Numbers, Places, Roster, HomeOf, mail}
-use Rattle.ocr_turns.specs.Sums.{total, weigh, one_at, sum_of, made_sum, is_free}
+use Rattle.ocr_turns.specs.Rule.{weighed, Seated, Ledger, Numbers, Places, Roster, mail}
+use Rattle.ocr_turns.specs.Sums.{total, weigh, one_at, sum_of, is_free}
 use Rattle.ocr_turns.specs.declared.view.View.{View}
 use Rattle.ocr_turns.specs.declared.view.Terms.{Terms}
 use Rattle.ocr_turns.proofs.Totals.{total_set, made_snoc}
@@ -40,36 +40,36 @@ module _ {G E P N F : Type 0} (m : Meaning G E P N F) (t : Terms G) where
           high = let old = k.high in omega arith;
         }
 
-    pub reached_same : (x : ℕ) → x ≡ slice_index s.words 1 → w.reached ≡ v.reached
-        → ((i : ℕ) (u : View G E P N F) → get_elem? s.views i ≡ some u → Reached t.limit (slice_index s.words 1) u.reached)
+    pub reached_same : (x : ℕ) → x ≡ slice_index s.words 8 → w.reached ≡ v.reached
+        → ((i : ℕ) (u : View G E P N F) → get_elem? s.views i ≡ some u → Reached t.limit (slice_index s.words 8) u.reached)
         → (i : ℕ) (u : View G E P N F) → get_elem? (slice_set s.views id w) i ≡ some u → Reached t.limit x u.reached
     reached_same x word same all i u u_at = subst (λ y. Reached t.limit y u.reached) (sym word) (⊎_elim
-        (λ h. subst (λ (y : View G E P N F). Reached t.limit (slice_index s.words 1) y.reached) h.1 (subst (Reached t.limit (slice_index s.words 1)) (sym same) (all id v at)))
+        (λ h. subst (λ (y : View G E P N F). Reached t.limit (slice_index s.words 8) y.reached) h.1 (subst (Reached t.limit (slice_index s.words 8)) (sym same) (all id v at)))
         (λ h. all i u h.1)
         (at_set s.views id i w u u_at))
 
-    pub numbers_same : Numbers m t J s → slice_index ws 1 ≡ slice_index s.words 1 → ((f : ℕ → ℕ) → sum_of f w.drawn ≡ sum_of f v.drawn) → w.filled ≡ v.filled → w.reached ≡ v.reached → Numbers m t J (after s ws hs id w)
+    pub numbers_same : Numbers m t J s → slice_index ws 8 ≡ slice_index s.words 8 → ((f : ℕ → ℕ) → sum_of f w.drawn ≡ sum_of f v.drawn) → w.filled ≡ v.filled → w.reached ≡ v.reached → Numbers m t J (after s ws hs id w)
     numbers_same k word drawn filled reached = record {
       drawn = k.drawn;
       draws = subst (λ (x : ℕ). ((x ≡ k.drawn) × (k.drawn ≤ t.limit)) ⊎ ((k.drawn ≡ t.limit) × (t.limit ≤ x))) (sym word) k.draws;
       numbers = λ f. let a = total_same (λ u. sum_of f u.drawn) (drawn f) in let old = k.numbers f in omega arith;
       fulls = let a = total_same (λ u. u.filled) filled in let old = k.fulls in omega arith;
-      reached = reached_same (slice_index ws 1) word reached k.reached;
+      reached = reached_same (slice_index ws 8) word reached k.reached;
     }
 
     -- an entry that makes numbers that the seat drew
-    pub numbers_more : (e : E) → Numbers m t J s → slice_index ws 1 ≡ slice_index s.words 1 → ((f : ℕ → ℕ) → sum_of f w.drawn + sum_of f (m.makes e) ≡ sum_of f v.drawn) → w.filled ≡ v.filled → w.reached ≡ v.reached → Numbers m t (J ++ e ∷ []) (after s ws hs id w)
+    pub numbers_more : (e : E) → Numbers m t J s → slice_index ws 8 ≡ slice_index s.words 8 → ((f : ℕ → ℕ) → sum_of f w.drawn + sum_of f (m.makes e) ≡ sum_of f v.drawn) → w.filled ≡ v.filled → w.reached ≡ v.reached → Numbers m t (J ++ e ∷ []) (after s ws hs id w)
     numbers_more e k word drawn filled reached = record {
       drawn = k.drawn;
       draws = subst (λ (x : ℕ). ((x ≡ k.drawn) × (k.drawn ≤ t.limit)) ⊎ ((k.drawn ≡ t.limit) × (t.limit ≤ x))) (sym word) k.draws;
       numbers = λ f. let a = total_set (λ (u : View G E P N F). sum_of f u.drawn) s.views id v w at in let b = drawn f in let old = k.numbers f in let more = made_snoc m.makes f J e in omega arith;
       fulls = let a = total_same (λ u. u.filled) filled in let old = k.fulls in omega arith;
-      reached = reached_same (slice_index ws 1) word reached k.reached;
+      reached = reached_same (slice_index ws 8) word reached k.reached;
     }
 
     -- a step on no turn word, after which J' is the history
-    pub places_same : (J' : List E) → hs ≡ s.homes → length ws ≡ length s.words → ((p : ℕ) → p < length s.homes → slice_index ws (p + 2) ≡ slice_index s.words (p + 2)) → ((p : ℕ) → keeps_at p w ≡ keeps_at p v)
-        → ((p : ℕ) → p < length s.homes → slice_index s.words (p + 2) ≡ 0 → m.part t.setting.value t.limit J' p ≡ m.part t.setting.value t.limit J p)
+    pub places_same : (J' : List E) → hs ≡ s.homes → length ws ≡ length s.words → ((p : ℕ) → p < length s.homes → slice_index ws (p + 16) ≡ slice_index s.words (p + 16)) → ((p : ℕ) → keeps_at p w ≡ keeps_at p v)
+        → ((p : ℕ) → p < length s.homes → slice_index s.words (p + 16) ≡ 0 → m.part t.setting.value t.limit J' p ≡ m.part t.setting.value t.limit J p)
         → Places m t J s → Places m t J' (after s ws hs id w)
     places_same J' homes len words parts stays k = subst (λ (h : List (maybe.Option (Option P))). Places m t J' (after s ws h id w)) (sym homes) (record {
       words = let old = k.words in omega arith;

@@ -177,13 +177,13 @@ or_both false b p q = q
 module _ {G E P N F : Type 0} (m : Meaning G E P N F) (laws : CountingLaws m) (runs : Lawful m) (t : Terms G) (past : List E) (e : E) (may : MayCome m t past e) (told : Consistent m t past)
     (unmade : (n : ℕ) → 1 ≤ sum_of (one_at n) (m.makes e) → (1 ≤ n) × (n ≤ t.limit) × (up_to (one_at n) m.opened + made_sum m.makes (one_at n) (reverse past) ≡ 0)) where
   -- an EDT that it makes was not made
-  pub created_none : (n d : ℕ) → m.counting.creates e ≡ Some (n, d) → slots_of m t past n ≡ None
+  pub created_none : (n d : ℕ) → m.counting.creates t.setting.value t.limit (reverse past) e ≡ Some (n, d) → slots_of m t past n ≡ None
   created_none n d is = ⊎_elim (λ z. z)
       (λ z. let r = told.made n z.0 z.1 in let u = unmade n ((laws.creating t past e n d may is).0) in absurd (let a = r.3 in let b = u.2 in omega arith))
       (options (slots_of m t past n))
 
   pub slots_later : (n d : ℕ) → slots_of m t past n ≡ Some d → slots_of m t (e ∷ past) n ≡ Some d
-  slots_later n d is = (count_else (m.counting.creates e) n (slots_of m t past n) (λ q made. clash (slots_of m t past n) d (created_none n q made) is)).0 ∙ is
+  slots_later n d is = (count_else (m.counting.creates t.setting.value t.limit (reverse past) e) n (slots_of m t past n) (λ q made. clash (slots_of m t past n) d (created_none n q made) is)).0 ∙ is
 
   -- a slot that is set is not set again
   pub payload_later : (n q x : ℕ) → payload_of m t past n q ≡ Some x → payload_of m t (e ∷ past) n q ≡ Some x
@@ -199,11 +199,11 @@ module _ {G E P N F : Type 0} (m : Meaning G E P N F) (laws : CountingLaws m) (r
   told_more = record {
     made = λ n d is. ⊎_elim
         (λ z. let law = laws.creating t past e n z.0 may z.1 in let u = unmade n law.0 in let more = made_more n in
-        let same : ◌≡◌ {A = Option ℕ} (Some z.0) (Some d) = sym (count_here (m.counting.creates e) n z.0 (slots_of m t past n) z.1).0 ∙ is in
+        let same : ◌≡◌ {A = Option ℕ} (Some z.0) (Some d) = sym (count_here (m.counting.creates t.setting.value t.limit (reverse past) e) n z.0 (slots_of m t past n) z.1).0 ∙ is in
         let eq : z.0 ≡ d = cc same in
         (u.0, u.1, (let a = law.1 in omega arith), (let a = law.0 in omega arith)))
-        (λ no. let r = told.made n d (sym (count_else (m.counting.creates e) n (slots_of m t past n) no).0 ∙ is) in let more = made_more n in (r.0, r.1, r.2, (let a = r.3 in omega arith)))
-        (makes_for (m.counting.creates e) n);
+        (λ no. let r = told.made n d (sym (count_else (m.counting.creates t.setting.value t.limit (reverse past) e) n (slots_of m t past n) no).0 ∙ is) in let more = made_more n in (r.0, r.1, r.2, (let a = r.3 in omega arith)))
+        (makes_for (m.counting.creates t.setting.value t.limit (reverse past) e) n);
     set = λ n q x is. ⊎_elim
         (λ z. let law = (laws.setting t past e n q z.0 may z.1).0 in (law.0, slots_later n law.0 law.1, law.2))
         (λ no. let r = told.set n q x (sym (pay_else (m.counting.sets e) n q (payload_of m t past n q) no).0 ∙ is) in (r.0, slots_later n r.0 r.1, r.2))

@@ -1,5 +1,5 @@
 -- A seat is made of the root's, and comes home to it.
-use Rattle.std.proofs.Common.{◌≡◌, ◌≢◌, ℕ, zero, suc, ◌+◌, ◌-◌, ◌*◌, ◌<◌, ◌≤◌, ◌⊎◌, inl, inr, ⊎_elim, List, [], ◌∷◌, ◌++◌, length, reverse, refl, ap, sym, subst, ◌∙◌, arith, mul-le-mul_right, None, Some, Option}
+use Rattle.std.proofs.Common.{◌≡◌, ◌≢◌, ℕ, zero, suc, ◌+◌, ◌*◌, ◌<◌, ◌≤◌, inl, inr, ⊎_elim, List, [], ◌∷◌, ◌++◌, length, reverse, refl, ap, sym, subst, ◌∙◌, arith, mul-le-mul_right, None, Some, Option}
 use Rattle.std.specs.Prelude.{slice_index, slice_set, MatchOption}
 use Rattle.std.proofs.Math.Nat.{add-mul}
 use mathlib.Core.Option.{some, some-injective, some-ne-none}
@@ -7,15 +7,15 @@ use mathlib.Core.Logic.{dite}
 use native.Mathlib.Decide.{dec_le}
 use lib.ListN.{get_elem?}
 use Rattle.std.specs.Option.{option_or}
-use Rattle.atomic_table.specs.Table.{State, Splits, Joins}
+use Rattle.atomic_table.specs.Table.{State, Splits}
 use Rattle.atomic_table.proofs.Lists.{at_set, set_else}
 use Rattle.ocr_mail.specs.Mail.{tally}
 use Rattle.ocr_turns.specs.Contract.{Finished}
 use Rattle.ocr_turns.specs.Counting.{state_at}
-use Rattle.ocr_turns.specs.Meaning.{Meaning, Open, Ended}
-use Rattle.ocr_turns.specs.Rule.{weighed, LogOf, LogsOf, AllRise, Seated, Kept, Holds, EmptyAt, RunsIn, OPEN}
+use Rattle.ocr_turns.specs.Meaning.{Meaning, Ended}
+use Rattle.ocr_turns.specs.Rule.{weighed, LogOf, Seated, Kept, Holds, EmptyAt, RunsIn}
 use Rattle.ocr_turns.specs.Steps.{fresh, parted, gathered, spent_view}
-use Rattle.ocr_turns.specs.Sums.{total, weigh, weigh_all, one_at, sum_of, below, up_to, made_sum, load_of, Rises}
+use Rattle.ocr_turns.specs.Sums.{total, weigh, one_at, sum_of, up_to, made_sum, load_of, Rises}
 use Rattle.ocr_turns.specs.declared.view.View.{View}
 use Rattle.ocr_turns.specs.declared.view.Terms.{Terms}
 use Rattle.ocr_turns.proofs.Bounds.{lone, lone_drawn, short}
@@ -114,7 +114,7 @@ module _ {G E P N F : Type 0} (m : Meaning G E P N F) (t : Terms G) where
             draws = k.numbers.draws;
             numbers = λ f. let a = whole (λ (u : View G E P N F). sum_of f u.drawn) in let old = k.numbers.numbers f in omega arith;
             fulls = let a = whole (λ (u : View G E P N F). u.filled) in let old = k.numbers.fulls in omega arith;
-            reached = each (λ u. Reached t.limit (slice_index s.words 1) u.reached) (k.numbers.reached id v at) tt k.numbers.reached;
+            reached = each (λ u. Reached t.limit (slice_index s.words 8) u.reached) (k.numbers.reached id v at) tt k.numbers.reached;
           };
           places = record {
             words = k.places.words;
@@ -199,7 +199,7 @@ module _ {G E P N F : Type 0} (m : Meaning G E P N F) (t : Terms G) where
           draws = k.numbers.draws;
           numbers = λ f. let a = whole (λ (u : View G E P N F). sum_of f u.drawn) in let b = sum_append f v.drawn w.drawn in let old = k.numbers.numbers f in omega arith;
           fulls = let a = whole (λ (u : View G E P N F). u.filled) in let old = k.numbers.fulls in omega arith;
-          reached = each (λ u. Reached t.limit (slice_index s.words 1) u.reached) (reached_both t.limit (slice_index s.words 1) v.reached w.reached (k.numbers.reached id v at) (k.numbers.reached other w there)) tt k.numbers.reached;
+          reached = each (λ u. Reached t.limit (slice_index s.words 8) u.reached) (reached_both t.limit (slice_index s.words 8) v.reached w.reached (k.numbers.reached id v at) (k.numbers.reached other w there)) tt k.numbers.reached;
         };
         places = record {
           words = k.places.words;
@@ -236,7 +236,7 @@ module _ {G E P N F : Type 0} (m : Meaning G E P N F) (t : Terms G) where
         full = reach v.reached (k.numbers.reached id v at) (λ f. let a = lone_drawn m t h.history s k id v at is_root none_out f in let b = k.numbers.numbers f in omega arith);
       }
     where
-      reach : (o : Option ℕ) → Reached t.limit (slice_index s.words 1) o → ((f : ℕ → ℕ) → sum_of f v.drawn + (up_to f m.opened + made_sum m.makes f h.history) ≡ up_to f h.kept.numbers.drawn)
+      reach : (o : Option ℕ) → Reached t.limit (slice_index s.words 8) o → ((f : ℕ → ℕ) → sum_of f v.drawn + (up_to f m.opened + made_sum m.makes f h.history) ≡ up_to f h.kept.numbers.drawn)
           → MatchOption o (Unit {0}) (λ _. (f : ℕ → ℕ) → sum_of f v.drawn + (up_to f m.opened + made_sum m.makes f h.history) ≡ up_to f t.limit)
       reach None known all = tt
       reach (Some n) known all = λ f. all f ∙ ap (up_to f) (⊎_elim (λ z. let a = z.0 in let b = z.1 in omega arith) (λ z. z.0) h.kept.numbers.draws)

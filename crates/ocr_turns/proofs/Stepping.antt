@@ -1,5 +1,5 @@
 -- The steps on the words that count are allowed, and what they tell.
-use Rattle.std.proofs.Common.{◌≡◌, ◌≢◌, ℕ, zero, suc, ◌+◌, ◌-◌, ◌*◌, ◌%◌, ◌<◌, ◌≤◌, ◌⊎◌, inl, inr, ⊎_elim, Bool, true, false, List, [], ◌∷◌, ◌++◌, length, reverse, refl, ap, sym, subst, ◌∙◌, arith, eqb, eq-eqb, ne_eqb, get_or-set_same, get_or-set_other, None, Some, Option}
+use Rattle.std.proofs.Common.{◌≡◌, ◌≢◌, ℕ, zero, suc, ◌+◌, ◌-◌, ◌%◌, ◌<◌, ◌≤◌, inl, inr, ⊎_elim, false, List, [], ◌∷◌, length, reverse, refl, ap, sym, subst, ◌∙◌, arith, eqb, eq-eqb, ne_eqb, get_or-set_same, get_or-set_other, None, Some, Option}
 use Rattle.std.specs.Prelude.{slice_index, slice_set}
 use Rattle.std.proofs.Math.ListN.{length-set}
 use Rattle.std.proofs.lemmas.List.{set-get_or}
@@ -11,11 +11,11 @@ use prog.Atomic.{either}
 use Rattle.atomic_table.specs.Table.{State, Me, Act, Allows, Valid, carried_after, keeps, stepped}
 use Rattle.ocr_mail.specs.Mail.{tally}
 use Rattle.ocr_turns.specs.Contract.{Loose}
-use Rattle.ocr_turns.specs.Counting.{CountingLaws, Counted, Found, IsSet, IsInOrder, account, slots_of, payload_of, awaited, is_started, unset_of, is_none, is_true, state_at, payload_at, READY, BUSY, PARKED}
-use Rattle.ocr_turns.specs.Meaning.{Meaning, Lawful}
+use Rattle.ocr_turns.specs.Counting.{Counted, Found, IsSet, account, slots_of, payload_of, awaited, is_started, unset_of, is_none, state_at, payload_at, READY, BUSY, PARKED}
+use Rattle.ocr_turns.specs.Meaning.{Meaning}
 use Rattle.ocr_turns.specs.Owing.{times, of_edt, of_slot, owed_slots, making, no_debts}
-use Rattle.ocr_turns.specs.Rule.{Holds, Kept, Seated, FactsOf}
-use Rattle.ocr_turns.specs.Sums.{one_at, total, below}
+use Rattle.ocr_turns.specs.Rule.{Holds, Kept, FactsOf}
+use Rattle.ocr_turns.specs.Sums.{one_at}
 use Rattle.ocr_turns.specs.Words.{Knows, SeesWord, SeesReady, HasSlot, Waits, StepTells, steps_word, putting, counting_down, counting_made, claiming, unclaiming, resuming, learning}
 use Rattle.ocr_turns.specs.declared.debts.Debts.{Debts}
 use Rattle.ocr_turns.specs.declared.view.View.{View}
@@ -25,7 +25,7 @@ use Rattle.ocr_turns.specs.declared.words.WordStep.TheVariants as word
 use Rattle.ocr_turns.proofs.Totals.{total_one, total_alone, at_append, reverse_twice}
 use Rattle.ocr_turns.proofs.Same.{after, ledger_same, numbers_same, places_same, roster_same, owed_same, seated_each}
 use Rattle.ocr_turns.proofs.Bounds.{same_terms, fits, stepped_at, spent_others}
-use Rattle.ocr_turns.proofs.Accounts.{ready, busy, parked}
+use Rattle.ocr_turns.proofs.Accounts.{ready, busy}
 use Rattle.ocr_turns.proofs.Owing.{below_zero, is_some, total_less, tally_less, spot_less}
 use Rattle.ocr_turns.proofs.Slots.{none_is, true_is}
 use Rattle.ocr_turns.proofs.Counting as counting
@@ -79,16 +79,16 @@ module _ {G E P N F : Type 0} (m : Meaning G E P N F) (t : Terms G) where
     abbrev pub with_all : List F → Debts → List ℕ → View G E P N F
     with_all fs d cl = record v { facts = fs; debts = d; claims = cl }
 
-    pub kept_beyond : (i x : ℕ) → 2 + length s.homes ≤ i → (fs : List F) (d : Debts) (cl : List ℕ) → FactsOf (m.stands t.setting.value t.limit J) fs → Kept m t J (after s (slice_set s.words i x) s.homes id (with_all fs d cl))
+    pub kept_beyond : (i x : ℕ) → 16 + length s.homes ≤ i → (fs : List F) (d : Debts) (cl : List ℕ) → FactsOf (m.stands t.setting.value t.limit J) fs → Kept m t J (after s (slice_set s.words i x) s.homes id (with_all fs d cl))
     kept_beyond i x past fs d cl facts =
         let w : View G E P N F = with_all fs d cl in let ws : List ℕ = slice_set s.words i x in
-        let other : (j : ℕ) → j < 2 + length s.homes → slice_index ws j ≡ slice_index s.words j = λ j lt. get_or-set_other s.words i j x 0 (λ e. absurd (omega arith)) in
+        let other : (j : ℕ) → j < 16 + length s.homes → slice_index ws j ≡ slice_index s.words j = λ j lt. get_or-set_other s.words i j x 0 (λ e. absurd (omega arith)) in
         let seat = k.seated id v at in record {
           limits = k.limits;
           share = k.share;
           ledger = ledger_same m t J s id v w at ws s.homes k.ledger (other 0 (omega arith)) (λ f. refl) refl refl;
-          numbers = numbers_same m t J s id v w at ws s.homes k.numbers (other 1 (omega arith)) (λ f. refl) refl refl;
-          places = places_same m t J s id v w at ws s.homes J refl (length-set s.words i x) (λ p lt. other (p + 2) (omega arith)) (λ p. refl) (λ p _ _. refl) k.places;
+          numbers = numbers_same m t J s id v w at ws s.homes k.numbers (other 8 (omega arith)) (λ f. refl) refl refl;
+          places = places_same m t J s id v w at ws s.homes J refl (length-set s.words i x) (λ p lt. other (p + 16) (omega arith)) (λ p. refl) (λ p _ _. refl) k.places;
           owed = owed_same m t J s id v w at ws s.homes k.owed (λ f. refl);
           roster = roster_same m t J s id v w at ws s.homes k.roster refl refl refl refl refl;
           seated = seated_each m t J s id v w at ws s.homes J
@@ -118,7 +118,7 @@ module _ {G E P N F : Type 0} (m : Meaning G E P N F) (t : Terms G) where
     facts_at : (s : State (Option P) Vs) (h : Holds m t s) → get_elem? s.views id ≡ some me.0 → FactsOf (m.stands t.setting.value t.limit h.history) me.0.facts
     facts_at s h at = (h.kept.seated id me.0 at).facts
 
-    kept_with : (s : State (Option P) Vs) (h : Holds m t s) → get_elem? s.views id ≡ some me.0 → (i x : ℕ) → 2 + length s.homes ≤ i → (d : Debts) (cl : List ℕ)
+    kept_with : (s : State (Option P) Vs) (h : Holds m t s) → get_elem? s.views id ≡ some me.0 → (i x : ℕ) → 16 + length s.homes ≤ i → (d : Debts) (cl : List ℕ)
         → Kept m t h.history record { words = slice_set s.words i x; homes = s.homes; views = slice_set s.views id record me.0 { debts = d; claims = cl } }
     kept_with s h at i x past d cl = kept_beyond h.history s h.kept id me.0 at is_out i x past me.0.facts d cl (facts_at s h at)
 
@@ -168,6 +168,7 @@ module _ {G E P N F : Type 0} (m : Meaning G E P N F) (t : Terms G) where
           record { history = h.history; kept = kept; counted = counted },
           (
             refl,
+            range.2,
             order.1,
             order.2,
             sees_word h.history record { words = slice_set s.words i y; homes = s.homes; views = slice_set s.views id w } kept counted id w (stepped_at s.views id me.0 w at) is_out n range.0 range.1
@@ -228,12 +229,15 @@ module _ {G E P N F : Type 0} (m : Meaning G E P N F) (t : Terms G) where
         (λ u. let a = tally_less (of_slot n k) (of_edt n) u.debts.unput (spot_less n k) in omega arith) in
         x.1 ∙ ap Some (sym (h.counted.payload n k x.0 x.1 (omega arith)))
 
-    pub allows_read : (n k : ℕ) → 1 ≤ times n me.0.claims → HasSlot m t me.0 n k → Goal n (word.Read k) (λ z. payload_at z n k) (λ x. x)
-    allows_read n k has slot = allowed n (word.Read k) (λ z. payload_at z n k) (λ x. x) (λ s h at.
-        let i : ℕ = payload_at (length s.homes) n k in let x : ℕ = slice_index s.words i in
+    pub allows_read : (n k : ℕ) → 1 ≤ times n me.0.claims → HasSlot m t me.0 n k → Goal n (word.Read k) (λ z. payload_at z n (k % 32)) (λ x. x)
+    allows_read n k has slot = allowed n (word.Read k) (λ z. payload_at z n (k % 32)) (λ x. x) (λ s h at.
+        let there = slot h.history (knows h.history s h.kept h.counted id me.0 at) in
+        let few = (h.counted.told.made n there.0 there.1).2 in let lt = there.2 in
+        let same : k % 32 ≡ k = omega arith in
+        let i : ℕ = payload_at (length s.homes) n (k % 32) in let x : ℕ = slice_index s.words i in
         let w : Vs = learning me.0 (m.counting.is_set n k x) in
         let fact : m.stands t.setting.value t.limit h.history (m.counting.is_set n k x) =
-        subst (λ l. m.stands t.setting.value t.limit l (m.counting.is_set n k x)) (reverse_twice h.history) (h.counted.told.facts n k x (payload_is s h at n k has slot)) in
+        subst (λ l. m.stands t.setting.value t.limit l (m.counting.is_set n k x)) (reverse_twice h.history) (h.counted.told.facts n k x (payload_is s h at n k has slot ∙ ap (λ q. Some (slice_index s.words (payload_at (length s.homes) n q))) (sym same))) in
         let facts : FactsOf (m.stands t.setting.value t.limit h.history) w.facts = λ j f there. ⊎_elim
         (λ y. facts_at s h at j f y)
         (λ y. subst (m.stands t.setting.value t.limit h.history) (one_listed (m.counting.is_set n k x) f y.0 y.1) fact)

@@ -1,6 +1,6 @@
 -- The steps on the turn word of a part keep the rule.
-use Rattle.std.proofs.Common.{◌≡◌, ◌≢◌, ℕ, zero, suc, ◌+◌, ◌*◌, ◌<◌, ◌≤◌, ◌⊎◌, inl, inr, ⊎_elim, eqb, List, [], ◌∷◌, ◌++◌, length, reverse, refl, ap, sym, subst, ◌∙◌, arith, eq-eqb, ne_eqb, get_or-set_same, None, Some, Option}
-use Rattle.std.specs.Prelude.{slice_index, slice_set, MatchOption}
+use Rattle.std.proofs.Common.{◌≡◌, ◌≢◌, ℕ, ◌+◌, ◌<◌, ◌≤◌, ⊎_elim, eqb, List, [], ◌∷◌, ◌++◌, length, reverse, refl, ap, sym, subst, ◌∙◌, arith, eq-eqb, ne_eqb, get_or-set_same, None, Some, Option}
+use Rattle.std.specs.Prelude.{slice_index, slice_set}
 use Rattle.std.proofs.Math.ListN.{length-set}
 use Rattle.std.proofs.lemmas.List.{set-get_or}
 use mathlib.Core.Option as maybe
@@ -10,12 +10,11 @@ use native.Mathlib.Decide.{ℕ_discrete}
 use prog.Atomic.{either}
 use lib.ListN.{get_elem?}
 use Rattle.atomic_table.specs.Table.{State, Me, Act, Allows, keeps, takes, gives, Valid, stepped, step, carried_after, rest}
-use Rattle.atomic_table.proofs.Lists.{at_set, set_here, set_else, set_again}
+use Rattle.atomic_table.proofs.Lists.{set_here, set_else, set_again}
 use Rattle.ocr_turns.specs.Contract.{Loose, Rests, SeenAs}
-use Rattle.ocr_turns.specs.Counting.{Counted, tied_to}
-use Rattle.ocr_turns.specs.Owing.{times}
+use Rattle.ocr_turns.specs.Counting.{Counted}
 use Rattle.ocr_turns.specs.Meaning.{Meaning}
-use Rattle.ocr_turns.specs.Rule.{Seated, Kept, Holds, RunsIn, HomeOf, PartsOf, EmptyAt}
+use Rattle.ocr_turns.specs.Rule.{Kept, Holds, RunsIn, HomeOf, PartsOf, EmptyAt}
 use Rattle.ocr_turns.specs.Steps.{Sees, takes_part, settles, fetches, gives_back}
 use Rattle.ocr_turns.specs.Sums.{total, weigh, one_at, is_free, remove_at}
 use Rattle.ocr_turns.specs.declared.view.View.{View}
@@ -23,7 +22,7 @@ use Rattle.ocr_turns.specs.declared.view.Terms.{Terms}
 use Rattle.ocr_turns.proofs.Bounds.{fits, sees, stepped_at}
 use Rattle.ocr_turns.proofs.Commits.{elsewhere}
 use Rattle.ocr_turns.proofs.Numbered.{weigh_remove, at_remove, find_at, find_weighs}
-use Rattle.ocr_turns.proofs.Same.{keeps_at, after, total_same, ledger_same, numbers_same, roster_same, owed_same, seated_each}
+use Rattle.ocr_turns.proofs.Same.{keeps_at, after, ledger_same, numbers_same, roster_same, owed_same, seated_each}
 use Rattle.ocr_turns.proofs.Apart.{counted_at, counted_beside}
 use Rattle.ocr_turns.proofs.Totals.{total_set, weigh_snoc, at_snoc_at, total_one, total_two, one_here, one_else}
 
@@ -35,7 +34,7 @@ module _ {G E P N F : Type 0} (mg : Meaning G E P N F) (t : Terms G) where
   module _ (J : List E) (s : State (Option P) (View G E P N F)) (k : Kept mg t J s) (cnt : Counted mg t (reverse J) s) (id : ℕ) (v : View G E P N F) (at : get_elem? s.views id ≡ some v) (p : ℕ) (small : p < length s.homes) (is_out : 0 < v.root + v.seat) where
     -- the turn word of p becomes m, and the slot of p h
     abbrev pub turned : ℕ → List ℕ
-    turned n = slice_set s.words (p + 2) n
+    turned n = slice_set s.words (p + 16) n
 
     abbrev pub moved_to : maybe.Option (Option P) → List (maybe.Option (Option P))
     moved_to h = slice_set s.homes p h
@@ -43,7 +42,7 @@ module _ {G E P N F : Type 0} (mg : Meaning G E P N F) (t : Terms G) where
     -- what the change of one place asks of the parts and of the slot that the seat carries
     record Moves (n : ℕ) (ps : List (ℕ × P)) (carried : Option ℕ) (h : maybe.Option (Option P)) : Type 0 where
       else : (q : ℕ) → q ≢ p → weigh (one_at q) ps ≡ weigh (one_at q) v.parts
-      here : weigh (one_at p) ps + is_free n ≡ weigh (one_at p) v.parts + is_free (slice_index s.words (p + 2))
+      here : weigh (one_at p) ps + is_free n ≡ weigh (one_at p) v.parts + is_free (slice_index s.words (p + 16))
       home : n ≡ 0 → HomeOf mg t (moved_to h) J p
       are : v.closed ≡ None → PartsOf (mg.seen t.limit) (mg.part t.setting.value t.limit J) ps
       empty : (q : ℕ) → 1 ≤ weigh (one_at q) ps → EmptyAt (moved_to h) carried q
@@ -57,23 +56,23 @@ module _ {G E P N F : Type 0} (mg : Meaning G E P N F) (t : Terms G) where
         let seat = k.seated id v at in let ws = turned n in let hs = moved_to h in
         let same_homes : length hs ≡ length s.homes = length-set s.homes p h in
         let words = k.places.words in
-        let word : slice_index ws (p + 2) ≡ n = (let lt : p + 2 < length s.words = omega arith in get_or-set_same s.words (p + 2) n 0 lt) in
-        let other : (q : ℕ) → q ≢ p → slice_index ws (q + 2) ≡ slice_index s.words (q + 2) = λ q ne. elsewhere s.words (p + 2) (q + 2) n (λ z. ne (omega arith)) in
+        let word : slice_index ws (p + 16) ≡ n = (let lt : p + 16 < length s.words = omega arith in get_or-set_same s.words (p + 16) n 0 lt) in
+        let other : (q : ℕ) → q ≢ p → slice_index ws (q + 16) ≡ slice_index s.words (q + 16) = λ q ne. elsewhere s.words (p + 16) (q + 16) n (λ z. ne (omega arith)) in
         let kept_by : (q : ℕ) → 1 ≤ weigh (one_at q) ps → q < length s.homes = λ q kept. dite (ℕ_discrete q p) (λ e. omega arith) (λ ne. let a = by.else q ne in (seat.empty q (omega arith)).0) in
         record {
           limits = k.limits;
           share = k.share;
-          ledger = ledger_same mg t J s id v w at ws hs k.ledger (elsewhere s.words (p + 2) 0 n (λ z. omega arith)) (λ f. refl) refl refl;
-          numbers = numbers_same mg t J s id v w at ws hs k.numbers (elsewhere s.words (p + 2) 1 n (λ z. omega arith)) (λ f. refl) refl refl;
+          ledger = ledger_same mg t J s id v w at ws hs k.ledger (elsewhere s.words (p + 16) 0 n (λ z. omega arith)) (λ f. refl) refl refl;
+          numbers = numbers_same mg t J s id v w at ws hs k.numbers (elsewhere s.words (p + 16) 8 n (λ z. omega arith)) (λ f. refl) refl refl;
           places = record {
-            words = let a = length-set s.words (p + 2) n in omega arith;
+            words = let a = length-set s.words (p + 16) n in omega arith;
             keeper = λ q lt. let to = total_set (keeps_at q) s.views id v w at in let old = k.places.keeper q (omega arith) in
                 dite (ℕ_discrete q p)
-                (λ e. subst (λ x. total (keeps_at x) (slice_set s.views id w) + is_free (slice_index ws (x + 2)) ≡ 1) (sym e)
+                (λ e. subst (λ x. total (keeps_at x) (slice_set s.views id w) + is_free (slice_index ws (x + 16)) ≡ 1) (sym e)
                 (let to' = total_set (keeps_at p) s.views id v w at in let old' = k.places.keeper p small in let f = ap is_free word in let b = by.here in omega arith))
                 (λ ne. let a = by.else q ne in let b = ap is_free (other q ne) in omega arith);
             home = λ q lt free. dite (ℕ_discrete q p)
-                (λ e. subst (λ x. HomeOf mg t hs J x) (sym e) (by.home (sym word ∙ (ap (λ x. slice_index ws (x + 2)) (sym e) ∙ free))))
+                (λ e. subst (λ x. HomeOf mg t hs J x) (sym e) (by.home (sym word ∙ (ap (λ x. slice_index ws (x + 16)) (sym e) ∙ free))))
                 (λ ne. let h' = k.places.home q (omega arith) (sym (other q ne) ∙ free) in record { item = h'.item; home = set_else s.homes p q h ne ∙ h'.home; is_part = h'.is_part });
           };
           owed = owed_same mg t J s id v w at ws hs k.owed (λ f. refl);
@@ -116,7 +115,7 @@ module _ {G E P N F : Type 0} (mg : Meaning G E P N F) (t : Terms G) where
                 over = old.over;
                 empty = λ q kept. let o = old.empty q kept in
                     let ne : q ≢ p = λ e. (let lt : q < length s.homes = o.0 in let one = k.places.keeper q lt in let two = total_two (keeps_at q) s.views i id u v apart u_at at in
-                    let e' : is_free (slice_index s.words (p + 2)) ≡ is_free (slice_index s.words (q + 2)) = ap (λ (x : ℕ). is_free (slice_index s.words (x + 2))) (sym e) in
+                    let e' : is_free (slice_index s.words (p + 16)) ≡ is_free (slice_index s.words (q + 16)) = ap (λ (x : ℕ). is_free (slice_index s.words (x + 16))) (sym e) in
                     let a : weigh (one_at p) v.parts ≡ weigh (one_at q) v.parts = ap (λ (x : ℕ). weigh (one_at x) v.parts) (sym e) in
                     let b = by.here in let d = by.mine in absurd (omega arith)) in
                     let lt = o.0 in (omega arith, empty_kept s.homes hs u.carried q (set_else s.homes p q h ne) o.1);
@@ -128,14 +127,14 @@ module _ {G E P N F : Type 0} (mg : Meaning G E P N F) (t : Terms G) where
 
     -- the seat takes no part away
     counted_more : (w : View G E P N F) → w.debts ≡ v.debts → w.claims ≡ v.claims → 0 < w.root + w.seat → ((q : ℕ) → weigh (one_at q) v.parts ≤ weigh (one_at q) w.parts) → (n : ℕ) (h : maybe.Option (Option P)) → Counted mg t (reverse J) (after s (turned n) (moved_to h) id w)
-    counted_more w debts claims out more n h = counted_beside mg t (reverse J) s cnt id v w at debts claims out more (p + 2) n (moved_to h) (omega arith) (length-set s.homes p h)
+    counted_more w debts claims out more n h = counted_beside mg t (reverse J) s cnt id v w at debts claims out more (p + 16) n (moved_to h) (omega arith) (length-set s.homes p h)
 
     -- the part of a kept place is with the seat, not at home
-    busy : 1 ≤ weigh (one_at p) v.parts → is_free (slice_index s.words (p + 2)) ≡ 0
+    busy : 1 ≤ weigh (one_at p) v.parts → is_free (slice_index s.words (p + 16)) ≡ 0
     busy kept = let one = total_one (keeps_at p) s.views id v at in let old = k.places.keeper p small in omega arith
 
-    not_free : 1 ≤ weigh (one_at p) v.parts → slice_index s.words (p + 2) ≡ 0 → ⊥
-    not_free kept z = let f : is_free (slice_index s.words (p + 2)) ≡ 1 = ap is_free z in let b = busy kept in absurd (omega arith)
+    not_free : 1 ≤ weigh (one_at p) v.parts → slice_index s.words (p + 16) ≡ 0 → ⊥
+    not_free kept z = let f : is_free (slice_index s.words (p + 16)) ≡ 1 = ap is_free z in let b = busy kept in absurd (omega arith)
 
     -- the slot of each kept place is empty, but for that of p
     others_empty : (h : maybe.Option (Option P)) → v.carried ≡ None → (q : ℕ) → q ≢ p → 1 ≤ weigh (one_at q) v.parts → get_elem? (moved_to h) q ≡ some (some None)
@@ -145,9 +144,9 @@ module _ {G E P N F : Type 0} (mg : Meaning G E P N F) (t : Terms G) where
     tried n = either (eqb n 0) 1 n
 
     abbrev pub TakeGoal : Type 0
-    TakeGoal = (w : View G E P N F) × ((a : Act (Option P)) × (Valid s.homes [] a × (Holds mg t (stepped s (p + 2) (tried (slice_index s.words (p + 2))) id [] w a) × takes_part mg (step (length s.homes) (p + 2) 0 1 none) (v, []) (slice_index s.words (p + 2)) (w, carried_after [] a))))
+    TakeGoal = (w : View G E P N F) × ((a : Act (Option P)) × (Valid s.homes [] a × (Holds mg t (stepped s (p + 16) (tried (slice_index s.words (p + 16))) id [] w a) × takes_part mg (step (length s.homes) (p + 16) 0 1 none) (v, []) (slice_index s.words (p + 16)) (w, carried_after [] a))))
 
-    module _ (hand : v.carried ≡ None) (free : slice_index s.words (p + 2) ≡ 0) where
+    module _ (hand : v.carried ≡ None) (free : slice_index s.words (p + 16) ≡ 0) where
       abbrev pub there : HomeOf mg t s.homes J p
       there = k.places.home p small free
 
@@ -157,7 +156,7 @@ module _ {G E P N F : Type 0} (mg : Meaning G E P N F) (t : Terms G) where
       takes_moves : Moves 1 (v.parts ++ (p, there.item) ∷ []) (Some p) none
       takes_moves =
           let seat = k.seated id v at in let x = there.item in
-          let f : is_free (slice_index s.words (p + 2)) ≡ 1 = ap is_free free in
+          let f : is_free (slice_index s.words (p + 16)) ≡ 1 = ap is_free free in
           let none_kept : weigh (one_at p) v.parts ≡ 0 = (let one = total_one (keeps_at p) s.views id v at in let old = k.places.keeper p small in omega arith) in
           let one : weigh (one_at p) (v.parts ++ (p, x) ∷ []) ≡ 1 = (let a = weigh_snoc (one_at p) v.parts p x in let b = one_here p in omega arith) in
           let more : (q : ℕ) → q ≢ p → weigh (one_at q) (v.parts ++ (p, x) ∷ []) ≡ weigh (one_at q) v.parts = λ q ne. (let a = weigh_snoc (one_at q) v.parts p x in let b = one_else q p ne in omega arith) in
@@ -176,14 +175,14 @@ module _ {G E P N F : Type 0} (mg : Meaning G E P N F) (t : Terms G) where
 
       can_take_free : TakeGoal
       can_take_free =
-          let is : tried (slice_index s.words (p + 2)) ≡ 1 = ap (λ b. either b 1 (slice_index s.words (p + 2))) (eq-eqb _ _ free) in (
+          let is : tried (slice_index s.words (p + 16)) ≡ 1 = ap (λ b. either b 1 (slice_index s.words (p + 16))) (eq-eqb _ _ free) in (
             taken,
             (
               takes p (Some there.item),
               (
                 there.home,
                 (
-                  record { history = J; kept = subst (λ (m : ℕ). Kept mg t J (after s (turned m) (moved_to none) id taken)) (sym is) took_one; counted = counted_more taken refl refl is_out (λ q. let a = weigh_snoc (one_at q) v.parts p there.item in omega arith) (tried (slice_index s.words (p + 2))) none },
+                  record { history = J; kept = subst (λ (m : ℕ). Kept mg t J (after s (turned m) (moved_to none) id taken)) (sym is) took_one; counted = counted_more taken refl refl is_out (λ q. let a = weigh_snoc (one_at q) v.parts p there.item in omega arith) (tried (slice_index s.words (p + 16))) none },
                   ((λ _. (p, there.item, refl, refl, refl, sees mg t J (after s (turned 1) (moved_to none) id taken) took_one id taken (stepped_at s.views id v taken at) is_out)), (λ ne. absurd (ne free))),
                 ),
               ),
@@ -191,16 +190,16 @@ module _ {G E P N F : Type 0} (mg : Meaning G E P N F) (t : Terms G) where
           )
 
     pub can_take : v.carried ≡ None → TakeGoal
-    can_take hand = dite (ℕ_discrete (slice_index s.words (p + 2)) 0) (can_take_free hand)
+    can_take hand = dite (ℕ_discrete (slice_index s.words (p + 16)) 0) (can_take_free hand)
         (λ ne.
-        let is : tried (slice_index s.words (p + 2)) ≡ slice_index s.words (p + 2) = ap (λ b. either b 1 (slice_index s.words (p + 2))) (ne_eqb _ _ ne) in
-        let ws : slice_set s.words (p + 2) (tried (slice_index s.words (p + 2))) ≡ s.words = ap (λ x. slice_set s.words (p + 2) x) is ∙ set-get_or s.words (p + 2) 0 in
+        let is : tried (slice_index s.words (p + 16)) ≡ slice_index s.words (p + 16) = ap (λ b. either b 1 (slice_index s.words (p + 16))) (ne_eqb _ _ ne) in
+        let ws : slice_set s.words (p + 16) (tried (slice_index s.words (p + 16))) ≡ s.words = ap (λ x. slice_set s.words (p + 16) x) is ∙ set-get_or s.words (p + 16) 0 in
         let vs : slice_set s.views id v ≡ s.views = set_again s.views id v at in
         (v, (keeps, (tt, (record { history = J; kept = subst (Kept mg t J) (λ i. record { words = sym ws i; homes = s.homes; views = sym vs i }) k; counted = subst (Counted mg t (reverse J)) (λ i. record { words = sym ws i; homes = s.homes; views = sym vs i }) cnt }, ((λ z. absurd (ne z)), (λ _. refl)))))))
 
     -- the carried slot goes home, empty
     abbrev pub SettleGoal : List (ℕ × Option P) → Type 0
-    SettleGoal c = (w : View G E P N F) × ((a : Act (Option P)) × (Valid s.homes c a × (Holds mg t (stepped s (p + 2) (slice_index s.words (p + 2)) id c w a) × settles (v, c) (w, carried_after c a))))
+    SettleGoal c = (w : View G E P N F) × ((a : Act (Option P)) × (Valid s.homes c a × (Holds mg t (stepped s (p + 16) (slice_index s.words (p + 16)) id c w a) × settles (v, c) (w, carried_after c a))))
 
     pub can_settle : (c : List (ℕ × Option P)) → c ≡ (p, None) ∷ [] → v.carried ≡ Some p → 1 ≤ weigh (one_at p) v.parts → SettleGoal c
     can_settle c is hand kept = subst SettleGoal (sym is)
@@ -213,7 +212,7 @@ module _ {G E P N F : Type 0} (mg : Meaning G E P N F) (t : Terms G) where
               (
                 record {
                   history = J;
-                  kept = moved (slice_index s.words (p + 2)) v.parts None (some None) record {
+                  kept = moved (slice_index s.words (p + 16)) v.parts None (some None) record {
                     else = λ q ne. refl;
                     here = refl;
                     home = λ z. absurd (not_free kept z);
@@ -224,7 +223,7 @@ module _ {G E P N F : Type 0} (mg : Meaning G E P N F) (t : Terms G) where
                     mine = omega arith;
                     cores = λ u runs. (seat.own u runs).1;
                   };
-                  counted = counted_more record v { carried = None } refl refl is_out (λ q. omega arith) (slice_index s.words (p + 2)) (some None);
+                  counted = counted_more record v { carried = None } refl refl is_out (λ q. omega arith) (slice_index s.words (p + 16)) (some None);
                 },
                 (refl, refl),
               ),
@@ -234,7 +233,7 @@ module _ {G E P N F : Type 0} (mg : Meaning G E P N F) (t : Terms G) where
 
     -- the empty slot of a kept part is carried
     abbrev pub FetchGoal : Type 0
-    FetchGoal = (w : View G E P N F) × ((a : Act (Option P)) × (Valid s.homes [] a × (Holds mg t (stepped s (p + 2) (slice_index s.words (p + 2)) id [] w a) × fetches (step (length s.homes) (p + 2) 0 0 none) (v, []) (w, carried_after [] a))))
+    FetchGoal = (w : View G E P N F) × ((a : Act (Option P)) × (Valid s.homes [] a × (Holds mg t (stepped s (p + 16) (slice_index s.words (p + 16)) id [] w a) × fetches (step (length s.homes) (p + 16) 0 0 none) (v, []) (w, carried_after [] a))))
 
     pub can_fetch : v.carried ≡ None → 1 ≤ weigh (one_at p) v.parts → FetchGoal
     can_fetch hand kept =
@@ -248,7 +247,7 @@ module _ {G E P N F : Type 0} (mg : Meaning G E P N F) (t : Terms G) where
               (
                 record {
                   history = J;
-                  kept = moved (slice_index s.words (p + 2)) v.parts (Some p) none record {
+                  kept = moved (slice_index s.words (p + 16)) v.parts (Some p) none record {
                     else = λ q ne. refl;
                     here = refl;
                     home = λ z. absurd (not_free kept z);
@@ -257,7 +256,7 @@ module _ {G E P N F : Type 0} (mg : Meaning G E P N F) (t : Terms G) where
                     mine = omega arith;
                     cores = λ u runs. (seat.own u runs).1;
                   };
-                  counted = counted_more record v { carried = Some p } refl refl is_out (λ q. omega arith) (slice_index s.words (p + 2)) none;
+                  counted = counted_more record v { carried = Some p } refl refl is_out (λ q. omega arith) (slice_index s.words (p + 16)) none;
                 },
                 (p, refl, refl, refl),
               ),
@@ -267,7 +266,7 @@ module _ {G E P N F : Type 0} (mg : Meaning G E P N F) (t : Terms G) where
 
     -- the part goes home
     abbrev pub ReturnGoal : List (ℕ × Option P) → Type 0
-    ReturnGoal c = (w : View G E P N F) × ((a : Act (Option P)) × (Valid s.homes c a × (Holds mg t (stepped s (p + 2) 0 id c w a) × gives_back (step (length s.homes) (p + 2) 0 0 none) (v, c) (w, carried_after c a))))
+    ReturnGoal c = (w : View G E P N F) × ((a : Act (Option P)) × (Valid s.homes c a × (Holds mg t (stepped s (p + 16) 0 id c w a) × gives_back (step (length s.homes) (p + 16) 0 0 none) (v, c) (w, carried_after c a))))
 
     pub can_return : (c : List (ℕ × Option P)) (x : P) → c ≡ (p, Some x) ∷ [] → SeenAs mg t v p x → v.carried ≡ Some p → v.closed ≡ None → Rests mg t v p → Loose mg t v p → ReturnGoal c
     can_return c x is like hand was_open rests loose = subst ReturnGoal (sym is)
@@ -298,7 +297,7 @@ module _ {G E P N F : Type 0} (mg : Meaning G E P N F) (t : Terms G) where
                   };
                   counted = counted_at mg t (reverse J) s cnt id v record v { parts = remove_at p v.parts; carried = None } at refl refl is_out
                       (λ n q has is. let ne : q ≢ p = λ e. loose J (fits mg t J s k id v at was_open) n has (is ∙ ap Some e) in let held = (cnt.seated id v at).tied n q has is in let a = else q ne in omega arith)
-                      (p + 2) 0 (moved_to (some (Some x))) (omega arith) (length-set s.homes p (some (Some x)));
+                      (p + 16) 0 (moved_to (some (Some x))) (omega arith) (length-set s.homes p (some (Some x)));
                 },
                 (p, refl, refl, refl),
               ),
@@ -307,28 +306,28 @@ module _ {G E P N F : Type 0} (mg : Meaning G E P N F) (t : Terms G) where
         ))
 
   module _ (slots id : ℕ) (me : Me (Option P) (View G E P N F)) (p : ℕ) (lt : p < slots) (is_out : 0 < me.0.root + me.0.seat) where
-    pub allows_take : me.1 ≡ [] → me.0.carried ≡ None → Allows (Holds mg t) slots id me (p + 2) (λ n. either (eqb n 0) 1 n) (takes_part mg (step slots (p + 2) 0 1 none) me)
-    allows_take bare hand = subst (λ c. Allows (Holds mg t) slots id (me.0, c) (p + 2) (λ n. either (eqb n 0) 1 n) (takes_part mg (step slots (p + 2) 0 1 none) (me.0, c))) (sym bare)
+    pub allows_take : me.1 ≡ [] → me.0.carried ≡ None → Allows (Holds mg t) slots id me (p + 16) (λ n. either (eqb n 0) 1 n) (takes_part mg (step slots (p + 16) 0 1 none) me)
+    allows_take bare hand = subst (λ c. Allows (Holds mg t) slots id (me.0, c) (p + 16) (λ n. either (eqb n 0) 1 n) (takes_part mg (step slots (p + 16) 0 1 none) (me.0, c))) (sym bare)
         (λ s k len at _.
         let small : p < length s.homes = omega arith in
         let r = can_take k.history s k.kept k.counted id me.0 at p small is_out hand in
         (r.0, r.1.0, r.1.1.0, r.1.1.1.0, r.1.1.1.1))
 
-    pub allows_settle : me.1 ≡ (p, None) ∷ [] → me.0.carried ≡ Some p → 1 ≤ weigh (one_at p) me.0.parts → Allows (Holds mg t) slots id me (p + 2) (λ n. n) (λ n w. settles me w)
+    pub allows_settle : me.1 ≡ (p, None) ∷ [] → me.0.carried ≡ Some p → 1 ≤ weigh (one_at p) me.0.parts → Allows (Holds mg t) slots id me (p + 16) (λ n. n) (λ n w. settles me w)
     allows_settle has hand kept = λ s k len at _.
         let small : p < length s.homes = omega arith in
         let r = can_settle k.history s k.kept k.counted id me.0 at p small is_out me.1 has hand kept in
         (r.0, r.1.0, r.1.1.0, r.1.1.1.0, r.1.1.1.1)
 
-    pub allows_fetch : me.1 ≡ [] → me.0.carried ≡ None → 1 ≤ weigh (one_at p) me.0.parts → Allows (Holds mg t) slots id me (p + 2) (λ n. n) (λ n w. fetches (step slots (p + 2) 0 0 none) me w)
-    allows_fetch bare hand kept = subst (λ c. Allows (Holds mg t) slots id (me.0, c) (p + 2) (λ n. n) (λ n w. fetches (step slots (p + 2) 0 0 none) (me.0, c) w)) (sym bare)
+    pub allows_fetch : me.1 ≡ [] → me.0.carried ≡ None → 1 ≤ weigh (one_at p) me.0.parts → Allows (Holds mg t) slots id me (p + 16) (λ n. n) (λ n w. fetches (step slots (p + 16) 0 0 none) me w)
+    allows_fetch bare hand kept = subst (λ c. Allows (Holds mg t) slots id (me.0, c) (p + 16) (λ n. n) (λ n w. fetches (step slots (p + 16) 0 0 none) (me.0, c) w)) (sym bare)
         (λ s k len at _.
         let small : p < length s.homes = omega arith in
         let r = can_fetch k.history s k.kept k.counted id me.0 at p small is_out hand kept in
         (r.0, r.1.0, r.1.1.0, r.1.1.1.0, r.1.1.1.1))
 
     pub allows_return : (x : P) → me.1 ≡ (p, Some x) ∷ [] → SeenAs mg t me.0 p x → me.0.carried ≡ Some p → me.0.closed ≡ None → Rests mg t me.0 p → Loose mg t me.0 p
-        → Allows (Holds mg t) slots id me (p + 2) (λ _. 0) (λ _ w. gives_back (step slots (p + 2) 0 0 none) me w)
+        → Allows (Holds mg t) slots id me (p + 16) (λ _. 0) (λ _ w. gives_back (step slots (p + 16) 0 0 none) me w)
     allows_return x has like hand was_open rests loose = λ s k len at _.
         let small : p < length s.homes = omega arith in
         let r = can_return k.history s k.kept k.counted id me.0 at p small is_out me.1 x has like hand was_open rests loose in
@@ -342,17 +341,17 @@ module _ {G E P N F : Type 0} where
   abbrev pub Took : Meaning G E P N F → ℕ → Me (Option P) (View G E P N F) → Me (Option P) (View G E P N F) → Type 0
   Took mg p me w = (x : P) × (w.0 ≡ record me.0 { parts = me.0.parts ++ (p, x) ∷ []; carried = Some p }) × (w.1 ≡ (p, Some x) ∷ []) × Sees mg w.0
 
-  pub took : (mg : Meaning G E P N F) (slots p : ℕ) (me w : Me (Option P) (View G E P N F)) (n : ℕ) → takes_part mg (step slots (p + 2) 0 1 none) me n w → n ≡ 0 → me.1 ≡ [] → Took mg p me w
+  pub took : (mg : Meaning G E P N F) (slots p : ℕ) (me w : Me (Option P) (View G E P N F)) (n : ℕ) → takes_part mg (step slots (p + 16) 0 1 none) me n w → n ≡ 0 → me.1 ≡ [] → Took mg p me w
   took mg slots p me w n tells found bare =
       let r = tells.0 found in let e : r.0 ≡ p = omega (arith, r.2) in
       (r.1, subst (λ q. w.0 ≡ record me.0 { parts = me.0.parts ++ (q, r.1) ∷ []; carried = Some q }) e r.3, subst (λ q. w.1 ≡ (q, Some r.1) ∷ []) e (r.4 ∙ ap (λ c. (r.0, Some r.1) ∷ c) bare), r.5)
 
-  pub fetched : (slots p : ℕ) (me w : Me (Option P) (View G E P N F)) → fetches (step slots (p + 2) 0 0 none) me w → me.1 ≡ [] → (w.0 ≡ record me.0 { carried = Some p }) × (w.1 ≡ (p, None) ∷ [])
+  pub fetched : (slots p : ℕ) (me w : Me (Option P) (View G E P N F)) → fetches (step slots (p + 16) 0 0 none) me w → me.1 ≡ [] → (w.0 ≡ record me.0 { carried = Some p }) × (w.1 ≡ (p, None) ∷ [])
   fetched slots p me w tells bare =
       let e : tells.0 ≡ p = omega (arith, tells.1) in
       (subst (λ q. w.0 ≡ record me.0 { carried = Some q }) e tells.2, subst (λ q. w.1 ≡ (q, None) ∷ []) e (tells.3 ∙ ap (λ c. (tells.0, None) ∷ c) bare))
 
-  pub returned : (slots p : ℕ) (me w : Me (Option P) (View G E P N F)) → gives_back (step slots (p + 2) 0 0 none) me w → (w.0 ≡ record me.0 { carried = None; parts = remove_at p me.0.parts }) × (w.1 ≡ rest me.1)
+  pub returned : (slots p : ℕ) (me w : Me (Option P) (View G E P N F)) → gives_back (step slots (p + 16) 0 0 none) me w → (w.0 ≡ record me.0 { carried = None; parts = remove_at p me.0.parts }) × (w.1 ≡ rest me.1)
   returned slots p me w tells =
       let e : tells.0 ≡ p = omega (arith, tells.1) in
       (subst (λ q. w.0 ≡ record me.0 { carried = None; parts = remove_at q me.0.parts }) e tells.2, tells.3)

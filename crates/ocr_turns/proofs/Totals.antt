@@ -1,13 +1,13 @@
 -- Sums over views and logs.
-use Rattle.std.proofs.Common.{◌≡◌, ◌≢◌, ℕ, zero, suc, ◌+◌, ◌*◌, ◌<◌, ◌≤◌, ◌⊎◌, inl, inr, ⊎_elim, List, [], ◌∷◌, ◌++◌, length, set, take, refl, ap, sym, ◌∙◌, arith, add-one, length-append, mul-le-mul_right, eq-eqb, ne_eqb, eqb-true, Bool, true, false, Option, Some, None, if◌then◌else◌, ◌&&◌, ◌||◌, ◌==◌, nat_eq, reverse}
+use Rattle.std.proofs.Common.{◌≡◌, ◌≢◌, ℕ, zero, suc, ◌+◌, ◌*◌, ◌<◌, ◌≤◌, ◌⊎◌, inl, inr, ⊎_elim, List, [], ◌∷◌, ◌++◌, length, set, refl, ap, sym, ◌∙◌, arith, add-one, eq-eqb, ne_eqb, eqb-true, Bool, true, false, Option, Some, None, if◌then◌else◌, ◌&&◌, ◌||◌, ◌==◌, reverse}
 use Rattle.std.proofs.lemmas.List.{reverse-append}
 use mathlib.Core.Option.{some, some-injective, some-ne-none}
 use mathlib.Core.Logic.{dite}
 use native.Mathlib.Decide.{ℕ_discrete, dec_le}
 use lib.ListN.{get_elem?}
-use Rattle.ocr_turns.specs.Sums.{total, weigh, weigh_all, one_at, below, sum_of, up_to, made_sum, less_one, less_all, HasAll, picked, is_among, entries, load_of, keys, find, replace, replace_all, remove_at, as_some}
+use Rattle.ocr_turns.specs.Sums.{total, weigh, weigh_all, one_at, below, sum_of, up_to, made_sum, less_one, less_all, HasAll, picked, is_among, entries, load_of}
 use Rattle.ocr_turns.specs.Rule.{LogOf}
-use Rattle.ocr_mail.specs.Mail.{tally, named, drop_one, same_name, without, Has}
+use Rattle.ocr_mail.specs.Mail.{tally, drop_one, same_name, without, Has}
 
 module _ {V : Type 0} where
   pub total_set : (f : V → ℕ) (vs : List V) (i : ℕ) (v w : V) → get_elem? vs i ≡ some v → total f (set vs i w) + f v ≡ total f vs + f w
@@ -258,6 +258,15 @@ one_here p = rw (eq-eqb p p refl) refl
 
 pub one_else : (p q : ℕ) → p ≢ q → one_at p q ≡ 0
 one_else p q ne = rw (ne_eqb p q ne) refl
+
+pub one_most : (p q : ℕ) → one_at p q ≤ 1
+one_most p q = elim (p == q) as (λ b. (if b then 1 else 0) ≤ 1) [
+  | true ↦ omega arith
+  | false ↦ omega arith
+]
+
+pub one_same : (p q : ℕ) → 1 ≤ one_at p q → p ≡ q
+one_same p q one = dite (ℕ_discrete p q) (λ e. e) (λ ne. let none = one_else p q ne in absurd (omega arith))
 
 pub nothing_left : {A : Type 0} (l : List A) → length l ≡ 0 → l ≡ []
 nothing_left [] h = refl

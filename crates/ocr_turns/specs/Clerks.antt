@@ -1,10 +1,12 @@
 -- A clerk's real lists and words are those of its view.
-use Rattle.std.specs.Prelude.{◌≡◌, ◌≢◌, ℕ, ◌+◌, ◌*◌, ◌<◌, ◌≤◌, ◌⊎◌, Bool, false, List, [], ◌∷◌, length, Option, Some, None, MatchOption}
+use Rattle.std.specs.Prelude.{◌≡◌, ◌≢◌, ℕ, ◌+◌, ◌*◌, ◌<◌, ◌≤◌, ◌⊎◌, false, List, [], Option, None, MatchOption}
 use mathlib.Core.Option.{some}
 use lib.ListN.{get_elem?}
 use Rattle.atomic_table.specs.Table.{Me}
 use Rattle.atomic_table.specs.Seated.{TableId}
 use Rattle.ocr_mail.specs.Mail.{same_name}
+use Rattle.ocr_turns.specs.Counting.{TURNS}
+use Rattle.ocr_turns.specs.Owing.{AreInRange}
 use Rattle.ocr_turns.specs.Rule.{OPEN}
 use Rattle.ocr_turns.specs.Steps.{limit_of}
 use Rattle.ocr_turns.specs.Sums.{keys, weigh, one_at}
@@ -23,6 +25,8 @@ pub record IsTrueTo {G E P N F : Type 0} (me : Me (Option P) (View G E P N F)) (
   pub full_is : full ≡ me.0.full
   pub past_end : MatchOption closed (Unit {0}) (λ n. OPEN ≤ n)
   pub past_limit : MatchOption full (Unit {0}) (λ n. limit_of me.0.terms ≤ n)
+  -- what it owes and has claimed is of EDTs of the table
+  pub ranges : AreInRange (limit_of me.0.terms) me.0.debts me.0.claims
   -- it has no slot in hand, and is the root or another clerk that is out
   pub rests : (me.1 ≡ []) × (me.0.carried ≡ None)
   pub seat : ((me.0.root ≡ 1) × (me.0.seat ≡ 0)) ⊎ ((me.0.root ≡ 0) × (me.0.seat ≡ 1) ×
@@ -37,7 +41,7 @@ pub record IsFirst {A : Type 0} (place : ℕ) (parts : List (ℕ × A)) (i : ℕ
 -- the table has a slot and a turn word for each place, and its real limit and share are those of
 -- its terms
 pub record IsLaidFor {G : Type 0} (id : TableId) (t : Terms G) (limit share : ℕ) : Type 0 where
-  pub words : id.words ≡ 2 + id.slots + 33 * t.limit
+  pub words : id.words ≡ TURNS + id.slots + 33 * t.limit
   pub slots : id.slots ≡ 2 * t.limit + 1
   pub limits : (2 ≤ t.limit) × (t.limit ≤ 65536)
   pub loads : t.share ≤ 16000000

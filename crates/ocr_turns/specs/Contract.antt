@@ -5,7 +5,7 @@ use lib.ListN.{get_elem?}
 use Rattle.atomic_table.specs.Seated.{TableId}
 use Rattle.ocr_mail.specs.Mail.{Has}
 use Rattle.ocr_turns.specs.Counting.{Found, tied_to}
-use Rattle.ocr_turns.specs.Owing.{times}
+use Rattle.ocr_turns.specs.Owing.{listed, times}
 use Rattle.ocr_turns.specs.Meaning.{Meaning, Run, Open, Ended}
 use Rattle.ocr_turns.specs.Rule.{Fits, PartsOf, FactsOf, RunsIn, LogOf, LogsOf, AllRise, OPEN}
 use Rattle.ocr_turns.specs.Steps.{Deed, deed, Sees, SeesEnd, logged, ended_by, shut_by, with_drawn, filled_by, with_part, without_part, limit_of}
@@ -20,8 +20,7 @@ use Rattle.ocr_turns.specs.declared.view.View.{View}
 use Rattle.ocr_turns.specs.declared.view.Terms.{Terms}
 
 -- What contracts see of a clerk: its table, its view, its parts (None where it was lifted), and its
--- free room for
--- entries, for parts and for messages.
+-- free room for entries, for parts and for messages.
 pub record Known (G E P N F : Type 0) : Type 0 where
   pub table : TableId
   pub view : View G E P N F
@@ -40,10 +39,10 @@ module _ {G E P N F : Type 0} (m : Meaning G E P N F) (t : Terms G) where
     pub sends : m.sends t.setting.value t.limit J d.entry ≡ d.sends
     pub facts : FactsOf (m.stands t.setting.value t.limit (J ++ d.entry ∷ [])) d.learns
     pub wakes : m.counting.resumes t.setting.value t.limit J d.entry ≡ d.debts.resumes
+    pub counts : listed (m.counting.creates t.setting.value t.limit J d.entry) ≡ d.debts.made
 
   -- Whatever the history is, where it fits the view and has not ended, the entry may come next, and
-  -- the parts, the
-  -- messages and the facts are these then.
+  -- the parts, the messages and the facts are these then.
   abbrev pub Legal : View G E P N F → Deed E P N F → Type 0
   Legal v d = (J : List E) → Open m.stops J → Fits m t J v → Next J v d
 
@@ -160,8 +159,8 @@ module _ {G E P N F : Type 0} where
 
 -- THE ENDS
 -- The logs by number are one run, each number once, each log rises, and nothing comes after an
--- entry that ends the
--- run. Where no number was left, each up to the limit is made or stands as drawn in the root.
+-- entry that ends the run. Where no number was left, each up to the limit is made or stands as
+-- drawn in the root.
 pub record Finished {G E P N F : Type 0} (m : Meaning G E P N F) (t : Terms G) (v : View G E P N F)
     (logs : List (List (ℕ × E))) : Type 0 where
   pub history : List E

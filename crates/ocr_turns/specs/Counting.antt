@@ -11,6 +11,15 @@ use Rattle.ocr_turns.specs.declared.debts.Debts.{Debts}
 use Rattle.ocr_turns.specs.declared.view.View.{View}
 use Rattle.ocr_turns.specs.declared.view.Terms.{Terms}
 
+-- THE WORDS of a table. The commit word comes first; the draw word, and the turn words from the
+-- first on, are so far behind it that none shares a cache line of 64 bytes with it.
+abbrev pub DRAW : ℕ
+DRAW = 8
+
+abbrev pub TURNS : ℕ
+TURNS = 16
+
+-- THE WORD of an EDT
 abbrev pub READY : ℕ
 READY = 0
 
@@ -44,7 +53,8 @@ module _ {G E P N F : Type 0} (m : Meaning G E P N F) (t : Terms G) where
   -- how many slots the EDT was made with
   abbrev pub slots_of : List E → ℕ → Option ℕ
   slots_of [] n = if m.first.0 == n then Some 1 else None
-  slots_of (e ∷ past) n = count_if (m.counting.creates e) n (slots_of past n)
+  slots_of (e ∷ past) n =
+      count_if (m.counting.creates t.setting.value t.limit (reverse past) e) n (slots_of past n)
 
   -- what the slot was set to
   abbrev pub payload_of : List E → ℕ → ℕ → Option ℕ
@@ -108,7 +118,8 @@ pub record CountingLaws {G E P N F : Type 0} (m : Meaning G E P N F) : Type 0 wh
   pub first_set : (t : Terms G) → m.stands t.setting.value t.limit []
       (m.counting.is_set m.first.0 0 m.first.1)
   pub creating : (t : Terms G) (past : List E) (e : E) (n d : ℕ) → MayCome m t past e
-      → m.counting.creates e ≡ Some (n, d) → (1 ≤ sum_of (one_at n) (m.makes e)) × (d ≤ 32)
+      → m.counting.creates t.setting.value t.limit (reverse past) e ≡ Some (n, d)
+      → (1 ≤ sum_of (one_at n) (m.makes e)) × (d ≤ 32)
   pub setting : (t : Terms G) (past : List E) (e : E) (n k x : ℕ) → MayCome m t past e
       → m.counting.sets e ≡ Some (n, k, x)
       → ((d : ℕ) × (slots_of m t past n ≡ Some d) × (k < d)) × (payload_of m t past n k ≡ None)
@@ -126,7 +137,7 @@ pub record CountingLaws {G E P N F : Type 0} (m : Meaning G E P N F) : Type 0 wh
 
 -- THE WORDS of an EDT, behind the turn words
 abbrev pub state_at : ℕ → ℕ → ℕ
-state_at slots n = 2 + slots + 33 * (n - 1)
+state_at slots n = TURNS + slots + 33 * (n - 1)
 
 abbrev pub payload_at : ℕ → ℕ → ℕ → ℕ
 payload_at slots n k = state_at slots n + 1 + k
@@ -193,13 +204,13 @@ abbrev pub IsInOrder : Option ℕ → Account → Type 0
 IsInOrder None a = IsBlank a
 IsInOrder (Some d) a = IsCounting a ⊎ (IsBusy a ⊎ IsParked a)
 
--- what an entry adds to what is owed, where it resumes these
-abbrev pub debts_by : {G E P N F : Type 0} → Meaning G E P N F → E → List ℕ → Debts
-debts_by m e rs = record {
+-- what an entry adds to what is owed, where it resumes these and makes this EDT
+abbrev pub debts_by : {G E P N F : Type 0} → Meaning G E P N F → E → List ℕ → Option (ℕ × ℕ)
+    → Debts
+debts_by m e rs one = record {
   unput = listed (m.counting.sets e);
   put = [];
-  made = listed
-      (m.counting.creates e);
+  made = listed one;
   resumes = rs;
   lasts = [];
 }
@@ -236,7 +247,7 @@ module _ {G E P N F : Type 0} (m : Meaning G E P N F) (t : Terms G) where
     pub spent : v.root + v.seat ≡ 0 → (v.debts ≡ no_debts) × (v.claims ≡ [])
 
   pub record Counted (past : List E) (s : State (Option P) (View G E P N F)) : Type 0 where
-    pub words : length s.words ≡ 2 + length s.homes + 33 * t.limit
+    pub words : length s.words ≡ TURNS + length s.homes + 33 * t.limit
     pub told : Consistent m t past
     pub each : (n : ℕ) → 1 ≤ n → n ≤ t.limit → IsInOrder (slots_of m t past n) (account s.words
         (length s.homes) s.views past n)

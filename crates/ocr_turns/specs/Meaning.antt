@@ -1,13 +1,14 @@
 -- What a machine means to its table, and the laws that this obeys.
-use Rattle.std.specs.Prelude.{◌≡◌, ℕ, ◌+◌, ◌<◌, ◌≤◌, Bool, true, false, List, [], ◌∷◌, ◌++◌, take, Option, None}
+use Rattle.std.specs.Prelude.{◌≡◌, ℕ, ◌+◌, ◌*◌, ◌<◌, ◌≤◌, Bool, true, false, List, [], ◌∷◌, ◌++◌, length, take, Option, None}
 use mathlib.Core.Option.{some}
 use lib.ListN.{get_elem?}
-use Rattle.ocr_turns.specs.Sums.{picked}
+use Rattle.ocr_turns.specs.Sums.{made_sum, one_at, picked, sum_of, up_to}
 
 -- what the words that count see of an entry
 pub record Counting (G E P F : Type 0) : Type 1 where
-  -- the EDT that it makes, with its slot count
-  pub creates : E → Option (ℕ × ℕ)
+  -- the EDT that it makes after a list, with its slot count; and the same from the parts kept
+  pub creates : G → ℕ → List E → E → Option (ℕ × ℕ)
+  pub counts : ℕ → E → List (ℕ × P) → Option (ℕ × ℕ)
   -- the slot that it sets: the EDT, the slot and the payload
   pub sets : E → Option (ℕ × ℕ × ℕ)
   -- the place of the part for which it lets an EDT wait
@@ -78,10 +79,26 @@ pub record IsBare {G E P N F : Type 0} (m : Meaning G E P N F) (e : E) : Type 0 
   pub ends : (t : ℕ) → m.ends e t ≡ false
   pub sends : (g : G) (limit : ℕ) (J : List E) → m.sends g limit J e ≡ []
   pub weightless : m.heavy e ≡ 0
-  pub creates : m.counting.creates e ≡ None
+  pub creates : (g : G) (limit : ℕ) (J : List E) → m.counting.creates g limit J e ≡ None
   pub sets : m.counting.sets e ≡ None
   pub waits : (t : ℕ) → m.counting.waits e t ≡ None
   pub resumes : (g : G) (limit : ℕ) (J : List E) → m.counting.resumes g limit J e ≡ []
+
+-- The places, told by how often each is among them, differ, are from 1 to twice the limit, and are
+-- at most 40.
+pub record ArePlaces (limit : ℕ) (at : ℕ → ℕ) : Type 0 where
+  pub all : List ℕ
+  pub those : (p : ℕ) → at p ≡ sum_of (one_at p) all
+  pub differ : (p : ℕ) → at p ≤ 1
+  pub range : (p : ℕ) → 1 ≤ at p → (1 ≤ p) × (p ≤ 2 * limit)
+  pub few : length all ≤ 40
+
+-- A number that the entry makes is made once, is from 1 to the limit, and was not made before.
+pub record IsNewNumber {G E P N F : Type 0} (m : Meaning G E P N F) (limit : ℕ) (J : List E) (e : E)
+    (n : ℕ) : Type 0 where
+  pub once : sum_of (one_at n) (m.makes e) ≡ 1
+  pub range : (1 ≤ n) × (n ≤ limit)
+  pub unmade : up_to (one_at n) m.opened + made_sum m.makes (one_at n) J ≡ 0
 
 pub record Lawful {G E P N F : Type 0} (m : Meaning G E P N F) : Type 0 where
   pub weighs : (e : E) → m.stops e ≡ false → 1 ≤ m.heavy e
@@ -100,4 +117,9 @@ pub record Lawful {G E P N F : Type 0} (m : Meaning G E P N F) : Type 0 where
   -- an EDT has no entry of its own before its first
   pub first : (g : G) (limit : ℕ) (J : List E) (e : E) (t : ℕ) → Run (m.legal g limit) J
       → m.legal g limit J e → m.starts e t ≡ true → picked (λ x. m.runs x t) J ≡ []
+  pub places : (g : G) (limit : ℕ) (J : List E) (e : E) → 2 ≤ limit → Run (m.legal g limit) J
+      → m.legal g limit J e → ArePlaces limit (m.touches limit e)
+  pub making : (g : G) (limit : ℕ) (J : List E) (e : E) (n : ℕ) → 2 ≤ limit → Run
+      (m.legal g limit) J → m.legal g limit J e → 1 ≤ sum_of (one_at n) (m.makes e)
+      → IsNewNumber m limit J e n
   pub starting : (e : E) (t : ℕ) → m.starts e t ≡ true → m.runs e t ≡ true

@@ -1,5 +1,7 @@
 -- What a view owes to the words that count, and has claimed.
-use Rattle.std.specs.Prelude.{◌≡◌, ℕ, zero, suc, ◌+◌, ◌-◌, ◌==◌, ◌&&◌, Bool, if◌then◌else◌, List, [], ◌∷◌, ◌++◌, Option, Some, None}
+use Rattle.std.specs.Prelude.{◌≡◌, ℕ, zero, suc, ◌+◌, ◌-◌, ◌<◌, ◌≤◌, ◌==◌, ◌&&◌, Bool, if◌then◌else◌, List, [], ◌∷◌, ◌++◌, Option, Some, None}
+use mathlib.Core.Option.{some}
+use lib.ListN.{get_elem?}
 use Rattle.ocr_mail.specs.Mail.{tally, drop_one}
 use Rattle.ocr_turns.specs.Sums.{one_at, sum_of, less_one, remove_at}
 use Rattle.ocr_turns.specs.declared.debts.Debts.{Debts}
@@ -49,6 +51,19 @@ making n (x ∷ xs) = (if n == x.0 then 33 - x.1 else 0) + making n xs
 abbrev pub remove_edt : {N : Type 0} → ℕ → List (ℕ × ℕ × N) → List (ℕ × ℕ × N)
 remove_edt n [] = []
 remove_edt n (x ∷ xs) = if n == x.0 then xs else x ∷ remove_edt n xs
+
+-- an EDT's number
+abbrev pub IsNumber : ℕ → ℕ → Type 0
+IsNumber limit n = (1 ≤ n) × (n ≤ limit)
+
+-- What is owed and claimed is of EDTs that a table with this limit has, of at most 32 slots each.
+pub record AreInRange (limit : ℕ) (d : Debts) (claimed : List ℕ) : Type 0 where
+  pub unput : (i n k x : ℕ) → get_elem? d.unput i ≡ some (n, k, x) → IsNumber limit n × (k < 32)
+  pub put : (n : ℕ) → 1 ≤ tally (of_edt n) d.put → IsNumber limit n
+  pub made : (i n slots : ℕ) → get_elem? d.made i ≡ some (n, slots) → IsNumber limit n ×
+      (slots ≤ 32)
+  pub resumes : (n : ℕ) → 1 ≤ times n d.resumes → IsNumber limit n
+  pub claims : (n : ℕ) → 1 ≤ times n claimed → IsNumber limit n
 
 -- THE STEPS: a payload is put, a slot is counted, a making is counted, a resume is done
 abbrev pub put_debts : Debts → ℕ → ℕ → ℕ → Debts

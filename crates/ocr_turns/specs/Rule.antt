@@ -1,11 +1,11 @@
 -- The rule of the table: one history, and what each seat's view has to do with it.
-use Rattle.std.specs.Prelude.{◌≡◌, ◌≢◌, ℕ, ◌+◌, ◌*◌, ◌<◌, ◌≤◌, ◌⊎◌, reverse, Bool, true, false, List, [], ◌∷◌, ◌++◌, length, take, slice_index, Option, Some, None, MatchOption}
+use Rattle.std.specs.Prelude.{◌≡◌, ◌≢◌, ℕ, ◌+◌, ◌*◌, ◌<◌, ◌≤◌, ◌⊎◌, reverse, Bool, true, false, List, [], length, take, slice_index, Option, Some, None, MatchOption}
 use mathlib.Core.Option as maybe
 use mathlib.Core.Option.{some}
 use lib.ListN.{get_elem?}
 use Rattle.atomic_table.specs.Table.{State}
 use Rattle.ocr_mail.specs.Mail.{tally, pending}
-use Rattle.ocr_turns.specs.Counting.{Counted}
+use Rattle.ocr_turns.specs.Counting.{Counted, DRAW, TURNS}
 use Rattle.ocr_turns.specs.Meaning.{Meaning, Run, Open, Ended}
 use Rattle.ocr_turns.specs.Sums.{total, weigh, weigh_all, below, one_at, sum_of, up_to, made_sum, is_free, picked, is_among, entries, load_of, Rises}
 use Rattle.ocr_turns.specs.declared.view.View.{View}
@@ -155,23 +155,23 @@ module _ {G E P N F : Type 0} (m : Meaning G E P N F) (t : Terms G) where
   pub record Numbers (J : List E) (s : State (Option P) (View G E P N F)) : Type 0 where
     -- so many numbers were drawn; each is made, or drawn and unused in one view
     pub drawn : ℕ
-    pub draws : ((slice_index s.words 1 ≡ drawn) × (drawn ≤ t.limit)) ⊎ ((drawn ≡ t.limit) ×
-        (t.limit ≤ slice_index s.words 1))
+    pub draws : ((slice_index s.words DRAW ≡ drawn) × (drawn ≤ t.limit)) ⊎ ((drawn ≡ t.limit) ×
+        (t.limit ≤ slice_index s.words DRAW))
     pub numbers : (f : ℕ → ℕ) → total (λ v. sum_of f v.drawn) s.views +
         (up_to f m.opened + made_sum m.makes f J) ≡ up_to f drawn
-    pub fulls : slice_index s.words 1 ≤ t.limit + total (λ v. v.filled) s.views
+    pub fulls : slice_index s.words DRAW ≤ t.limit + total (λ v. v.filled) s.views
     -- where a view knows that the draw word reached the limit, it did
     pub reached : (id : ℕ) (v : View G E P N F) → get_elem? s.views id ≡ some v
-        → MatchOption v.reached (Unit {0}) (λ _. t.limit ≤ slice_index s.words 1)
+        → MatchOption v.reached (Unit {0}) (λ _. t.limit ≤ slice_index s.words DRAW)
 
   -- the turn words, the slots and the parts kept
   pub record Places (J : List E) (s : State (Option P) (View G E P N F)) : Type 0 where
     -- behind the commit word and the draw word each place has its turn word
-    pub words : 2 + length s.homes ≤ length s.words
+    pub words : TURNS + length s.homes ≤ length s.words
     -- each part has one keeper: its slot, where its turn word is 0, or one seat
     pub keeper : (p : ℕ) → p < length s.homes → total (λ v. weigh
-        (one_at p) v.parts) s.views + is_free (slice_index s.words (p + 2)) ≡ 1
-    pub home : (p : ℕ) → p < length s.homes → slice_index s.words (p + 2) ≡ 0 → HomeOf s.homes J p
+        (one_at p) v.parts) s.views + is_free (slice_index s.words (p + TURNS)) ≡ 1
+    pub home : (p : ℕ) → p < length s.homes → slice_index s.words (p + TURNS) ≡ 0 → HomeOf s.homes J p
 
   -- the first rule, of a table whose history is J
   pub record Kept (J : List E) (s : State (Option P) (View G E P N F)) : Type 0 where

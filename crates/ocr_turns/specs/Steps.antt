@@ -6,8 +6,8 @@ use Rattle.ocr_mail.specs.Mail.{named, without}
 use Rattle.ocr_turns.specs.Meaning.{Meaning}
 use Rattle.ocr_turns.specs.Rule.{Fits, Over, OPEN}
 use Rattle.ocr_turns.specs.Sums.{less_all, remove_at, replace_all}
-use Rattle.ocr_turns.specs.Counting.{debts_by, leaves}
-use Rattle.ocr_turns.specs.Owing.{no_debts, both_debts, without_all}
+use Rattle.ocr_turns.specs.Counting.{TURNS, debts_by, leaves}
+use Rattle.ocr_turns.specs.Owing.{no_debts, both_debts, without_all, AreInRange}
 use Rattle.ocr_turns.specs.declared.debts.Debts.{Debts}
 use Rattle.ocr_turns.specs.declared.view.View.{View}
 use Rattle.ocr_turns.specs.declared.view.Terms.{Terms}
@@ -40,7 +40,7 @@ deed m limit v e ps ms = record {
   sends = ms;
   makes = m.makes e;
   learns = m.learns limit e v.parts;
-  debts = debts_by m e (m.counting.wakes limit e v.parts);
+  debts = debts_by m e (m.counting.wakes limit e v.parts) (m.counting.counts limit e v.parts);
   leaves = leaves m e;
 }
 
@@ -193,29 +193,26 @@ module _ {G E P N F : Type 0} where
   SeesEnd m w = (t : Terms G) → w.terms ≡ Some t → (J : List E) × Over m t J w
 
   -- THE STEPS, from the seat m to the seat w, where the word was n
-  abbrev pub stays_open : Meaning G E P N F → View G E P N F → Me (Option P) (View G E P N F) → ℕ
-      → Me (Option P) (View G E P N F) → Type 0
-  stays_open mg after m n w = (n < OPEN) × (w.0 ≡ after) × Sees mg w.0
-
-  abbrev pub is_shut : Meaning G E P N F → Me (Option P) (View G E P N F) → ℕ → Me (Option P)
-      (View G E P N F) → Type 0
-  is_shut mg m n w = (OPEN ≤ n) × (w.0 ≡ shut_by m.0 n) × SeesEnd mg w.0
+  -- The commit word was open, and the seat has the view after the step, or the run had ended.
+  abbrev pub tries : Meaning G E P N F → View G E P N F → Type 0 → Me (Option P) (View G E P N F)
+      → ℕ → Me (Option P) (View G E P N F) → Type 0
+  tries mg after told m n w = (w.1 ≡ m.1) × (((n < OPEN) × (w.0 ≡ after) × told) ⊎
+      ((OPEN ≤ n) × (w.0 ≡ shut_by m.0 n) × SeesEnd mg w.0))
 
   abbrev pub commits : Meaning G E P N F → Option (Deed E P N F) → Me (Option P) (View G E P N F)
       → ℕ → Me (Option P) (View G E P N F) → Type 0
   commits mg None m n w = Unit {0}
-  commits mg (Some d) m n w = (w.1 ≡ m.1) × (stays_open mg (logged m.0 n d) m n w
-      ⊎ is_shut mg m n w)
+  commits mg (Some d) m n w = tries mg (logged m.0 n d) (Sees mg w.0 ×
+      AreInRange (limit_of m.0.terms) d.debts []) m n w
 
   abbrev pub closes : Meaning G E P N F → Option E → Me (Option P) (View G E P N F) → ℕ → Me
       (Option P) (View G E P N F) → Type 0
   closes mg None m n w = Unit {0}
-  closes mg (Some e) m n w = (w.1 ≡ m.1) × (((n < OPEN) × (w.0 ≡ ended_by m.0 n e)
-      × SeesEnd mg w.0) ⊎ is_shut mg m n w)
+  closes mg (Some e) m n w = tries mg (ended_by m.0 n e) (SeesEnd mg w.0) m n w
 
   abbrev pub looks : Meaning G E P N F → Me (Option P) (View G E P N F) → ℕ → Me (Option P)
       (View G E P N F) → Type 0
-  looks mg m n w = (w.1 ≡ m.1) × (stays_open mg m.0 m n w ⊎ is_shut mg m n w)
+  looks mg m n w = tries mg m.0 (Sees mg w.0) m n w
 
   abbrev pub draws_from : Meaning G E P N F → Me (Option P) (View G E P N F) → ℕ → Me (Option P)
       (View G E P N F) → Type 0
@@ -227,7 +224,7 @@ module _ {G E P N F : Type 0} where
   abbrev pub takes_part : Meaning G E P N F → Step (Option P) → Me (Option P) (View G E P N F) → ℕ
       → Me (Option P) (View G E P N F) → Type 0
   takes_part mg s m n w =
-      (n ≡ 0 → (p : ℕ) × (x : P) × (s.word ≡ p + 2) × (w.0 ≡ record m.0 {
+      (n ≡ 0 → (p : ℕ) × (x : P) × (s.word ≡ p + TURNS) × (w.0 ≡ record m.0 {
         parts = m.0.parts ++
             (p, x) ∷ [];
         carried = Some p;
@@ -241,12 +238,12 @@ module _ {G E P N F : Type 0} where
   -- A part goes home by two steps: its empty slot comes, and goes filled.
   abbrev pub fetches : Step (Option P) → Me (Option P) (View G E P N F) → Me (Option P)
       (View G E P N F) → Type 0
-  fetches s m w = (p : ℕ) × (s.word ≡ p + 2) × (w.0 ≡ record m.0 { carried = Some p }) × (w.1 ≡
+  fetches s m w = (p : ℕ) × (s.word ≡ p + TURNS) × (w.0 ≡ record m.0 { carried = Some p }) × (w.1 ≡
       (p, None) ∷ m.1)
 
   abbrev pub gives_back : Step (Option P) → Me (Option P) (View G E P N F) → Me (Option P)
       (View G E P N F) → Type 0
-  gives_back s m w = (p : ℕ) × (s.word ≡ p + 2) × (w.0 ≡ record m.0 {
+  gives_back s m w = (p : ℕ) × (s.word ≡ p + TURNS) × (w.0 ≡ record m.0 {
     carried = None;
     parts = remove_at p m.0.parts;
   }) × (w.1 ≡ rest m.1)

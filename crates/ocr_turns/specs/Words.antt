@@ -1,12 +1,12 @@
 -- The steps on the words that count: what each asks, and what it tells.
-use Rattle.std.specs.Prelude.{◌≡◌, ◌≢◌, ℕ, ◌+◌, ◌-◌, ◌<◌, ◌≤◌, ◌⊎◌, reverse, false, List, [], ◌∷◌, ◌++◌, Option, Some, None}
+use Rattle.std.specs.Prelude.{◌≡◌, ◌≢◌, ℕ, ◌-◌, ◌<◌, ◌≤◌, ◌⊎◌, reverse, false, List, [], ◌∷◌, ◌++◌, Option, Some, None}
 use mathlib.Core.Option.{some}
 use lib.ListN.{get_elem?}
 use Rattle.atomic_table.specs.Table.{Me}
 use Rattle.ocr_mail.specs.Mail.{tally}
-use Rattle.ocr_turns.specs.Counting.{IsSet, Found, slots_of, payload_of, awaited, is_started, READY}
+use Rattle.ocr_turns.specs.Counting.{IsSet, Found, slots_of, awaited, is_started, READY}
 use Rattle.ocr_turns.specs.Meaning.{Meaning, Run}
-use Rattle.ocr_turns.specs.Owing.{of_edt, times, put_debts, counted_debts, made_debts, resumed_debts}
+use Rattle.ocr_turns.specs.Owing.{IsNumber, of_edt, times, put_debts, counted_debts, made_debts, resumed_debts}
 use Rattle.ocr_turns.specs.Rule.{Fits, LogOf, FactsOf}
 use Rattle.ocr_turns.specs.Sums.{less_one}
 use Rattle.ocr_turns.specs.declared.view.View.{View}
@@ -75,13 +75,19 @@ module _ {G E P N F : Type 0} (m : Meaning G E P N F) (t : Terms G) where
   Waits v n = (J : List E) → Knows J v → (p : ℕ) × (awaited m t (reverse J) n ≡ Some p)
 
   abbrev pub MayStep : View G E P N F → ℕ → WordStep → Type 0
-  MayStep v n (word.Put k x) = (k < 32) × OwesPayload v n k x
+  MayStep v n (word.Put k x) = OwesPayload v n k x
   MayStep v n word.Count = OwesCount v n
-  MayStep v n (word.CountMade d) = (d ≤ 32) × OwesMaking v n d
-  MayStep v n (word.Read k) = (k < 32) × HasClaim v n × HasSlot v n k
-  MayStep v n word.Claim = Unit {0}
+  MayStep v n (word.CountMade d) = OwesMaking v n d
+  MayStep v n (word.Read k) = HasClaim v n × HasSlot v n k
+  MayStep v n word.Claim = IsNumber t.limit n
   MayStep v n word.Park = HasClaim v n × Waits v n
   MayStep v n word.Resume = OwesResume v n
+
+-- the slot or the slot count of a step on an EDT's words is in range
+abbrev pub FitsSlots : WordStep → Type 0
+FitsSlots (word.Put k x) = k < 32
+FitsSlots (word.CountMade d) = d ≤ 32
+FitsSlots other = Unit {0}
 
 -- WHAT THE STEP TELLS, from the view v to the view w, where the word was x
 module _ {G E P N F : Type 0} (m : Meaning G E P N F) where
@@ -99,8 +105,8 @@ module _ {G E P N F : Type 0} (m : Meaning G E P N F) where
   StepTells n (word.Put k p) v x w = w ≡ putting v n k p
   StepTells n word.Count v x w = (w ≡ counting_down v n (x - 1)) × (1 ≤ x) × (x ≤ 33)
       × SeesWord w n (x - 1)
-  StepTells n (word.CountMade d) v x w = (w ≡ counting_made v n (x - (33 - d))) × (33 - d ≤ x) ×
-      (x ≤ 33) × SeesWord w n (x - (33 - d))
+  StepTells n (word.CountMade d) v x w = (w ≡ counting_made v n (x - (33 - d))) × (d ≤ 32) ×
+      (33 - d ≤ x) × (x ≤ 33) × SeesWord w n (x - (33 - d))
   StepTells n (word.Read k) v x w = w ≡ learning v (m.counting.is_set n k x)
   StepTells n word.Claim v x w = ((x ≡ READY) × (w ≡ claiming v n) × SeesReady w n) ⊎ ((x ≢ READY)
       × (w ≡ v) × SeesWord w n x)

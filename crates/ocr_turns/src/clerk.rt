@@ -1,5 +1,8 @@
 // A clerk: a seat at the table, with what it keeps.
 ghost use Rattle.std.specs.Prelude.{◌≡◌, ◌<◌, ◌≤◌, ◌+◌, ℕ, Option, Some, None, vec_capacity, length};
+ghost use Rattle.std.specs.List.{remove};
+ghost use mathlib.Core.Option.{some};
+ghost use lib.ListN.{get_elem?};
 ghost use Rattle.ocr_turns.specs.Clerks.{IsFirst};
 ghost use Rattle.ocr_turns.specs.Sums.{find, replace};
 ghost use Rattle.ocr_turns.specs.Contract.{SameRoom};
@@ -133,4 +136,21 @@ pub(crate) fn swap_part<P>(parts: &mut Hand<P>, place: u64, part: Option<P>) -> 
 {
     let i = position(parts.as_slice(), place);
     std::mem::replace(&mut parts[i].1, part)
+}
+
+/// Takes out the item at `i`. The last item moves no other one.
+pub(crate) fn take_out<T>(items: &mut Vec<T>, i: usize) -> T
+    requires { i < length items.old.items }
+    ensures item { get_elem? items.old.items i ≡ some result }
+    ensures rest { items.new.items ≡ remove items.old.items i }
+    ensures room { (vec_capacity items.new ≡ vec_capacity items.old)
+        × (length items.new.items + 1 ≡ length items.old.items) }
+{
+    if i + 1 < items.len() {
+        return items.remove(i);
+    }
+    match items.pop() {
+        Some(item) => item,
+        None => unreachable!(),
+    }
 }

@@ -7,7 +7,7 @@ ghost use Rattle.ocr_turns.specs.Sums.{as_some, replace_all};
 ghost use Rattle.ocr_turns.specs.Contract.{CommitTells, IsOf, MayCommit};
 
 use crate::answers::{Change, Committed};
-use crate::clerk::{Clerk, Hand, swap_part};
+use crate::clerk::{Clerk, Hand, swap_part, take_out};
 use crate::machine::Machine;
 use crate::rule::{Commits, Told};
 use crate::turns::{COMMIT, ENDED, Turns};
@@ -37,11 +37,9 @@ impl<M: Machine> Turns<M> {
     }
 
     /// Enters an entry by one step. It is in the clerk's log then, the clerk keeps the changed
-    /// parts,
-    /// owes the messages sent under the entry's number, and owes a delivered one no more. A clerk
-    /// that
-    /// knows that the run has ended is answered so without a step; nothing changes for a refused
-    /// entry.
+    /// parts, owes the messages sent under the entry's number, and owes a delivered one no more. A
+    /// clerk that knows that the run has ended is answered so without a step; nothing changes for a
+    /// refused entry.
     pub fn commit(&self, clerk: &mut Clerk<M>, entry: M::Entry, change: Change<M>) -> Committed
         requires table { IsOf self.now clerk.old }
         requires room { (2 ≤ clerk.old.room) × (length change.messages.items ≤ clerk.old.space)
@@ -118,7 +116,7 @@ fn forget<N: Drop>(owed: &mut Vec<(u64, u32, N)>, delivered: Option<(u64, u32)>)
 {
     if let Some((number, index)) = delivered {
         let i = message_position(owed.as_slice(), number, index);
-        drop(owed.remove(i));
+        drop(take_out(owed, i));
     }
 }
 

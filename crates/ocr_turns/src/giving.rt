@@ -4,7 +4,7 @@ ghost use Rattle.ocr_turns.specs.Sums.{find, remove_at};
 ghost use Rattle.ocr_turns.specs.Steps.{without_part};
 ghost use Rattle.ocr_turns.specs.Contract.{GiveTells, IsOf, Loose, MayGive, Rests, SeenAs};
 
-use crate::clerk::{Clerk, Hand, position};
+use crate::clerk::{Clerk, Hand, position, take_out};
 use crate::machine::Machine;
 use crate::rule::{Fetches, Returns};
 use crate::taking::TURNS;
@@ -65,6 +65,6 @@ fn remove_part<P>(parts: &mut Hand<P>, place: u64) -> Option<P>
         ≡ vec_capacity parts.old - length parts.old.items + 1 }
 {
     let i = position(parts.as_slice(), place);
-    let (_, part) = parts.remove(i);
+    let (_, part) = take_out(parts, i);
     part
 }

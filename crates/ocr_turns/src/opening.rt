@@ -5,12 +5,13 @@ ghost use mathlib.Core.Option.{some};
 ghost use lib.ListN.{get_elem?};
 ghost use Rattle.ocr_turns.specs.Steps as steps;
 ghost use Rattle.ocr_turns.specs.Contract.{OpensWith, TermsAre, faces};
-ghost use Rattle.ocr_turns.specs.Beginning.{IsLaidOut, unmade_words};
+ghost use Rattle.ocr_turns.specs.Beginning.{IsLaidOut, front_words, unmade_words};
 ghost use Rattle.ocr_turns.specs.Openings.{placed};
 
 use crate::clerk::Clerk;
 use crate::machine::Machine;
-use crate::turns::Turns;
+use crate::taking::TURNS;
+use crate::turns::{DRAW, Turns};
 use crate::view::Terms;
 use atomic_table::{Seat, Table};
 use ocr_base::NoMemory;
@@ -22,9 +23,8 @@ pub(crate) const KEPT: usize = 64;
 
 impl<M: Machine> Turns<M> {
     /// A table with the parts of the opening, each at its place, and `vacant` at every other. As
-    /// many
-    /// numbers count as drawn as the opening has objects. The clerk is the root. Only clauses keep
-    /// the setting.
+    /// many numbers count as drawn as the opening has objects. The clerk is the root. Only clauses
+    /// keep the setting.
     pub fn new(
         alloc: Global,
         setting: &M::Setting,
@@ -91,8 +91,7 @@ fn face_count<P>(opening: &[(u64, P)], limit: u64) -> u64
 }
 
 // The words of a table: the commit word, the draw word, a turn word for each place, all free, and
-// the
-// words that count, where the first EDT alone is made and ready.
+// the words that count, where the first EDT alone is made and ready.
 fn first_words(
     alloc: Global,
     limit: usize,
@@ -104,7 +103,7 @@ fn first_words(
     ensures { IfOk result (λ v. IsLaidOut first limit drawn v.items) }
 {
     let mut words = bare_words(alloc, limit, drawn)?;
-    let state = 2 * limit + 3 + 33 * (first.0 as usize - 1);
+    let state = TURNS + 2 * limit + 1 + 33 * (first.0 as usize - 1);
     words[state] = 0;
     words[state + 1] = first.1;
     Ok(words)
@@ -113,13 +112,13 @@ fn first_words(
 // The same where no EDT is made.
 fn bare_words(alloc: Global, limit: usize, drawn: u64) -> Result<Vec<u64>, AllocError>
     requires { limit ≤ 65536 }
-    ensures { IfOk result
-        (λ v. v.items ≡ (0 ∷ drawn ∷ replicate (2 * limit + 1) 0) ++ unmade_words limit) }
+    ensures { IfOk result (λ v. v.items ≡ front_words drawn limit ++ unmade_words limit) }
 {
     let mut unmade = [0; 33];
     unmade[0] = 33;
-    let mut words = vec![in alloc; 0, drawn]?;
-    words.resize(2 * limit + 3, 0)?;
+    let mut words = vec![in alloc; 0; DRAW]?;
+    words.push(drawn)?;
+    words.resize(TURNS + 2 * limit + 1, 0)?;
     for _ in 0..limit {
         words.extend_from_slice(&unmade)?;
     }

@@ -39,8 +39,7 @@ impl<M: Machine> Turns<M> {
     }
 
     /// Takes a clerk into the root, which has its log, parts, messages and numbers then, and room
-    /// for
-    /// 64 parts more. Where memory is wanting the clerk comes back.
+    /// for 64 parts more. Where memory is wanting the clerk comes back.
     pub fn join(
         &self,
         _alloc: Global,

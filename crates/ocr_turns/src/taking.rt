@@ -13,8 +13,8 @@ use atomic_table::Seat;
 use std::sync::Wait;
 use std::thread;
 
-/// The first turn word.
-pub(crate) const TURNS: usize = 2;
+/// The first turn word. It shares no cache line with the commit word.
+pub(crate) const TURNS: usize = 16;
 
 impl<M: Machine> Turns<M> {
     /// Waits for the turn of a part, and reads the commit word before each try.

@@ -13,10 +13,10 @@ use std::marker::Model;
 
 /// The commit word from which on the run has ended.
 pub(crate) const ENDED: u64 = 1 << 48;
-/// The word that counts the entries, and the one that counts the draws.
+/// The word that counts the entries.
 pub(crate) const COMMIT: usize = 0;
-
-pub(crate) const DRAW: usize = 1;
+/// The word that counts the draws, on a cache line of its own.
+pub(crate) const DRAW: usize = 8;
 
 /// A table that clerks share: the parts of a machine, each with its turn, and one history.
 #[derive(Drop)]

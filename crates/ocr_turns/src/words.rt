@@ -1,11 +1,13 @@
 // The words that count an EDT's open slots, behind the turn words.
 ghost use Rattle.std.specs.Prelude.{◌≡◌, ◌<◌, ◌≤◌, ◌+◌, ◌*◌, ◌-◌, Some};
 ghost use Rattle.ocr_turns.specs.Counting.{state_at};
-ghost use Rattle.ocr_turns.specs.Words.{MayStep, StepTells, steps_word};
+ghost use Rattle.ocr_turns.specs.Owing.{IsNumber};
+ghost use Rattle.ocr_turns.specs.Words.{FitsSlots, MayStep, StepTells, steps_word};
 ghost use Rattle.ocr_turns.specs.Contract.{IsOf, SameHand};
 
 use crate::clerk::Clerk;
 use crate::machine::Machine;
+use crate::taking::TURNS;
 use crate::turns::Turns;
 use crate::view::View;
 use atomic_table::{Play, Seat};
@@ -67,11 +69,9 @@ impl<M: Machine, W: Chosen> Play<
 
 impl<M: Machine> Turns<M> {
     /// A step on the words of an EDT, and what stood in the word, where the step reads it. The
-    /// crate
-    /// `ocr_count` has a call for each step; nothing else uses this.
+    /// crate `ocr_count` has a call for each step; nothing else uses this.
     pub fn step_word(&self, clerk: &mut Clerk<M>, edt: u64, step: WordStep) -> u64
         requires table { IsOf self.now clerk.old }
-        requires edt { (1 ≤ edt) × (edt ≤ self.now.1.limit) }
         requires may { MayStep M.meaning self.now.1 clerk.old.view edt step }
         ensures hand { SameHand clerk.old clerk.new }
         ensures told { StepTells M.meaning edt step clerk.old.view result clerk.new.view }
@@ -87,7 +87,8 @@ impl<M: Machine> Turns<M> {
     ) -> u64
         requires chosen { W.step ≡ Some (edt, step) }
         requires table { seat.old.table_id ≡ self.now.0 }
-        requires edt { (1 ≤ edt) × (edt ≤ self.now.1.limit) }
+        requires edt { IsNumber self.now.1.limit edt }
+        requires slot { FitsSlots step }
         requires seat { 0 < seat.old.me.0.root + seat.old.me.0.seat }
         requires may { MayStep M.meaning self.now.1 seat.old.me.0 edt step }
         ensures table { (seat.new.table_id ≡ seat.old.table_id) × (seat.new.id ≡ seat.old.id) }
@@ -105,7 +106,8 @@ impl<M: Machine> Turns<M> {
                 words.fetch_sub::<Counts<M, W>>(seat, state, UNMADE - slots as u64)
             }
             WordStep::Read { slot } => {
-                words.load::<Counts<M, W>>(seat, state + 1 + slot as usize)
+                // An EDT has at most 32 slots, and this is one of them.
+                words.load::<Counts<M, W>>(seat, state + 1 + slot as usize % 32)
             }
             WordStep::Claim => words.compare_exchange::<Counts<M, W>>(seat, state, READY, BUSY),
             WordStep::Park => {
@@ -121,11 +123,11 @@ impl<M: Machine> Turns<M> {
 
     // Where the state word of an EDT lies. Its payload words come after it.
     fn state_word(&self, edt: u64) -> usize
-        requires { (1 ≤ edt) × (edt ≤ self.now.1.limit) }
+        requires { IsNumber self.now.1.limit edt }
         ensures word { result ≡ state_at self.now.0.slots edt }
         ensures within { result + 33 ≤ self.now.0.words }
     {
         let slots = 2 * self.limit as usize + 1;
-        2 + slots + 33 * (edt as usize - 1)
+        TURNS + slots + 33 * (edt as usize - 1)
     }
 }

@@ -4,7 +4,6 @@ use Rattle.ocr_count.proofs.claiming.payload.Goals as goal
 
 pub step_word-requires-clause-may : goal.step_word-requires-clause-may
 step_word-requires-clause-may g c = (
-  c.requires.edt.1,
   subst (HasClaim c.args.clerk.now.view) (sym c.edt.view_is) c.requires.claimed,
   subst (λ n. HasSlot g.M.Machine.meaning c.args.turns.now.1 c.args.clerk.now.view n c.args.slot) (sym c.edt.view_is) c.requires.slot,
 )

@@ -7,4 +7,4 @@ pub returns-clause-told : goal.returns-clause-told
 returns-clause-told g c =
     let m = g.M.Machine.meaning in let w = c.step_word-found.new.clerk.view in
     tells m c.down_to.result w c.args.edt (c.step_word-found.result - (33 - c.args.depc)) c.down_to.ensures.left c.down_to.ensures.some
-    (subst (λ n. SeesWord m w n (c.step_word-found.result - (33 - c.args.depc))) c.edt.view_is c.step_word-found.ensures.told.3)
+    (subst (λ n. SeesWord m w n (c.step_word-found.result - (33 - c.args.depc))) c.edt.view_is c.step_word-found.ensures.told.4)

@@ -14,4 +14,4 @@ commit-requires-clause-may g c = λ goes.
     let are = ap (λ v. v.parts) tk.3 ∙ (ap (λ (l : List (ℕ × ℕ)). l ++ (place, tk.0) ∷ []) before ∙ ap (λ x. (place, x) ∷ []) found) in
     let light = ap (λ v. v.weight) tk.3 ∙ ap (λ v. v.weight) c.in_ok-reserve.ensures.same.1 in
     may_add c.args.turns.now.1 c.take.new.clerk.view place c.part-found.result.now c.args.count c.in-Some.after c.owed_message.result c.in_ok-vec.field-0.items c.in_ok-vec-2.field-0.items
-    are (omega (arith, light, c.weight.ensures, c.share.ensures)) c.owed_message.ensures c.in_ok-vec.ensures.items (omega (arith, c.in-Some.ensures)) c.in_ok-vec-2.ensures.items
+    c.requires.place.0 c.requires.place.1 are (omega (arith, light, c.weight.ensures, c.share.ensures)) c.owed_message.ensures c.in_ok-vec.ensures.items (omega (arith, c.in-Some.ensures)) c.in_ok-vec-2.ensures.items

@@ -1,4 +1,4 @@
-use Rattle.std.proofs.Common.{arith, ap, sym, ◌∙◌, Option}
+use Rattle.std.proofs.Common.{arith, ap, sym, ◌∙◌}
 use Rattle.atomic_table.proofs.Lists.{at_index}
 use Rattle.ocr_turns.proofs.Numbered.{first_at, not_yet, is_first}
 use Rattle.ocr_turns.proofs.clerk.position.Goals as goal

@@ -1,4 +1,4 @@
-use Rattle.std.proofs.Common.{sym, ap, subst, arith, ◌∙◌, ◌≡◌, ◌+◌, ◌<◌, length, set, Some, Option, ℕ}
+use Rattle.std.proofs.Common.{sym, ap, subst, arith, ◌∙◌, ◌≡◌, ◌<◌, length, set, Some, Option, ℕ}
 use mathlib.Core.Option.{some-injective}
 use Rattle.atomic_table.proofs.Lists.{at_index}
 use Rattle.ocr_turns.specs.Clerks.{IsFirst}

@@ -1,6 +1,4 @@
-use Rattle.std.proofs.Common.{sym, ap, arith, ◌∙◌, ◌≡◌, ◌<◌, ◌+◌, length, map, drop, suc, zero, List, [], ◌∷◌, ℕ, refl}
-use mathlib.Core.Option.{some}
-use lib.ListN.{get_elem?}
+use Rattle.std.proofs.Common.{ap, arith, ◌≡◌, ◌+◌, length, map, drop, suc, List, [], ◌∷◌, ℕ, refl}
 use Rattle.atomic_table.proofs.Lists.{at_index, drop_at}
 use Rattle.ocr_turns.specs.Sums.{weigh, weigh_all}
 use Rattle.ocr_turns.proofs.closing.count_entries.Goals as goal

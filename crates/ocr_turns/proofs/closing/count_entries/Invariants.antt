@@ -1,4 +1,4 @@
-use Rattle.std.proofs.Common.{◌≡◌, ◌≤◌, ◌+◌, ◌<◌, map, drop}
+use Rattle.std.proofs.Common.{◌≡◌, ◌+◌, map, drop}
 use Rattle.ocr_turns.specs.Sums.{weigh_all}
 use Rattle.ocr_turns.proofs.closing.count_entries.Given as goal
 

@@ -1,4 +1,4 @@
-use Rattle.std.proofs.Common.{sym, ap, subst, arith, ◌∙◌, ◌≡◌, ◌≤◌, ◌∷◌, [], length, suc, refl, Some, Option, List, ℕ}
+use Rattle.std.proofs.Common.{sym, ap, subst, arith, ◌∙◌, ◌≤◌, length, suc, refl, Some}
 use Rattle.std.specs.Vec.Iter.{into_iter_items}
 use Rattle.ocr_turns.specs.Clerks.{HasKeys}
 use Rattle.ocr_turns.specs.Sums.{as_some, replace_all, weigh, one_at, keys}

@@ -1,18 +1,16 @@
-use Rattle.std.proofs.Common.{sym, ap, subst, arith, ◌∙◌, ◌≡◌, ◌+◌, ◌<◌, length, Some, Option, ℕ}
+use Rattle.std.proofs.Common.{sym, ap, subst, ◌∙◌, Some, Option, ℕ}
 use mathlib.Core.Option.{some-injective}
-use Rattle.atomic_table.proofs.Lists.{at_index}
 use Rattle.ocr_turns.specs.Clerks.{IsFirst}
 use Rattle.ocr_turns.proofs.Numbered.{find_first, remove_first}
 use Rattle.ocr_turns.proofs.giving.remove_part.Goals as goal
 
 pub returns-clause-found : goal.returns-clause-found
 returns-clause-found g c =
-    let xs = c.args.parts.now.items in let i = c.position-i.result in let same = c.as_slice.ensures.value in
-    let f : IsFirst c.args.place xs i = subst (λ l. IsFirst c.args.place l i) same c.position-i.ensures.first in
-    let lt : i < length xs = (let a = c.position-i.ensures.within in let b = ap length same in omega arith) in
-    find_first c.args.place xs i f ∙ ap (λ (z : ℕ × Option g.row.P.Denot). Some z.1) (some-injective (c.args.place, f.item) c.remove-part.result (sym f.here ∙ at_index xs i c.remove-part.result lt c.remove-part.ensures.value))
+    let xs = c.args.parts.now.items in let i = c.position-i.result in
+    let f : IsFirst c.args.place xs i = subst (λ l. IsFirst c.args.place l i) c.as_slice.ensures.value c.position-i.ensures.first in
+    find_first c.args.place xs i f ∙ ap (λ (z : ℕ × Option g.row.P.Denot). Some z.1) (some-injective (c.args.place, f.item) c.take_out-part.result (sym f.here ∙ c.take_out-part.ensures.item))
 
 pub returns-clause-removed : goal.returns-clause-removed
 returns-clause-removed g c =
     let xs = c.args.parts.now.items in let i = c.position-i.result in
-    c.remove-part.ensures.items ∙ remove_first c.args.place xs i (subst (λ l. IsFirst c.args.place l i) c.as_slice.ensures.value c.position-i.ensures.first)
+    c.take_out-part.ensures.rest ∙ remove_first c.args.place xs i (subst (λ l. IsFirst c.args.place l i) c.as_slice.ensures.value c.position-i.ensures.first)

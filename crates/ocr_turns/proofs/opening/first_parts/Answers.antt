@@ -1,8 +1,6 @@
-use Rattle.std.proofs.Common.{sym, ap, subst, arith, ◌∙◌, ◌≡◌, ◌≤◌, ◌<◌, ◌+◌, ◌*◌, ◌∷◌, [], length, set, suc, refl, Some, Option, List, ℕ, replicate}
+use Rattle.std.proofs.Common.{sym, ap, arith, ◌∙◌, ◌+◌, ◌*◌, length, suc, Some}
 use Rattle.std.proofs.Math.ListN.{length-set}
 use Rattle.std.proofs.lemmas.List.{length-replicate}
-use Rattle.std.specs.Vec.Iter.{into_iter_items}
-use mathlib.Core.Option.{some}
 use lib.ListN.{get_elem?}
 use Rattle.ocr_turns.specs.Openings.{placed}
 use Rattle.ocr_turns.proofs.opening.first_parts.Goals as goal

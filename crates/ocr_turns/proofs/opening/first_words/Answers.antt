@@ -1,8 +1,7 @@
-use Rattle.std.proofs.Common.{◌≡◌, ◌+◌, ◌-◌, ◌*◌, ◌<◌, ◌≤◌, ℕ, List, length, set, ap, sym, subst, ◌∙◌, arith}
-use Rattle.std.proofs.Math.ListN.{length-set}
+use Rattle.std.proofs.Common.{◌≡◌, ◌+◌, ◌-◌, ◌*◌, length, set, ap, sym, subst, arith}
 use Rattle.ocr_turns.specs.Beginning.{IsLaidOut}
 use Rattle.ocr_turns.specs.Counting.{state_at, payload_at}
-use Rattle.ocr_turns.proofs.Beginning.{laid_out, bare_words, bare_length}
+use Rattle.ocr_turns.proofs.Beginning.{laid_out, bare_length}
 use Rattle.ocr_turns.proofs.opening.first_words.Goals as goal
 
 pub index_mut-requires : goal.index_mut-requires
@@ -18,8 +17,8 @@ index_mut-requires-2 c =
 pub returns : goal.returns
 returns c =
     let first = c.args.first in let limit = c.args.limit in let drawn = c.args.drawn in
-    let state : state_at (2 * limit + 1) first.0 ≡ 2 * limit + 3 + 33 * (first.0 - 1) = omega arith in
-    let payload : payload_at (2 * limit + 1) first.0 0 ≡ 2 * limit + 3 + 33 * (first.0 - 1) + 1 = omega arith in
+    let state : state_at (2 * limit + 1) first.0 ≡ 16 + 2 * limit + 1 + 33 * (first.0 - 1) = omega arith in
+    let payload : payload_at (2 * limit + 1) first.0 0 ≡ 16 + 2 * limit + 1 + 33 * (first.0 - 1) + 1 = omega arith in
     subst (IsLaidOut first limit drawn)
     (λ i. set (set (sym c.in_ok-words.ensures i) (state i) 0) (payload i) first.1)
     (laid_out first limit drawn c.requires.first.0 c.requires.first.1)

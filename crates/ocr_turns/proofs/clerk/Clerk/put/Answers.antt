@@ -1,5 +1,5 @@
-use Rattle.std.proofs.Common.{sym, ap, subst, ◌∙◌, ◌≡◌, ◌-◌, length, Some, None, Option, ℕ}
-use Rattle.ocr_turns.specs.Sums.{find, keys, replace}
+use Rattle.std.proofs.Common.{ap, ◌∙◌, ◌-◌, length, Some}
+use Rattle.ocr_turns.specs.Sums.{keys}
 use Rattle.ocr_turns.proofs.Numbered.{keys_replace}
 use Rattle.ocr_turns.proofs.Opens.{replace_length}
 use Rattle.ocr_turns.proofs.clerk.Clerk.put.Goals as goal
@@ -16,6 +16,7 @@ invariant_of-self g c =
       full_is = true_to.full_is;
       past_end = true_to.past_end;
       past_limit = true_to.past_limit;
+      ranges = true_to.ranges;
       rests = true_to.rests;
       seat = true_to.seat;
     }

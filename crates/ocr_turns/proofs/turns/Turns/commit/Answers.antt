@@ -1,11 +1,9 @@
-use Rattle.std.proofs.Common.{sym, ap, subst, arith, ◌∙◌, ◌≡◌, ◌≤◌, ◌<◌, ◌+◌, ◌-◌, ◌++◌, ◌∷◌, [], length, length-append, vec_capacity, refl, None, Some, Option, ℕ}
+use Rattle.std.proofs.Common.{sym, ap, arith, ◌∙◌, ◌≡◌, ◌≤◌, ◌<◌, ◌+◌, ◌-◌, ◌++◌, ◌∷◌, [], length, length-append, vec_capacity, refl}
 use Rattle.ocr_mail.specs.Mail.{without, named}
-use Rattle.ocr_turns.specs.Clerks.{HasKeys}
-use Rattle.ocr_turns.specs.Contract.{MayCommit}
 use Rattle.ocr_turns.specs.Rule.{OPEN}
-use Rattle.ocr_turns.specs.Steps.{Deed, deed, logged}
+use Rattle.ocr_turns.specs.Steps.{deed, logged}
 use Rattle.ocr_turns.specs.Sums.{weigh, one_at, as_some, replace_all}
-use Rattle.ocr_turns.proofs.Clerks.{true_same, shut_true, logged_true, committed, commit_sees, commit_shut}
+use Rattle.ocr_turns.proofs.Clerks.{true_same, shut_true, logged_true, tried_open, tried_shut, tried_tells}
 use Rattle.ocr_turns.proofs.Numbered.{weigh_keys, length_replace_all}
 use Rattle.ocr_turns.proofs.Totals.{weigh_at}
 use Rattle.ocr_turns.proofs.turns.Turns.commit.Goals as goal
@@ -15,7 +13,7 @@ invariant_of-clerk g c =
     let m = g.M.Machine.meaning in let me = c.clerk.inside.seat.me in let n = c.step_commit-found.result in
     let d = deed m c.args.self.now.1.limit me.0 c.args.entry c.args.change.parts.items c.args.change.messages.items in
     let past : OPEN ≤ n = omega (arith, c.if-found-ge-ENDED.true) in
-    true_same (sym (commit_shut m me c.step_commit-found.new.seat.me n d c.step_commit-found.ensures.told past)) refl refl refl refl refl refl refl (shut_true c.clerk.invariant n past)
+    true_same (sym (tried_shut m (logged me.0 n d) me c.step_commit-found.new.seat.me n c.step_commit-found.ensures.told past)) refl refl refl refl refl refl refl (shut_true c.clerk.invariant n past)
 
 pub put_all-requires : goal.put_all-requires
 put_all-requires g c =
@@ -38,9 +36,9 @@ invariant_of-clerk-2 g c =
     let m = g.M.Machine.meaning in let me = c.clerk.inside.seat.me in let n = c.step_commit-found.result in
     let d = deed m c.args.self.now.1.limit me.0 c.args.entry c.args.change.parts.items c.args.change.messages.items in
     let under : n < OPEN = omega (arith, c.if-found-ge-ENDED.false) in
-    true_same (sym (committed m me c.step_commit-found.new.seat.me n d c.step_commit-found.ensures.told under)) (sym c.push_reserved.ensures.items) refl (sym c.put_all.ensures.parts)
+    true_same (sym (tried_open m (logged me.0 n d) me c.step_commit-found.new.seat.me n c.step_commit-found.ensures.told under)) (sym c.push_reserved.ensures.items) refl (sym c.put_all.ensures.parts)
     (sym (c.owe_all.ensures.owed ∙ ap (λ l. l ++ named n 0 c.args.change.messages.items) (c.forget.ensures.owed ∙ ap (λ o. without o c.clerk.inside.owed.items) c.delivers-delivered.ensures)))
-    (ap (λ w. c.clerk.inside.weight + w) (sym c.weight-weight.ensures)) refl refl (logged_true c.clerk.invariant n d)
+    (ap (λ w. c.clerk.inside.weight + w) (sym c.weight-weight.ensures)) refl refl (logged_true c.clerk.invariant n d (tried_tells m (logged me.0 n d) me c.step_commit-found.new.seat.me n c.step_commit-found.ensures.told under).1)
 
 pub returns : goal.returns
 returns g c =
@@ -55,9 +53,9 @@ returns g c =
       sym (ap (λ x. x.view.closed) is) ∙ (sym c.clerk.invariant.closed_is ∙ c.in_default.is),
       under,
       old.table.0 ∙ ap (λ x. x.table) is,
-      ap (λ z. z.0) (committed m me c.step_commit-found.new.seat.me n d old.told under) ∙ ap (λ x. logged x.view n (deed m limit x.view e ps ms)) is,
+      ap (λ z. z.0) (tried_open m (logged me.0 n d) me c.step_commit-found.new.seat.me n old.told under) ∙ ap (λ x. logged x.view n (deed m limit x.view e ps ms)) is,
       c.put_all.ensures.parts ∙ ap (λ x. replace_all (as_some ps) x.parts) is,
       room,
       spare,
-      commit_sees m me c.step_commit-found.new.seat.me n d old.told under,
+      (tried_tells m (logged me.0 n d) me c.step_commit-found.new.seat.me n old.told under).0,
     )

@@ -1,8 +1,8 @@
-use Rattle.std.proofs.Common.{sym, ap, subst, ◌∙◌, arith, ⊎_elim, ◌≡◌, ◌<◌, ◌≤◌, ◌+◌, None}
+use Rattle.std.proofs.Common.{sym, ap, ◌∙◌, arith, ⊎_elim, ◌≡◌, ◌<◌, ◌≤◌, ◌+◌, refl}
 use Rattle.atomic_table.specs.Table.{keeps}
-use Rattle.ocr_turns.specs.Steps.{limit_of, with_drawn, Sees}
+use Rattle.ocr_turns.specs.Steps.{filled_by, limit_of, with_drawn, Sees}
 use Rattle.ocr_turns.proofs.Draws.{draw_at}
-use Rattle.ocr_turns.proofs.Clerks.{out_of}
+use Rattle.ocr_turns.proofs.Clerks.{drew_true, filled_true, out_of, true_same}
 use Rattle.ocr_turns.proofs.turns.Turns.draw.Goals as goal
 
 pub fetch_add-found-requires : goal.fetch_add-found-requires
@@ -15,6 +15,24 @@ fetch_add-found-requires g c =
           let r = draw_at m key k.history s k.kept k.counted c.clerk.inside.seat.id me.0 me.1 at (sym c.clerk.invariant.full_is ∙ c.in_default.is) (out_of me c.clerk.invariant.seat) in
           (r.0, keeps, tt, r.1.0, r.1.1),
     )
+
+pub invariant_of-clerk : goal.invariant_of-clerk
+invariant_of-clerk g c =
+    let me = c.clerk.inside.seat.me in let n = c.fetch_add-found.result in let old = c.fetch_add-found.ensures.2 in
+    let limit : limit_of me.0.terms ≡ c.args.self.now.1.limit = ap (λ x. limit_of x.view.terms) c.clerk.view_is ∙ ap limit_of c.requires.1 in
+    let real : c.self.inside.limit ≡ c.args.self.now.1.limit = c.self.invariant.limit_is ∙ ap (λ x. x.1.limit) c.self.view_is in
+    let past : limit_of me.0.terms ≤ n = omega (arith, c.if-found-self.true) in
+    let view : c.fetch_add-found.new.seat.me.0 ≡ filled_by me.0 n = ⊎_elim (λ h. let under = h.0 in absurd (omega arith)) (λ h. h.1) old.1 in
+    true_same (λ i. (sym view i, sym old.0 i)) refl refl refl refl refl refl refl (filled_true c.clerk.invariant n past)
+
+pub invariant_of-clerk-else-found-self : goal.invariant_of-clerk-else-found-self
+invariant_of-clerk-else-found-self g c =
+    let me = c.clerk.inside.seat.me in let n = c.fetch_add-found.result in let old = c.fetch_add-found.ensures.2 in
+    let limit : limit_of me.0.terms ≡ c.args.self.now.1.limit = ap (λ x. limit_of x.view.terms) c.clerk.view_is ∙ ap limit_of c.requires.1 in
+    let real : c.self.inside.limit ≡ c.args.self.now.1.limit = c.self.invariant.limit_is ∙ ap (λ x. x.1.limit) c.self.view_is in
+    let under : n < limit_of me.0.terms = omega (arith, c.if-found-self.false) in
+    let view : c.fetch_add-found.new.seat.me.0 ≡ with_drawn me.0 (n + 1) = ⊎_elim (λ h. h.1) (λ h. let past = h.0 in absurd (omega arith)) old.1 in
+    true_same (λ i. (sym view i, sym old.0 i)) refl refl refl refl refl refl refl (drew_true c.clerk.invariant (n + 1))
 
 pub returns : goal.returns
 returns g c =

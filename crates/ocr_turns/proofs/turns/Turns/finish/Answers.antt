@@ -1,4 +1,4 @@
-use Rattle.std.proofs.Common.{sym, ap, subst, arith, ◌∙◌, ◌≡◌, ◌<◌, ◌∷◌, map, length, ℕ}
+use Rattle.std.proofs.Common.{sym, ap, subst, arith, ◌∙◌, ◌≡◌, ◌∷◌, map, length}
 use Rattle.ocr_turns.specs.Contract.{Finished}
 use Rattle.ocr_turns.specs.Sums.{weigh_all}
 use Rattle.ocr_turns.proofs.Splits.{finished}

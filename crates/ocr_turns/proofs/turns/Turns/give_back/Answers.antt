@@ -1,6 +1,4 @@
-use Rattle.std.proofs.Common.{sym, ap, subst, arith, ◌∙◌, ◌≡◌, ◌+◌, ◌≤◌, length, None, Some, refl}
-use Rattle.std.proofs.lemmas.List.Edits.{length-remove}
-use Rattle.ocr_turns.specs.Contract.{MayGive, SeenAs, Rests}
+use Rattle.std.proofs.Common.{sym, ap, ◌∙◌, ◌+◌, Some, refl}
 use Rattle.ocr_turns.proofs.Clerks.{gave_true, true_same, gave}
 use Rattle.ocr_turns.specs.Steps.{without_part}
 use Rattle.ocr_turns.specs.Sums.{find, remove_at}

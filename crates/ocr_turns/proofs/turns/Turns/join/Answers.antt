@@ -1,5 +1,6 @@
-use Rattle.std.proofs.Common.{sym, ap, subst, ◌∙◌, arith, ◌<◌, ◌≡◌, ◌∷◌, ◌++◌, [], map, refl, length, length-append}
+use Rattle.std.proofs.Common.{sym, ap, subst, ◌∙◌, arith, ◌≡◌, ◌∷◌, ◌++◌, [], map, refl, length, length-append}
 use Rattle.ocr_turns.proofs.Clerks.{seat_of, true_same, gathered_true, map_append}
+use Rattle.ocr_turns.specs.Steps.{limit_of}
 use Rattle.ocr_turns.proofs.Splits.{joined}
 use Rattle.ocr_turns.proofs.turns.Turns.join.Goals as goal
 
@@ -25,7 +26,8 @@ invariant_of-root-2 g c =
     (sym (c.append.ensures.items ∙ ap (λ l. l ++ c.clerk.inside.parts.items) same.1))
     (sym (c.append-2.ensures.items ∙ ap (λ l. l ++ c.clerk.inside.owed.items) same.2))
     refl (sym c.or-root-inside.ensures) refl
-    (gathered_true c.root.invariant c.clerk.invariant (subst (λ v. v.root ≡ 1) view c.requires.root.0) (subst (λ v. v.root ≡ 0) theirs c.requires.root.1))
+    (gathered_true c.root.invariant c.clerk.invariant (subst (λ v. v.root ≡ 1) view c.requires.root.0) (subst (λ v. v.root ≡ 0) theirs c.requires.root.1)
+    (sym (ap (λ v. limit_of v.terms) theirs) ∙ (ap limit_of (c.requires.table.1.1 ∙ sym c.requires.table.0.1) ∙ ap (λ v. limit_of v.terms) view)))
 
 pub returns-clause-parts : goal.returns-clause-parts
 returns-clause-parts g c =

@@ -1,8 +1,9 @@
-use Rattle.std.proofs.Common.{sym, ap, subst, ◌∙◌, arith, ⊎_elim, ◌≡◌, ◌<◌, ◌≤◌, ◌+◌, None}
+use Rattle.std.proofs.Common.{sym, ap, ◌∙◌, arith, ⊎_elim, ◌≡◌, ◌<◌, ◌≤◌, refl}
 use Rattle.atomic_table.specs.Table.{keeps}
 use Rattle.ocr_turns.proofs.Commits.{look_at}
+use Rattle.ocr_turns.specs.Rule.{OPEN}
 use Rattle.ocr_turns.specs.Steps.{Sees}
-use Rattle.ocr_turns.proofs.Clerks.{out_of}
+use Rattle.ocr_turns.proofs.Clerks.{out_of, shut_true, tried_open, tried_shut, true_same}
 use Rattle.ocr_turns.proofs.turns.Turns.look.Goals as goal
 
 pub load-found-requires : goal.load-found-requires
@@ -15,6 +16,18 @@ load-found-requires g c =
           let r = look_at m key k.history s k.kept k.counted c.clerk.inside.seat.id me.0 at (sym c.clerk.invariant.closed_is ∙ c.in_default.is) (out_of me c.clerk.invariant.seat) me.1 lt in
           (r.0, keeps, tt, r.1.0, r.1.1),
     )
+
+pub invariant_of-clerk : goal.invariant_of-clerk
+invariant_of-clerk g c =
+    let m = g.M.Machine.meaning in let me = c.clerk.inside.seat.me in let n = c.load-found.result in
+    let past : OPEN ≤ n = omega (arith, c.if-found-ge-ENDED.true) in
+    true_same (sym (tried_shut m me.0 me c.load-found.new.seat.me n c.load-found.ensures.2 past)) refl refl refl refl refl refl refl (shut_true c.clerk.invariant n past)
+
+pub invariant_of-clerk-else-found-ge-ENDED : goal.invariant_of-clerk-else-found-ge-ENDED
+invariant_of-clerk-else-found-ge-ENDED g c =
+    let m = g.M.Machine.meaning in let me = c.clerk.inside.seat.me in let n = c.load-found.result in
+    let under : n < OPEN = omega (arith, c.if-found-ge-ENDED.false) in
+    true_same (sym (tried_open m me.0 me c.load-found.new.seat.me n c.load-found.ensures.2 under)) refl refl refl refl refl refl refl c.clerk.invariant
 
 pub returns : goal.returns
 returns g c =

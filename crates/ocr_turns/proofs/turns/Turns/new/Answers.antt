@@ -1,8 +1,8 @@
-use Rattle.std.proofs.Common.{sym, ap, subst, ◌∙◌, ◌≡◌, ◌≤◌, ◌<◌, arith, ◌+◌, ◌*◌, length, List, ℕ, Option, Some, refl, replicate}
+use Rattle.std.proofs.Common.{sym, ap, subst, ◌∙◌, ◌≡◌, arith, ◌+◌, ◌*◌, length, Some, refl, replicate}
 use Rattle.std.proofs.lemmas.List.{length-replicate}
 use Rattle.atomic_table.specs.Table.{opening}
 use Rattle.ocr_turns.specs.Beginning.{IsLaidOut}
-use Rattle.ocr_turns.specs.Contract.{OpensWith, TermsAre, faces}
+use Rattle.ocr_turns.specs.Contract.{OpensWith, faces}
 use Rattle.ocr_turns.specs.Rule.{Holds}
 use Rattle.ocr_turns.specs.Steps.{rooted}
 use Rattle.ocr_turns.specs.declared.view.Terms.{Terms}

@@ -1,5 +1,5 @@
 use Rattle.std.proofs.Common.{sym, ap, subst, ◌∙◌, arith}
-use Rattle.std.specs.Prelude.{slice_index, Some}
+use Rattle.std.specs.Prelude.{slice_index}
 use Rattle.atomic_table.specs.Table.{keeps}
 use Rattle.ocr_turns.specs.Contract.{MayClose}
 use Rattle.ocr_turns.specs.Steps.{closes}

@@ -1,12 +1,9 @@
-use Rattle.std.proofs.Common.{sym, ap, subst, ◌∙◌, arith, ◌<◌, ◌≡◌, ◌≤◌, ◌+◌, ◌-◌, ◌*◌, ◌%◌, ℕ, Some, Option, refl, eqb}
+use Rattle.std.proofs.Common.{sym, ap, subst, ◌∙◌, arith, ◌<◌, ◌≡◌, ◌+◌, ◌-◌, ◌%◌, ℕ, Some, Option, eqb}
 use prog.Atomic.{either}
 use Rattle.atomic_table.specs.Table.{Me, State, Allows}
 use Rattle.ocr_turns.specs.Counting.{state_at, payload_at}
-use Rattle.ocr_turns.specs.Meaning.{Meaning}
 use Rattle.ocr_turns.specs.Rule.{Holds}
-use Rattle.ocr_turns.specs.Words.{MayStep, steps_word}
-use Rattle.ocr_turns.specs.declared.view.Terms.{Terms}
-use Rattle.ocr_turns.specs.declared.view.View.{View}
+use Rattle.ocr_turns.specs.Words.{FitsSlots, MayStep, steps_word}
 use Rattle.ocr_turns.specs.declared.words.WordStep.{WordStep}
 use Rattle.ocr_turns.specs.declared.words.WordStep.TheVariants as word
 use Rattle.ocr_turns.proofs.Stepping.{allows_put, allows_count, allows_made, allows_read, allows_claim, allows_park, allows_resume}
@@ -26,11 +23,11 @@ store-requires g c =
     let within = c.state_word-state.ensures.within in
     let may = subst (λ z. MayStep m z me.0 n (word.Put c.in-Put.slot c.in-Put.payload)) key (subst (MayStep m c.args.self.now.1 me.0 n) c.in-Put.is c.requires.may) in (
       c.requires.table ∙ sym id,
-      (let w = ap (λ z. z.words) id in let small = may.0 in omega arith),
+      (let w = ap (λ z. z.words) id in let small : c.in-Put.slot < 32 = subst FitsSlots c.in-Put.is c.requires.slot in omega arith),
       as_chosen (Holds m t) c.self.inside.table.shared.table_id.slots c.args.seat.now.id me (λ _. c.in-Put.payload) (λ z _ w. steps_word m z me c.in-Put.payload w)
           n c.args.step (word.Put c.in-Put.slot c.in-Put.payload) g.W.Chosen.step (payload_at c.self.inside.table.shared.table_id.slots n c.in-Put.slot) (c.state_word-state.result + 1 + c.in-Put.slot)
           c.requires.chosen c.in-Put.is (ap (λ z. z + 1 + c.in-Put.slot) state)
-          (allows_put m t c.self.inside.table.shared.table_id.slots c.args.seat.now.id me c.requires.seat n c.in-Put.slot c.in-Put.payload may.1.0 may.1.1),
+          (allows_put m t c.self.inside.table.shared.table_id.slots c.args.seat.now.id me c.requires.seat n c.in-Put.slot c.in-Put.payload may.0 may.1),
     )
 
 pub fetch_sub-requires : goal.fetch_sub-requires
@@ -60,7 +57,7 @@ fetch_sub-requires-in-CountMade g c =
       as_chosen (Holds m t) c.self.inside.table.shared.table_id.slots c.args.seat.now.id me (λ x. (x + (18446744073709551616 - (33 - c.in-CountMade.slots))) % 18446744073709551616) (λ z x w. steps_word m z me x w)
           n c.args.step (word.CountMade c.in-CountMade.slots) g.W.Chosen.step (state_at c.self.inside.table.shared.table_id.slots n) c.state_word-state.result
           c.requires.chosen c.in-CountMade.is state
-          (allows_made m t c.self.inside.table.shared.table_id.slots c.args.seat.now.id me c.requires.seat n c.in-CountMade.slots may.1.0 may.1.1),
+          (allows_made m t c.self.inside.table.shared.table_id.slots c.args.seat.now.id me c.requires.seat n c.in-CountMade.slots may.0 may.1),
     )
 
 pub load-requires : goal.load-requires
@@ -71,11 +68,11 @@ load-requires g c =
     let within = c.state_word-state.ensures.within in
     let may = subst (λ z. MayStep m z me.0 n (word.Read c.in-Read.slot)) key (subst (MayStep m c.args.self.now.1 me.0 n) c.in-Read.is c.requires.may) in (
       c.requires.table ∙ sym id,
-      (let w = ap (λ z. z.words) id in let small = may.0 in omega arith),
+      (let w = ap (λ z. z.words) id in omega arith),
       as_chosen (Holds m t) c.self.inside.table.shared.table_id.slots c.args.seat.now.id me (λ x. x) (λ z x w. steps_word m z me x w)
-          n c.args.step (word.Read c.in-Read.slot) g.W.Chosen.step (payload_at c.self.inside.table.shared.table_id.slots n c.in-Read.slot) (c.state_word-state.result + 1 + c.in-Read.slot)
-          c.requires.chosen c.in-Read.is (ap (λ z. z + 1 + c.in-Read.slot) state)
-          (allows_read m t c.self.inside.table.shared.table_id.slots c.args.seat.now.id me c.requires.seat n c.in-Read.slot may.1 may.2),
+          n c.args.step (word.Read c.in-Read.slot) g.W.Chosen.step (payload_at c.self.inside.table.shared.table_id.slots n (c.in-Read.slot % 32)) (c.state_word-state.result + 1 + c.in-Read.slot % 32)
+          c.requires.chosen c.in-Read.is (ap (λ z. z + 1 + c.in-Read.slot % 32) state)
+          (allows_read m t c.self.inside.table.shared.table_id.slots c.args.seat.now.id me c.requires.seat n c.in-Read.slot may.0 may.1),
     )
 
 pub compare_exchange-requires : goal.compare_exchange-requires

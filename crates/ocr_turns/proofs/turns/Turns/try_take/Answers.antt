@@ -1,4 +1,4 @@
-use Rattle.std.proofs.Common.{sym, ap, subst, ◌∙◌, arith, ◌<◌, ◌≡◌, ◌≤◌, ◌+◌, length, List, ◌∷◌, ◌++◌, [], Option, Some, None, refl}
+use Rattle.std.proofs.Common.{sym, ap, subst, ◌∙◌, arith, ◌<◌, ◌≤◌, ◌+◌, ◌∷◌, Some, None}
 use Rattle.atomic_table.specs.Table.{rest}
 use Rattle.ocr_turns.specs.Sums.{weigh, one_at}
 use Rattle.ocr_turns.proofs.Takes.{allows_take, allows_settle, kept_last, took}

@@ -1,0 +1,11 @@
+pub mod Places
+pub mod Runs
+pub mod Lasting
+pub mod Making
+pub mod Slots
+pub mod Queues
+pub mod Awaiting
+pub mod Waits
+pub mod Lawful
+pub mod Counted
+pub mod Entered

@@ -1,0 +1,80 @@
+-- What a clerk knows of every history that fits its view, and what it may enter.
+use Rattle.std.specs.Prelude.{◌≡◌, ◌≤◌, ℕ, List, [], ◌∷◌, ◌++◌, true, false, reverse}
+use Rattle.ocr_acquire.specs.declared.Mode.{Mode}
+use Rattle.ocr_code.specs.Checked.{checked_tree}
+use Rattle.ocr_tree.specs.Runnable.{IsRunnable}
+use Rattle.ocr_history.specs.declared.entry.Entry.{Entry}
+use Rattle.ocr_history.specs.declared.entry.What.{What}
+use Rattle.ocr_history.specs.History as history
+use Rattle.ocr_parts.specs.declared.part.Part.{Part}
+use Rattle.ocr_parts.specs.Effects.{changed}
+use Rattle.ocr_parts.specs.Footprint.{Covers}
+use Rattle.ocr_parts.specs.Legal.{AreFacts, IsSaid, is_stop}
+use Rattle.ocr_parts.specs.LegalOn.{IsLegalOn}
+use Rattle.ocr_parts.specs.Messages.{sends}
+use Rattle.ocr_parts.specs.Taken.{has, keys, look, parts_in, seen}
+use Rattle.ocr_standing.specs.Kept.{IsPlanFor, kept_ready}
+use Rattle.ocr_turns.specs.Contract.{Legal}
+use Rattle.ocr_turns.specs.Meaning.{Open}
+use Rattle.ocr_turns.specs.Rule.{FactsOf, Fits}
+use Rattle.ocr_turns.specs.Steps.{deed}
+use Rattle.ocr_turns.specs.Sums.{one_at, weigh}
+use Rattle.ocr_turns.specs.declared.view.Terms.{Terms}
+use Rattle.ocr_turns.specs.declared.view.View.{View}
+use Rattle.ocr_facts.specs.Facts.{learns}
+use Rattle.ocr_facts.specs.Ocr.{MayFollow, meaning, setting_of, stands}
+use Rattle.ocr_facts.specs.declared.fact.Fact.{Fact}
+use Rattle.ocr_facts.specs.declared.setting.Setting.{Setting}
+
+abbrev pub OcrTerms : Type 0
+OcrTerms = Terms Setting
+
+abbrev pub OcrView : Type 0
+OcrView = View Setting Entry Part What Fact
+
+abbrev pub of_terms : OcrTerms → history.Setting
+of_terms t = setting_of t.setting.value t.limit
+
+-- it is so after every history that fits the view and in which the run has not ended
+abbrev pub Knows : OcrTerms → OcrView → (List Entry → Type 0) → Type 0
+Knows t v P = (J : List Entry) → Open meaning.stops J → Fits meaning t J v → P J
+
+-- the facts stand that the entry tells
+abbrev pub IsTold : OcrTerms → OcrView → Entry → List Entry → Type 0
+IsTold t v e J = MayFollow t.setting.value t.limit J e
+    → FactsOf (stands t.setting.value t.limit (J ++ e ∷ [])) (learns t.limit e v.parts)
+
+-- these parts are at hand, each once, and are some of those that the view keeps, but for what was
+-- stored in loans
+pub record AreAtHand (limit : ℕ) (hand kept : List (ℕ × Part)) : Type 0 where
+  pub once : (n : ℕ) → weigh (one_at n) hand ≤ 1
+  pub there : (n : ℕ) → has hand n ≡ true → has kept n ≡ true
+  pub alike : (n : ℕ) → has hand n ≡ true
+      → seen limit n (look hand n) ≡ seen limit n (look kept n)
+
+-- What a clerk has to know to enter an entry that is legal on the parts at hand, the EDT that it
+-- takes on made ready with this plan.
+pub record MayEnter (t : OcrTerms) (v : OcrView) (e : Entry) (members : List (ℕ × Mode))
+    (hand : List (ℕ × Part)) : Type 0 where
+  pub runnable : IsRunnable (checked_tree t.setting.value.program)
+  pub at_hand : AreAtHand t.limit hand v.parts
+  pub covers : Covers t.limit e hand
+  pub on_hand : IsLegalOn t.limit (kept_ready t.limit members e hand) e
+  pub plans : Knows t v (λ J. IsPlanFor (of_terms t) (reverse J) e members)
+  pub set : Knows t v (λ J. AreFacts (of_terms t) (reverse J) e)
+  pub says : Knows t v (λ J. IsSaid (of_terms t) (reverse J) e)
+  pub told : Knows t v (IsTold t v e)
+
+-- what the step makes of them
+pub record IsStep (limit : ℕ) (e : Entry) (members : List (ℕ × Mode))
+    (hand later : List (ℕ × Part)) (sent : List What) : Type 0 where
+  pub parts : parts_in limit later ≡ changed e (kept_ready limit members e hand)
+  pub same_keys : keys later ≡ keys hand
+  pub sends_are : sent ≡ sends e (kept_ready limit members e hand)
+
+-- such an entry is legal after every history that fits, and leaves these parts and messages
+abbrev pub EntryLaw : Type 0
+EntryLaw = (t : OcrTerms) (v : OcrView) (e : Entry) (members : List (ℕ × Mode))
+    (hand later : List (ℕ × Part)) (sent : List What) → is_stop e ≡ false
+    → MayEnter t v e members hand → IsStep t.limit e members hand later sent
+    → Legal meaning t v (deed meaning t.limit v e later sent)

@@ -1,0 +1,18 @@
+// The laws that a table of turns asks.
+ghost use Rattle.ocr_turns.specs.Counting.{CountingLaws};
+ghost use Rattle.ocr_turns.specs.Meaning.{Lawful};
+ghost use Rattle.ocr_facts.specs.Clerks.{EntryLaw};
+ghost use Rattle.ocr_facts.specs.Ocr.{meaning};
+
+/// The machine obeys the laws of the table of turns, and those of the words that count an EDT's
+/// open slots.
+pub fn table_laws()
+    ensures lawful { Lawful meaning }
+    ensures counting { CountingLaws meaning }
+{}
+
+/// An entry that is legal on the parts that a clerk has at hand, that its body says and whose facts
+/// the clerk knows, is legal after every history that fits the clerk's view.
+pub fn clerk_laws()
+    ensures { EntryLaw }
+{}

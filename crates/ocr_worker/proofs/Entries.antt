@@ -1,0 +1,168 @@
+-- An entry of a worker.
+use Rattle.std.proofs.Common.{◌≡◌, ℕ, ◌+◌, ◌≤◌, Bool, true, false, ◌==◌, ◌||◌, if◌then◌else◌, List, [], ◌∷◌, length, Option, Ok, Err, refl, ap, sym, ◌∙◌, subst, arith}
+use Rattle.std.specs.Prelude.{not, MatchOption}
+use Rattle.std.proofs.lemmas.Grind.{common_steps}
+use Rattle.ocr_guid.specs.declared.Code.{Code}
+use Rattle.ocr_guid.specs.declared.Code.TheVariants as code
+use Rattle.ocr_base.specs.declared.limits.TheConstants.{MOST_PARAMETERS, MOST_DEPENDENCES}
+use Rattle.ocr_template.specs.declared.Template.{Template}
+use Rattle.ocr_template.specs.Template.{count_meant, counts_of, is_refused}
+use Rattle.ocr_meaning.specs.Holds.{is_done}
+use Rattle.ocr_meaning.specs.declared.call.Call as body
+use Rattle.ocr_meaning.specs.declared.call.Call.TheVariants as call
+use Rattle.ocr_meaning.specs.declared.call.Answer.{Answer}
+use Rattle.ocr_history.specs.declared.entry.Entry.{Entry}
+use Rattle.ocr_history.specs.declared.entry.Entry.TheVariants.{Call}
+use Rattle.ocr_history.specs.declared.entry.What.{What}
+use Rattle.ocr_history.specs.declared.entry.What.TheVariants as what
+use Rattle.ocr_parts.specs.declared.part.Part.{Part}
+use Rattle.ocr_parts.specs.declared.part.Part.TheVariants as part
+use Rattle.ocr_parts.specs.Calls.{is_given}
+use Rattle.ocr_parts.specs.Codes.{counted_code, creation_code}
+use Rattle.ocr_parts.specs.Effects.{changed}
+use Rattle.ocr_parts.specs.Footprint.{Covers}
+use Rattle.ocr_parts.specs.LegalOn.{IsCallOn, IsLegalOn}
+use Rattle.ocr_parts.specs.Messages.{dep_sets, sends, sent_by}
+use Rattle.ocr_parts.specs.Parts.{Parts}
+use Rattle.ocr_parts.specs.Taken.{has, keys, parts_in}
+use Rattle.ocr_parts.proofs.After.{accepted, done_is}
+use Rattle.ocr_facts.specs.Clerks.{IsStep, OcrTerms, OcrView}
+use Rattle.ocr_facts.specs.Ocr.{meaning}
+use Rattle.ocr_facts.proofs.Entered.{entry_law}
+use Rattle.ocr_turns.proofs.Numbered.{weigh_keys}
+use Rattle.ocr_turns.specs.Contract.{CommitTells, MayCommit}
+use Rattle.ocr_turns.specs.Steps.{SeesEnd, deed, logged, shut_by}
+use Rattle.ocr_turns.specs.Sums.{as_some, one_at, replace_all}
+use Rattle.ocr_turns.specs.Sums as sums
+use Rattle.ocr_turns.specs.declared.answers.Committed.{Committed}
+use Rattle.ocr_turns.specs.declared.answers.Committed.TheVariants as committed
+use Rattle.ocr_worker.specs.Entering.{CanEnter, Entered, Hand, Logged, OcrKnown}
+
+-- both ways to list the numbers
+keys_are : (ps : List (ℕ × Part)) → keys ps ≡ sums.keys ps
+keys_are [] = refl
+keys_are (p ∷ rest) = ap (λ (ns : List ℕ). p.0 ∷ ns) (keys_are rest)
+
+turns_keys : (ps qs : List (ℕ × Part)) → keys ps ≡ keys qs → sums.keys ps ≡ sums.keys qs
+turns_keys ps qs same = sym (keys_are ps) ∙ (same ∙ keys_are qs)
+
+has_same : (ps qs : List (ℕ × Part)) (n : ℕ) → keys ps ≡ keys qs → has ps n ≡ has qs n
+has_same [] [] n is = refl
+has_same [] (q ∷ qs) n is = cc is
+has_same (p ∷ ps) [] n is = cc is
+has_same (p ∷ ps) (q ∷ qs) n is = let h : p.0 ≡ q.0 = cc is in let t : keys ps ≡ keys qs = cc is in rw (h, has_same ps qs n t) refl
+
+pub covers_same : (limit : ℕ) (e : Entry) (ps qs : List (ℕ × Part)) → keys ps ≡ keys qs → Covers limit e qs → Covers limit e ps
+covers_same limit e ps qs same covers = λ n on. has_same ps qs n same ∙ covers n on
+
+-- AN ENTRY sends few messages
+abbrev sets_if : Bool → ℕ → ℕ → ℕ → List ℕ → List What
+sets_if b t k d rest = if b then what.Set t k d ∷ dep_sets t (k + 1) rest else dep_sets t (k + 1) rest
+
+abbrev sent_if : Bool → body.Call → Answer → List What
+sent_if b c a = if b then sent_by c a else []
+
+sets_few : (t k : ℕ) (ds : List ℕ) → length (dep_sets t k ds) ≤ length ds
+sets_few t k [] = omega arith
+sets_few t k (d ∷ rest) = elim (is_given d) as (λ b. length (sets_if b t k d rest) ≤ length (d ∷ rest)) [
+  | true ↦ let r = sets_few t (k + 1) rest in omega (arith, r)
+  | false ↦ let r = sets_few t (k + 1) rest in omega (arith, r)
+]
+
+einval_if : (b : Bool) (rest : Code) → (if not b then code.Einval else rest) ≡ code.Done → (b ≡ true) × (rest ≡ code.Done)
+einval_if true rest is = (refl, is)
+einval_if false rest is = cc is
+
+few_meant : (own given most : ℕ) → is_refused own given most ≡ false → count_meant own given ≤ most
+few_meant own given most off = grind (arith, common_steps)
+
+none_or : (n m : ℕ) → ((n == 0) || (n == m)) ≡ true → m ≤ 32 → n ≤ 32
+none_or n m is few = grind (arith, common_steps)
+
+counted_few : (t : Template) (pc dc fl : ℕ) (ps ds : List ℕ) → counted_code (counts_of t pc dc) ps ds fl ≡ code.Done → length ds ≤ 32
+counted_few t pc dc fl ps ds is = elim (is_refused t.paramc pc MOST_PARAMETERS || is_refused t.depc dc MOST_DEPENDENCES) as (λ b. (is_refused t.paramc pc MOST_PARAMETERS || is_refused t.depc dc MOST_DEPENDENCES) ≡ b
+    → counted_code (if b then Err code.Einval else Ok (count_meant t.paramc pc, count_meant t.depc dc)) ps ds fl ≡ code.Done → length ds ≤ 32) [
+      | true ↦ λ _ wrong. cc wrong
+      | false ↦ λ off done.
+          let first = einval_if (length ps == count_meant t.paramc pc) _ done in
+          let second = einval_if ((length ds == 0) || (length ds == count_meant t.depc dc)) _ first.1 in
+          none_or (length ds) (count_meant t.depc dc) second.0 (few_meant t.depc dc MOST_DEPENDENCES (right (is_refused t.paramc pc MOST_PARAMETERS) _ off))
+    ] refl is
+  where
+    right : (a b : Bool) → (a || b) ≡ false → b ≡ false
+    right true b is = cc is
+    right false b is = is
+
+from_few : (x : Part) (pc dc fl : ℕ) (ps ds : List ℕ) → creation_code x pc ps dc ds fl ≡ code.Done → length ds ≤ 32
+from_few (part.Template t) pc dc fl ps ds is = counted_few t pc dc fl ps ds is
+from_few other pc dc fl ps ds is = cc is
+
+call_few : (limit : ℕ) (f : Parts) (u home : ℕ) (c : body.Call) (a : Answer) (w : List (ℕ × ℕ)) → IsCallOn limit f u home c a w → is_done a.code ≡ true → length (sent_by c a) ≤ 32
+call_few limit f u home (call.EdtCreate from pc ps dc ds fl o) a w legal done =
+    let is_code : a.code ≡ code.Done = done_is a.code done in
+    let few = from_few (f.face from) pc dc fl ps ds (accepted u f.face (call.EdtCreate from pc ps dc ds fl o) (sym legal.code ∙ is_code)) in
+    let sets = sets_few a.value 0 ds in omega (arith, few, sets)
+call_few limit f u home (call.AddDependence from x i m) a w legal done = omega arith
+call_few limit f u home other a w legal done = omega arith
+
+pub few_sends : (limit : ℕ) (f : Parts) (e : Entry) → IsLegalOn limit f e → length (sends e f) ≤ 32
+few_sends limit f (Call u home c a w) legal = elim (is_done a.code) as (λ b. is_done a.code ≡ b → length (sent_if b c a) ≤ 32) [
+  | true ↦ λ done. call_few limit f u home c a w legal done
+  | false ↦ λ _. omega arith
+] refl
+few_sends limit f other legal = omega arith
+
+-- THE STEP was made on the parts that the caller lifted
+pub step_is : (t : OcrTerms) (limit : ℕ) (v : OcrView) (e : Entry) (h : Hand) (ps later : List (ℕ × Part)) (sent : List What) → limit ≡ t.limit → CanEnter t v e h ps
+    → parts_in limit later ≡ changed e (parts_in limit ps) → keys later ≡ keys ps → sent ≡ sends e (parts_in limit ps) → IsStep t.limit e h.members h.parts later sent
+step_is t limit v e h ps later sent lim can is keyed sends_are = record {
+  parts = subst (λ (n : ℕ). parts_in n later ≡ changed e (parts_in n ps)) lim is ∙ ap (changed e) can.ready;
+  same_keys = keyed ∙ can.same_keys;
+  sends_are = subst (λ (n : ℕ). sent ≡ sends e (parts_in n ps)) lim sends_are ∙ ap (sends e) can.ready;
+}
+
+pub may_commit : (t : OcrTerms) (limit : ℕ) (v v1 : OcrView) (e : Entry) (h : Hand) (ps later : List (ℕ × Part)) (sent : List What) → limit ≡ t.limit → v1 ≡ v → CanEnter t v e h ps
+    → parts_in limit later ≡ changed e (parts_in limit ps) → keys later ≡ keys ps → sent ≡ sends e (parts_in limit ps) → MayCommit meaning t v1 e later sent
+may_commit t limit v v1 e h ps later sent lim same can is keyed sends_are =
+    let step = step_is t limit v e h ps later sent lim can is keyed sends_are in
+    subst (λ (w : OcrView). MayCommit meaning t w e later sent) (sym same) (record {
+      goes = can.goes;
+      share = can.light;
+      owes = can.owes;
+      drawn = can.drawn;
+      keeps = λ p. let w = weigh_keys (one_at p) later h.parts (turns_keys later h.parts (keyed ∙ can.same_keys)) in let r = can.places p in let a = r.0 in let b = r.1 in (w ∙ a, omega (arith, w, b));
+      claims = record { starts = can.claims.starts; waits = can.claims.waits; resumes = can.claims.resumes };
+      legal = entry_law t v e h.members h.parts later sent can.goes can.may step;
+    })
+
+pub logged_as : (t : OcrTerms) (r : Committed) (old old1 new : OcrKnown) (e : Entry) (later : List (ℕ × Part)) (sent : List What) → old1.view ≡ old.view → old1.parts ≡ old.parts
+    → CommitTells meaning r old1 new (deed meaning t.limit old1.view e later sent) → Logged r old new (deed meaning t.limit old.view e later sent)
+logged_as t (committed.At n) old old1 new e later sent view parts tells = (
+  tells.1,
+  tells.3 ∙ ap (λ (x : OcrView). logged x n (deed meaning t.limit x e later sent)) view,
+  tells.4 ∙ ap (λ (ps : List (ℕ × Option Part)). replace_all (as_some later) ps) parts,
+  tells.7,
+)
+logged_as t (committed.Closed n) old old1 new e later sent view parts tells = (
+  tells.0,
+  tells.1.1 ∙ parts,
+  subst (λ (x : OcrView). MatchOption x.closed ((new.view ≡ shut_by x n) × SeesEnd meaning new.view) (λ w. (w ≡ n) × (new.view ≡ x))) view tells.2,
+)
+
+pub entered_as : (t : OcrTerms) (limit : ℕ) (r : Committed) (old old1 new : OcrKnown) (e : Entry) (h : Hand) (ps later : List (ℕ × Part)) (sent : List What) → limit ≡ t.limit → old1.view ≡ old.view → old1.parts ≡ old.parts → CanEnter t old.view e h ps
+    → parts_in limit later ≡ changed e (parts_in limit ps) → keys later ≡ keys ps → sent ≡ sends e (parts_in limit ps)
+    → CommitTells meaning r old1 new (deed meaning t.limit old1.view e later sent) → Entered limit r old new e h
+entered_as t limit r old old1 new e h ps later sent lim view parts can is keyed sends_are tells =
+    subst (λ (n : ℕ). Entered n r old new e h) (sym lim) (record {
+      later = later;
+      sent = sent;
+      step = step_is t limit old.view e h ps later sent lim can is keyed sends_are;
+      told = logged_as t r old old1 new e later sent view parts tells;
+    })
+
+-- what the step asks of the parts
+pub other_covers : (t : OcrTerms) (limit : ℕ) (v : OcrView) (e : Entry) (h : Hand) (ps : List (ℕ × Part)) → limit ≡ t.limit → CanEnter t v e h ps → Covers limit e ps
+other_covers t limit v e h ps lim can = subst (λ (n : ℕ). Covers n e ps) (sym lim) (covers_same t.limit e ps h.parts can.same_keys can.may.covers)
+
+pub hand_legal : (t : OcrTerms) (limit : ℕ) (v : OcrView) (e : Entry) (h : Hand) (ps : List (ℕ × Part)) → limit ≡ t.limit → CanEnter t v e h ps → IsLegalOn limit (parts_in limit ps) e
+hand_legal t limit v e h ps lim can = subst (λ (n : ℕ). IsLegalOn n (parts_in n ps) e) (sym lim) (subst (λ (f : Parts). IsLegalOn t.limit f e) (sym can.ready) can.may.on_hand)

@@ -1,0 +1,64 @@
+-- What an entry of a worker asks, and what it leaves.
+use Rattle.std.specs.Prelude.{◌≡◌, ◌+◌, ◌<◌, ◌≤◌, ℕ, List, [], false, MatchOption}
+use Rattle.ocr_acquire.specs.declared.Mode.{Mode}
+use Rattle.ocr_facts.specs.Clerks.{IsStep, MayEnter, OcrTerms, OcrView}
+use Rattle.ocr_facts.specs.Ocr.{makes, meaning, touches}
+use Rattle.ocr_facts.specs.declared.fact.Fact.{Fact}
+use Rattle.ocr_facts.specs.declared.setting.Setting.{Setting}
+use Rattle.ocr_history.specs.declared.entry.Entry.{Entry}
+use Rattle.ocr_history.specs.declared.entry.What.{What}
+use Rattle.ocr_history.specs.Weight.{weight_of}
+use Rattle.ocr_mail.specs.Mail.{Has}
+use Rattle.ocr_parts.specs.declared.part.Part.{Part}
+use Rattle.ocr_parts.specs.Legal.{is_stop}
+use Rattle.ocr_parts.specs.Messages.{delivered}
+use Rattle.ocr_parts.specs.Taken.{keys, parts_in}
+use Rattle.ocr_standing.specs.Kept.{kept_ready}
+use Rattle.ocr_turns.specs.Contract.{Claims, Known}
+use Rattle.ocr_turns.specs.Rule.{OPEN}
+use Rattle.ocr_turns.specs.Steps.{Deed, Sees, SeesEnd, deed, logged, shut_by}
+use Rattle.ocr_turns.specs.Sums.{HasAll, as_some, one_at, replace_all, weigh}
+use Rattle.ocr_turns.specs.declared.answers.Committed.{Committed}
+use Rattle.ocr_turns.specs.declared.answers.Committed.TheVariants as committed
+
+abbrev pub OcrKnown : Type 0
+OcrKnown = Known Setting Entry Part What Fact
+
+abbrev pub OcrDeed : Type 0
+OcrDeed = Deed Entry Part What Fact
+
+-- the plan of the EDT that the entry takes on, and the parts at hand before it was made ready
+pub record Hand : Type 0 where
+  pub members : List (ℕ × Mode)
+  pub parts : List (ℕ × Part)
+
+-- The clerk may enter the entry: it knows what it has to know of it, and these parts, the EDT made
+-- ready, are those of the entry's places.
+pub record CanEnter (t : OcrTerms) (v : OcrView) (e : Entry) (h : Hand) (ps : List (ℕ × Part))
+    : Type 0 where
+  pub goes : is_stop e ≡ false
+  pub light : v.weight + weight_of e ≤ t.share
+  pub owes : Has (delivered e) v.owed
+  pub drawn : HasAll (makes e) v.drawn
+  pub claims : Claims meaning t v (deed meaning t.limit v e h.parts [])
+  pub may : MayEnter t v e h.members h.parts
+  pub ready : parts_in t.limit ps ≡ kept_ready t.limit h.members e h.parts
+  pub same_keys : keys ps ≡ keys h.parts
+  pub places : (p : ℕ) → (weigh (one_at p) h.parts ≡ touches t.limit e p)
+      × (weigh (one_at p) h.parts ≤ weigh (one_at p) v.parts)
+
+-- the entry is in the log, or the run has ended
+abbrev pub Logged : Committed → OcrKnown → OcrKnown → OcrDeed → Type 0
+Logged (committed.At n) old new d = (n < OPEN) × (new.view ≡ logged old.view n d)
+    × (new.parts ≡ replace_all (as_some d.parts) old.parts) × Sees meaning new.view
+Logged (committed.Closed n) old new d = (OPEN ≤ n) × (new.parts ≡ old.parts)
+    × MatchOption old.view.closed ((new.view ≡ shut_by old.view n) × SeesEnd meaning new.view)
+    (λ w. (w ≡ n) × (new.view ≡ old.view))
+
+-- what an entered entry leaves: the parts and the messages are what the machine makes of the parts
+pub record Entered (limit : ℕ) (r : Committed) (old new : OcrKnown) (e : Entry) (h : Hand)
+    : Type 0 where
+  pub later : List (ℕ × Part)
+  pub sent : List What
+  pub step : IsStep limit e h.members h.parts later sent
+  pub told : Logged r old new (deed meaning limit old.view e later sent)
