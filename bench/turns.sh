@@ -1,9 +1,11 @@
 #!/usr/bin/env bash
 # How many instructions a take, a give back and a commit are, and besides what the heap takes for an entry of the toy
 # machine: its two lists, and room in the log. Counted by valgrind, with one clerk: the difference between 20,000 of
-# them and 10,000. What the toy does to make its entry counts as the commit's.
+# them and 10,000. What the toy does to make its entry counts as the commit's. Then how many commits a second one, two
+# and four clerks make together, each with its take and give back: by the clock, the difference between 300,000 entries
+# a clerk and 100,000.
 #
-# Build the program first: cd crates/ocr_bench_turns && rt run -- 300 200, which leaves it as
+# Build the program first: cd crates/ocr_bench_turns && rt run -- 2 300 100, which leaves it as
 # crates/ocr_bench_turns/out/ocr_bench_turns.
 # Then, in any folder: bench/turns.sh [PROGRAM]
 
@@ -16,7 +18,7 @@ trap 'rm -f "$profile"' EXIT
 
 # the instructions of takes, give backs, the heap and all else
 instructions() {
-    valgrind --tool=callgrind --callgrind-out-file="$profile" "$program" "$@" >/dev/null 2>&1
+    valgrind --tool=callgrind --callgrind-out-file="$profile" "$program" 1 "$@" >/dev/null 2>&1
     callgrind_annotate --threshold=100 "$profile" | awk '
         /^ *[0-9,]+ +\([ 0-9.]+%\) +[^ ]+:/ {
             class = "rest"
@@ -37,3 +39,17 @@ printf '%-10s %s\n' \
     "give back" $(((gives - give) / 10000)) \
     "commit" $(((turns - visits) / 10000)) \
     "heap" $(((heaps - heap) / 10000))
+
+# the time of a run, in nanoseconds
+nanoseconds() {
+    local start
+    start=$(date +%s%N)
+    "$program" "$@" >/dev/null
+    echo $(($(date +%s%N) - start))
+}
+
+for clerks in 1 2 4; do
+    few=$(nanoseconds "$clerks" 0 100000)
+    many=$(nanoseconds "$clerks" 0 300000)
+    printf '%-10s %s commits a second\n' "clerks $clerks" $((clerks * 200000 * 1000000000 / (many - few)))
+done

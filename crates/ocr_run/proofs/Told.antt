@@ -1,18 +1,21 @@
 -- Lines on `err`.
-use Rattle.std.proofs.Common.{rules, arith, ◌∙◌, ap, ◌∷◌, ◌≤◌, ◌<◌, length, get_or, map, codes, bytes_eq, Bool, true, false, ◌||◌, ◌==◌, ◌↔◌, String, Global, string_bytes, ◌≡◌, ◌≢◌, sym, subst, ◌⊎◌, inl, inr, ℕ, List, [], take, Option, Some, None, refl}
+use Rattle.std.proofs.Common.{rules, arith, ◌∙◌, ap, ◌∷◌, Bool, true, false, ◌||◌, ◌==◌, ◌↔◌, ◌≡◌, ◌≢◌, sym, subst, ◌⊎◌, inl, inr, ℕ, List, [], take, Option, Some, None, refl}
 use Rattle.std.proofs.lemmas.Bool.{eqb-true}
-use Rattle.std.proofs.lemmas.Slice.Eq.{bytes_eq-Decides}
-use Rattle.std.specs.Prelude.{IfSome, IsNone}
+use Rattle.std.proofs.lemmas.List.{length-map}
+use Rattle.std.specs.Prelude.{IfSome, IfNone, IsSome, IsNone}
 use Rattle.std.specs.Io.KnownBytes.{Appends, Keeps}
 use Rattle.std.proofs.lemmas.Grind.{common_steps}
-use Rattle.ocr_machine.specs.declared.entry.Entry.{Entry}
-use Rattle.ocr_machine.specs.History.{history_of}
-use Rattle.ocr_machine.specs.Output.{ending_of}
+use Rattle.ocr_history.specs.declared.entry.Entry.{Entry}
+use Rattle.ocr_history.specs.History.{history_of}
+use Rattle.ocr_history.specs.Output.{ending_of}
+use Rattle.ocr_words.specs.Wanted.{IsAsked, given_in, value}
+use Rattle.ocr_words.specs.declared.wanted.Wanted.{Wanted}
+use Rattle.ocr_words.specs.declared.wanted.Wanted.TheVariants as want
 use Rattle.ocr_run.specs.declared.text.TextFault.{TextFault}
 use Rattle.ocr_run.specs.Lines.{ending_line}
-use Rattle.ocr_run.specs.UnderWay.{IsMet, shut_down, aborted, faulted, out_of_memory, limited}
 use Rattle.ocr_run.specs.Headline as headline
-use Rattle.ocr_run.specs.Headline.{IsTold, IsStatus, IsStatusOf, IsCaused, IsWritten, whole, front, nothing, CameTo, is_unrun, ran, refused, no_program, read_failed, write_failed, IsAllOf, IsLine, of_run, words_refused, text_too_big, text_refused, read_fault, write_fault, want_of_memory}
+use Rattle.ocr_run.specs.Wants.{IsMet, shut_down, stuck, aborted, faulted, out_of_memory, limited, IsServable, IsAnsweredAs, IsReadAs}
+use Rattle.ocr_run.specs.Headline.{IsHeadline, IsCheck, IsTold, IsStatus, IsStatusOf, IsCaused, IsWritten, whole, front, nothing, CameTo, is_silent, ran, refused, no_program, read_failed, write_failed, IsAllOf, IsLine, of_run, of_check, words_refused, text_too_big, text_refused, read_fault, write_fault, want_of_memory}
 
 -- a line that was written whole, or a front of it
 pub told_whole : (old new : Option (List ℕ)) (fault : Type 0) (line : List ℕ) → Appends old new line → IsTold old new fault line
@@ -40,6 +43,7 @@ run_line entries journal line status given is came =
 pub weaker_line : (A B : Type 0) (C D : TextFault → Type 0) (journal : Option (List Entry)) (status : ℕ) (line : List ℕ) → (A → B) → ((found : TextFault) → C found → D found)
     → IsLine A C journal status line → IsLine B D journal status line
 weaker_line A B C D journal status line f h (of_run entries n given came) = of_run entries n given came
+weaker_line A B C D journal status line f h (of_check none) = of_check none
 weaker_line A B C D journal status line f h words_refused = words_refused
 weaker_line A B C D journal status line f h (text_too_big a) = text_too_big (f a)
 weaker_line A B C D journal status line f h (text_refused found c) = text_refused found (h found c)
@@ -50,23 +54,13 @@ weaker_line A B C D journal status line f h want_of_memory = want_of_memory
 pub line_at : (A : Type 0) (B : TextFault → Type 0) (journal : Option (List Entry)) (n status : ℕ) (line : List ℕ) → status ≡ n → IsLine A B journal n line → IsLine A B journal status line
 line_at A B journal n status line is known = subst (λ (m : ℕ). IsLine A B journal m line) (sym is) known
 
--- whether the one word is `run`
-pub run_word : (words : List (String Global)) (w : String Global) (b : Bool) (text : List ℕ) → 1 ≤ length words → length words < 2 → w ≡ get_or words 0 w → text ≡ string_bytes w → b ≡ bytes_eq text (codes "run")
-    → (b ≡ true → map (λ (v : String Global). string_bytes v) words ≡ codes "run" ∷ []) × (map (λ (v : String Global). string_bytes v) words ≡ codes "run" ∷ [] → b ≡ true)
-run_word [] w b text some few is of test = absurd (omega (arith, some))
-run_word (x ∷ y ∷ rest) w b text some few is of test = absurd (omega (arith, few))
-run_word (x ∷ []) w b text some few is of test =
-    let same : text ≡ string_bytes x = of ∙ ap (λ (v : String Global). string_bytes v) is in (
-      λ h. ap (λ (t : List ℕ). t ∷ []) (sym same ∙ (bytes_eq-Decides text (codes "run")).0 (sym test ∙ h)),
-      λ h. test ∙ (bytes_eq-Decides text (codes "run")).1 (same ∙ ap (λ (l : List (List ℕ)). get_or l 0 []) h),
-    )
-
 pub status_at : (n status : ℕ) → status ≡ n → IsStatus n → IsStatus status
 status_at n status is known = subst IsStatus (sym is) known
 
 -- the statuses of runs, but for want of memory
 pub met_status : (status : ℕ) → IsMet status → IsStatus status
 met_status status shut_down = ran
+met_status status stuck = headline.stuck
 met_status status aborted = headline.aborted
 met_status status faulted = headline.faulted
 met_status status out_of_memory = headline.out_of_memory
@@ -76,8 +70,8 @@ or_cases : (a b : Bool) → (a || b) ≡ true → (a ≡ true) ⊎ (b ≡ true)
 or_cases true b is = inl refl
 or_cases false b is = inr is
 
-unrun_cases : (n : ℕ) → is_unrun n ≡ true → (n ≡ 2) ⊎ ((n ≡ 3) ⊎ ((n ≡ 7) ⊎ (n ≡ 9)))
-unrun_cases n is = elim (or_cases (n == 2) ((n == 3) || ((n == 7) || (n == 9))) is) [
+silent_cases : (n : ℕ) → is_silent n ≡ true → (n ≡ 2) ⊎ ((n ≡ 3) ⊎ ((n ≡ 7) ⊎ (n ≡ 9)))
+silent_cases n is = elim (or_cases (n == 2) ((n == 3) || ((n == 7) || (n == 9))) is) [
   | inl two ↦ inl (eqb-true n 2 two)
   | inr rest ↦ elim (or_cases (n == 3) ((n == 7) || (n == 9)) rest) [
     | inl three ↦ inr (inl (eqb-true n 3 three))
@@ -88,25 +82,25 @@ unrun_cases n is = elim (or_cases (n == 2) ((n == 3) || ((n == 7) || (n == 9))) 
   ]
 ]
 
--- the statuses without a run
-pub unrun_status : (status : ℕ) → is_unrun status ≡ true → IsStatus status
-unrun_status status is = elim (unrun_cases status is) [
+-- the statuses with which nothing is written
+pub silent_status : (status : ℕ) → is_silent status ≡ true → IsStatus status
+silent_status status is = elim (silent_cases status is) [
   | inl two ↦ status_at 2 status two refused
   | inr (inl three) ↦ status_at 3 status three no_program
   | inr (inr (inl seven)) ↦ status_at 7 status seven read_failed
   | inr (inr (inr nine)) ↦ status_at 9 status nine headline.out_of_memory
 ]
 
--- a status without a run is that of none
-not_unrun : (n status : ℕ) → is_unrun n ≡ false → is_unrun status ≡ true → status ≡ n → ⊥
-not_unrun n status never is same = cc (never, is, ap is_unrun same)
+-- none of them is that of a run
+not_silent : (n status : ℕ) → is_silent n ≡ false → is_silent status ≡ true → status ≡ n → ⊥
+not_silent n status never is same = cc (never, is, ap is_silent same)
 
-unrun_of : (n status : ℕ) → is_unrun n ≡ false → is_unrun status ≡ true → IsStatusOf None status n
-unrun_of n status never is = (λ same. absurd (not_unrun n status never is same), λ both. absurd both.0)
+silent_of : (n status : ℕ) → is_silent n ≡ false → is_silent status ≡ true → IsStatusOf None status n
+silent_of n status never is = (λ same. absurd (not_silent n status never is same), λ both. absurd both.0)
 
-pub unrun_caused : (journal : Option (List Entry)) (status : ℕ) → IsNone journal → is_unrun status ≡ true → IsCaused journal status
-unrun_caused None status none is = record { ended = unrun_of 0 status refl is; aborted = unrun_of 5 status refl is; faulted = unrun_of 6 status refl is; limited = unrun_of 10 status refl is }
-unrun_caused (Some entries) status none is = cc none
+pub silent_caused : (journal : Option (List Entry)) (status : ℕ) → IsNone journal → is_silent status ≡ true → IsCaused ⊥ journal status
+silent_caused None status none is = record { ended = λ no_check. silent_of 0 status refl is; stuck = silent_of 4 status refl is; aborted = silent_of 5 status refl is; faulted = silent_of 6 status refl is; limited = silent_of 10 status refl is }
+silent_caused (Some entries) status none is = cc none
 
 -- the status of a run that was written
 written_of : (old new : Option (List ℕ)) (fault : Type 0) (text : List ℕ) (ending status n : ℕ) → n ≢ 8 → n ≢ 9 → IsWritten old new fault text ending status
@@ -124,9 +118,10 @@ status_of_run journal entries old new fault text ending status n eight nine give
     )
 
 pub run_caused : (journal : Option (List Entry)) (entries : List Entry) (old new : Option (List ℕ)) (fault : Type 0) (text : List ℕ) (ending status : ℕ)
-    → journal ≡ Some entries → ending_of (history_of entries) ≡ ending → IsWritten old new fault text ending status → IsCaused journal status
+    → journal ≡ Some entries → ending_of (history_of entries) ≡ ending → IsWritten old new fault text ending status → IsCaused ⊥ journal status
 run_caused journal entries old new fault text ending status given came written = record {
-  ended = status_of_run journal entries old new fault text ending status 0 (λ is. omega (arith, is)) (λ is. omega (arith, is)) given came written;
+  ended = λ no_check. status_of_run journal entries old new fault text ending status 0 (λ is. omega (arith, is)) (λ is. omega (arith, is)) given came written;
+  stuck = status_of_run journal entries old new fault text ending status 4 (λ is. omega (arith, is)) (λ is. omega (arith, is)) given came written;
   aborted = status_of_run journal entries old new fault text ending status 5 (λ is. omega (arith, is)) (λ is. omega (arith, is)) given came written;
   faulted = status_of_run journal entries old new fault text ending status 6 (λ is. omega (arith, is)) (λ is. omega (arith, is)) given came written;
   limited = status_of_run journal entries old new fault text ending status 10 (λ is. omega (arith, is)) (λ is. omega (arith, is)) given came written;
@@ -134,6 +129,7 @@ run_caused journal entries old new fault text ending status given came written =
 
 not_eight : (status : ℕ) → IsMet status → status ≡ 8 → ⊥
 not_eight status shut_down is = omega (arith, is)
+not_eight status stuck is = omega (arith, is)
 not_eight status aborted is = omega (arith, is)
 not_eight status faulted is = omega (arith, is)
 not_eight status out_of_memory is = omega (arith, is)
@@ -141,10 +137,11 @@ not_eight status limited is = omega (arith, is)
 
 -- the statuses of runs that were written
 abbrev pub is_run_status : ℕ → Bool
-is_run_status n = (n == 0) || ((n == 5) || ((n == 6) || ((n == 8) || ((n == 9) || (n == 10)))))
+is_run_status n = (n == 0) || ((n == 4) || ((n == 5) || ((n == 6) || ((n == 8) || ((n == 9) || (n == 10))))))
 
 met_run : (status : ℕ) → IsMet status → is_run_status status ≡ true
 met_run status shut_down = refl
+met_run status stuck = refl
 met_run status aborted = refl
 met_run status faulted = refl
 met_run status out_of_memory = refl
@@ -186,3 +183,122 @@ all_of (Some told) now bytes all end = (all, end)
 pub told_bytes : (old : Option (List ℕ)) (bytes read : List ℕ) → old ≡ Some bytes → IfSome old (λ told. read ≡ told) → read ≡ bytes
 told_bytes None bytes read is all = cc is
 told_bytes (Some told) bytes read is all = cc (all, is)
+
+-- A CHECK
+checked_not : (status n : ℕ) → (n ≡ 4) ⊎ ((n ≡ 5) ⊎ ((n ≡ 6) ⊎ (n ≡ 10))) → (status ≡ 0) ⊎ ((status ≡ 3) ⊎ ((status ≡ 8) ⊎ (status ≡ 9))) → status ≡ n → ⊥
+checked_not status n never is same = omega (arith, never, is, same)
+
+checked_of : (status n : ℕ) → (n ≡ 4) ⊎ ((n ≡ 5) ⊎ ((n ≡ 6) ⊎ (n ≡ 10))) → (status ≡ 0) ⊎ ((status ≡ 3) ⊎ ((status ≡ 8) ⊎ (status ≡ 9))) → IsStatusOf None status n
+checked_of status n never is = (λ same. absurd (checked_not status n never is same), λ both. absurd both.0)
+
+pub checked_caused : (check : Type 0) (journal : Option (List Entry)) (status : ℕ) → check → IsNone journal → (status ≡ 0) ⊎ ((status ≡ 3) ⊎ ((status ≡ 8) ⊎ (status ≡ 9))) → IsCaused check journal status
+checked_caused check None status one none is = record {
+  ended = λ no_check. absurd (no_check one);
+  stuck = checked_of status 4 (inl refl) is;
+  aborted = checked_of status 5 (inr (inl refl)) is;
+  faulted = checked_of status 6 (inr (inr (inl refl))) is;
+  limited = checked_of status 10 (inr (inr (inr refl))) is;
+}
+checked_caused check (Some entries) status one none is = cc none
+
+pub checked_status : (status : ℕ) → (status ≡ 0) ⊎ ((status ≡ 3) ⊎ ((status ≡ 8) ⊎ (status ≡ 9))) → IsStatus status
+checked_status status (inl is) = status_at 0 status is ran
+checked_status status (inr (inl is)) = status_at 3 status is no_program
+checked_status status (inr (inr (inl is))) = status_at 8 status is headline.write_failed
+checked_status status (inr (inr (inr is))) = status_at 9 status is headline.out_of_memory
+
+-- THE WORDS
+pub servable : (words : List (List ℕ)) (wanted : Wanted) → IsAsked words wanted → IsServable wanted
+servable [] wanted asked = absurd asked
+servable (command ∷ rest) (want.Run options args) (line, of, (is, run)) = (
+  rw (run.args_are, length-map (given_in line).numbers value) run.few,
+  run.options_are.objects_from,
+  run.options_are.objects_to,
+)
+servable (command ∷ rest) want.Check asked = tt
+servable (command ∷ rest) (want.Load number options) (line, of, (is, load)) = load.not_built
+
+pub headline_of : (words : List (List ℕ)) (wanted : Wanted) (left_old left_new old new : Option (List ℕ)) (fault : Type 0) (status : ℕ) (journal : Option (List Entry)) → IsAsked words wanted
+    → IfSome journal (IsReadAs wanted left_old left_new old new fault status) → IfSome journal (IsHeadline words left_old left_new old new fault status)
+headline_of words wanted left_old left_new old new fault status None asked run = tt
+headline_of words (want.Run options args) left_old left_new old new fault status (Some entries) asked run = record { options = options; args = args; asked = asked; run = run }
+headline_of words want.Check left_old left_new old new fault status (Some entries) asked run = absurd run
+headline_of words (want.Load number options) left_old left_new old new fault status (Some entries) asked run = absurd run
+
+pub read_as : (wanted : Wanted) (bytes : List ℕ) (left_old left_new old new : Option (List ℕ)) (fault : Type 0) (status : ℕ) (journal : Option (List Entry)) → IsAllOf left_old left_new bytes
+    → IfSome journal (IsAnsweredAs wanted bytes old new fault status) → IfSome journal (IsReadAs wanted left_old left_new old new fault status)
+read_as wanted bytes left_old left_new old new fault status None all run = tt
+read_as (want.Run options args) bytes left_old left_new old new fault status (Some entries) all run = record { bytes = bytes; read = all; answered = run }
+read_as want.Check bytes left_old left_new old new fault status (Some entries) all run = absurd run
+read_as (want.Load number options) bytes left_old left_new old new fault status (Some entries) all run = absurd run
+
+-- a check is wanted where the words ask for one
+pub check_of : (words : List (List ℕ)) (wanted : Wanted) → ((other : Wanted) → IsAsked words other → other ≡ wanted) → IsAsked words want.Check → IsCheck wanted
+check_of words wanted only asked = subst IsCheck (only want.Check asked) tt
+
+pub asked_of : (words : List (List ℕ)) (wanted : Wanted) → IsAsked words wanted → IsCheck wanted → IsAsked words want.Check
+asked_of words (want.Run options args) asked check = absurd check
+asked_of words want.Check asked check = asked
+asked_of words (want.Load number options) asked check = absurd check
+
+pub caused_as : (A B : Type 0) (journal : Option (List Entry)) (status : ℕ) → (A → B) → IsCaused A journal status → IsCaused B journal status
+caused_as A B journal status f is = record { ended = λ no. is.ended (λ a. no (f a)); stuck = is.stuck; aborted = is.aborted; faulted = is.faulted; limited = is.limited }
+
+pub weaker_caused : (B : Type 0) (journal : Option (List Entry)) (status : ℕ) → IsCaused ⊥ journal status → IsCaused B journal status
+weaker_caused B journal status is = caused_as ⊥ B journal status (λ a. absurd a) is
+
+none_keeps : (journal : Option (List Entry)) (A K : Type 0) → IsNone journal → IfNone journal (A × K) → K
+none_keeps None A K none both = both.1
+none_keeps (Some entries) A K none both = cc none
+
+zero_silent : (status : ℕ) → status ≡ 0 → is_silent status ≡ true → ⊥
+zero_silent status zero is = not_silent 0 status refl is zero
+
+eight_silent : (status : ℕ) → status ≡ 8 → is_silent status ≡ true → ⊥
+eight_silent status eight is = not_silent 8 status refl is eight
+
+loud : (status : ℕ) → (status ≡ 0) ⊎ ((status ≡ 4) ⊎ ((status ≡ 5) ⊎ ((status ≡ 6) ⊎ ((status ≡ 8) ⊎ (status ≡ 10))))) → is_silent status ≡ true → ⊥
+loud status (inl is) silent = not_silent 0 status refl silent is
+loud status (inr (inl is)) silent = not_silent 4 status refl silent is
+loud status (inr (inr (inl is))) silent = not_silent 5 status refl silent is
+loud status (inr (inr (inr (inl is)))) silent = not_silent 6 status refl silent is
+loud status (inr (inr (inr (inr (inl is))))) silent = not_silent 8 status refl silent is
+loud status (inr (inr (inr (inr (inr is))))) silent = not_silent 10 status refl silent is
+
+-- where no journal is given
+pub none_first : (journal : Option (List Entry)) (A B : Type 0) → IfNone journal (A × B) → IfNone journal A
+none_first None A B both = both.0
+none_first (Some entries) A B both = tt
+
+pub none_silent : (journal : Option (List Entry)) (status : ℕ) → IfNone journal ((status ≡ 3) ⊎ (status ≡ 9)) → IfNone journal (is_silent status ≡ true)
+none_silent None status (inl is) = ap is_silent is
+none_silent None status (inr is) = ap is_silent is
+none_silent (Some entries) status is = tt
+
+pub none_at : (journal : Option (List Entry)) (n status : ℕ) → status ≡ n → is_silent n ≡ true → IfNone journal (is_silent status ≡ true)
+none_at None n status is silent = ap is_silent is ∙ silent
+none_at (Some entries) n status is silent = tt
+
+-- what is silent writes nothing
+pub run_silent : (journal : Option (List Entry)) (status : ℕ) (A B K : Type 0) → (status ≢ 2) × (status ≢ 7) → IfNone journal (A × K) → (status ≡ 9 → K) → (status ≡ 3 → IsNone journal × B)
+    → is_silent status ≡ true → K
+run_silent journal status A B K other none memory faulty is = elim (silent_cases status is) [
+  | inl two ↦ absurd (other.0 two)
+  | inr (inl three) ↦ none_keeps journal A K (faulty three).0 none
+  | inr (inr (inl seven)) ↦ absurd (other.1 seven)
+  | inr (inr (inr nine)) ↦ memory nine
+]
+
+pub checked_silent : (status : ℕ) (K : Type 0) → (status ≡ 0) ⊎ ((status ≡ 3) ⊎ ((status ≡ 8) ⊎ (status ≡ 9))) → ((status ≡ 3) ⊎ (status ≡ 9) → K) → is_silent status ≡ true → K
+checked_silent status K (inl zero) keeps is = absurd (zero_silent status zero is)
+checked_silent status K (inr (inl three)) keeps is = keeps (inl three)
+checked_silent status K (inr (inr (inl eight))) keeps is = absurd (eight_silent status eight is)
+checked_silent status K (inr (inr (inr nine))) keeps is = keeps (inr nine)
+
+-- a run that wrote gives its journal
+pub given_of : (words : List (List ℕ)) (wanted : Wanted) (journal : Option (List Entry)) (status : ℕ) → IsAsked words wanted → ((IsCheck wanted → ⊥) → IfNone journal (is_silent status ≡ true))
+    → (status ≡ 0) ⊎ ((status ≡ 4) ⊎ ((status ≡ 5) ⊎ ((status ≡ 6) ⊎ ((status ≡ 8) ⊎ (status ≡ 10))))) → IsSome journal ⊎ IsAsked words want.Check
+given_of words wanted (Some entries) status asked none is = inl refl
+given_of words want.Check None status asked none is = inr asked
+given_of words (want.Run options args) None status asked none is = absurd (loud status is (none (λ a. a)))
+given_of words (want.Load number options) None status asked none is = absurd (loud status is (none (λ a. a)))

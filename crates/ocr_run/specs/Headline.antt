@@ -1,35 +1,48 @@
 -- The headline: the bytes written are the output of the run's own journal, which is a run of the
 -- machine on the program that the bytes read are.
-use Rattle.std.specs.Prelude.{◌≡◌, ◌≢◌, ◌⊎◌, ◌<◌, ◌≤◌, ◌+◌, ◌↔◌, ◌==◌, ◌||◌, ℕ, Bool, List, [], ◌∷◌, length, take, Option, Some, None, codes}
+use Rattle.std.specs.Prelude.{◌≡◌, ◌≢◌, ◌⊎◌, ◌<◌, ◌≤◌, ◌+◌, ◌↔◌, ◌==◌, ◌||◌, ℕ, Bool, List, [], length, take, Option, Some, None, codes}
 use Rattle.std.specs.Io.KnownBytes.{Appends, Keeps}
 use Rattle.ocr_io.specs.Source.{Took}
 use Rattle.ocr_tree.specs.Tree.{FunctionTree}
-use Rattle.ocr_machine.specs.declared.entry.Entry.{Entry}
-use Rattle.ocr_machine.specs.History.{history_of}
-use Rattle.ocr_machine.specs.Legal.{IsRun, IsQuiet}
-use Rattle.ocr_machine.specs.Runs.{StartsOnce, StartsSet, LeavesOpen}
-use Rattle.ocr_machine.specs.Output.{printed, ending_of}
+use Rattle.ocr_history.specs.declared.entry.Entry.{Entry}
+use Rattle.ocr_history.specs.History.{history_of}
+use Rattle.ocr_parts.specs.Legal.{IsRun}
+use Rattle.ocr_parts.specs.Runs.{StartsSet, LeavesOpen, IsQuiet}
+use Rattle.ocr_history.specs.Edts.{StartsOnce}
+use Rattle.ocr_history.specs.Output.{ending_of}
+use Rattle.ocr_words.specs.Wanted.{IsAsked}
+use Rattle.ocr_words.specs.declared.wanted.Options.{Options}
+use Rattle.ocr_words.specs.declared.wanted.Wanted.{Wanted}
+use Rattle.ocr_words.specs.declared.wanted.Wanted.TheVariants as want
 use Rattle.ocr_run.specs.declared.text.TextFault.{TextFault}
-use Rattle.ocr_run.specs.Limits.{IsLimited}
+use Rattle.ocr_serial.specs.Limits.{IsLimited}
 use Rattle.ocr_run.specs.Lines.{ending_line, fault_line}
-use Rattle.ocr_run.specs.ProgramText.{IsProgramText, IsNoProgram, most_bytes}
-use Rattle.ocr_run.specs.UnderWay.{setting_of, IsFinished}
+use Rattle.ocr_run.specs.Output.{output_of}
+use Rattle.ocr_run.specs.ProgramText.{IsProgramText, IsCanonicalOf, IsNoProgram, most_bytes}
+use Rattle.ocr_serial.specs.UnderWay.{setting_of, IsFinished}
 
--- these bytes are a program, this is the journal of a run of it that came to its end and kept the
--- limits, this text is the run's output, and this is its status
-pub record IsExecuted (bytes : List ℕ) (journal : List Entry) (text : List ℕ)
-    (status : ℕ) : Type 0 where
+-- this is the journal of a run of the program with these options and arguments that came to its end
+-- and kept the limits, this text is the run's output, and this is its status
+pub record IsRunOf (program : List FunctionTree) (options : Options) (args : List ℕ)
+    (journal : List Entry) (text : List ℕ) (status : ℕ) : Type 0 where
+  pub run : IsRun (setting_of program args options.objects) (history_of journal)
+  pub finished : IsFinished (setting_of program args options.objects) (history_of journal)
+  pub once : StartsOnce (history_of journal)
+  pub set : StartsSet (setting_of program args options.objects) (history_of journal)
+  pub left : IsQuiet (setting_of program args options.objects) (history_of journal)
+      → LeavesOpen (setting_of program args options.objects) (history_of journal)
+  pub limited : IsLimited (setting_of program args options.objects) options.events
+      (history_of journal)
+  pub output : text ≡ output_of (setting_of program args options.objects) (history_of journal)
+      options.reports
+  pub ending : status ≡ ending_of (history_of journal)
+
+-- these bytes are a program, and this is a run of it
+pub record IsExecuted (options : Options) (args bytes : List ℕ) (journal : List Entry)
+    (text : List ℕ) (status : ℕ) : Type 0 where
   pub program : List FunctionTree
   pub is_program : IsProgramText bytes program
-  pub run : IsRun (setting_of program) (history_of journal)
-  pub finished : IsFinished (setting_of program) (history_of journal)
-  pub once : StartsOnce (history_of journal)
-  pub set : StartsSet (setting_of program) (history_of journal)
-  pub left : IsQuiet (setting_of program) (history_of journal)
-      → LeavesOpen (setting_of program) (history_of journal)
-  pub limited : IsLimited (setting_of program) (history_of journal)
-  pub output : text ≡ printed (history_of journal)
-  pub ending : status ≡ ending_of (history_of journal)
+  pub of : IsRunOf program options args journal text status
 
 -- the output of a run with this ending was written: whole, or a front of it where a write failed;
 -- nothing for want of memory
@@ -46,19 +59,42 @@ IsAllOf None now bytes = Unit {0}
 IsAllOf (Some told) now bytes = (bytes ≡ told) × (now ≡ Some [])
 
 -- the run of a program was written
-pub record IsAnswered (bytes : List ℕ) (out_old out_new : Option (List ℕ)) (fault : Type 0)
-    (status : ℕ) (journal : List Entry) : Type 0 where
+pub record IsAnswered (options : Options) (args bytes : List ℕ) (out_old out_new : Option (List ℕ))
+    (fault : Type 0) (status : ℕ) (journal : List Entry) : Type 0 where
   pub text : List ℕ
   pub ending : ℕ
-  pub executed : IsExecuted bytes journal text ending
+  pub executed : IsExecuted options args bytes journal text ending
   pub written : IsWritten out_old out_new fault text ending status
 
 -- all bytes of the source were read, and the output of the journal that they give was written
-pub record IsHeadline (left_old left_new out_old out_new : Option (List ℕ)) (fault : Type 0)
-    (status : ℕ) (journal : List Entry) : Type 0 where
+pub record IsRead (options : Options) (args : List ℕ)
+    (left_old left_new out_old out_new : Option (List ℕ)) (fault : Type 0) (status : ℕ)
+    (journal : List Entry) : Type 0 where
   pub bytes : List ℕ
   pub read : IsAllOf left_old left_new bytes
-  pub answered : IsAnswered bytes out_old out_new fault status journal
+  pub answered : IsAnswered options args bytes out_old out_new fault status journal
+
+-- the words ask for a run, and this is it
+pub record IsHeadline (words : List (List ℕ)) (left_old left_new out_old out_new : Option (List ℕ))
+    (fault : Type 0) (status : ℕ) (journal : List Entry) : Type 0 where
+  pub options : Options
+  pub args : List ℕ
+  pub asked : IsAsked words (want.Run options args)
+  pub run : IsRead options args left_old left_new out_old out_new fault status journal
+
+-- the canonical text of these bytes was written
+pub record IsCopied (bytes : List ℕ) (out_old out_new : Option (List ℕ)) (fault : Type 0)
+    (status : ℕ) : Type 0 where
+  pub text : List ℕ
+  pub canonical : IsCanonicalOf bytes text
+  pub written : IsWritten out_old out_new fault text 0 status
+
+-- all bytes of the source were read, and their canonical text was written
+pub record IsCheckedText (left_old left_new out_old out_new : Option (List ℕ)) (fault : Type 0)
+    (status : ℕ) : Type 0 where
+  pub bytes : List ℕ
+  pub read : IsAllOf left_old left_new bytes
+  pub copied : IsCopied bytes out_old out_new fault status
 
 -- the run whose journal is given came to this status
 abbrev pub CameTo : Option (List Entry) → ℕ → Type 0
@@ -69,17 +105,31 @@ CameTo (Some journal) n = ending_of (history_of journal) ≡ n
 abbrev pub IsStatusOf : Option (List Entry) → ℕ → ℕ → Type 0
 IsStatusOf journal status n = (status ≡ n) ↔ (CameTo journal n × (status ≢ 8))
 
--- the statuses of runs come exactly from their ends: quiet or a shutdown, an abort, a fault in a
+-- these words are in no form
+abbrev pub AreRefused : List (List ℕ) → Type 0
+AreRefused words = (wanted : Wanted) → IsAsked words wanted → ⊥
+
+-- a check is wanted
+abbrev pub IsCheck : Wanted → Type 0
+IsCheck (want.Run options args) = ⊥
+IsCheck want.Check = Unit {0}
+IsCheck (want.Load number options) = ⊥
+
+-- what is wanted came to its end with this status
+abbrev pub IsComplete : Wanted → Option (List Entry) → ℕ → Type 0
+IsComplete (want.Run options args) journal status = CameTo journal status
+IsComplete want.Check journal status = status ≡ 0
+IsComplete (want.Load number options) journal status = CameTo journal status
+
+-- the statuses of runs come exactly from their ends: quiet or a shutdown, quiet with EDTs left, an
+-- abort, a fault in a
 -- body, a limit
-pub record IsCaused (journal : Option (List Entry)) (status : ℕ) : Type 0 where
-  pub ended : IsStatusOf journal status 0
+pub record IsCaused (is_check : Type 0) (journal : Option (List Entry)) (status : ℕ) : Type 0 where
+  pub ended : (is_check → ⊥) → IsStatusOf journal status 0
+  pub stuck : IsStatusOf journal status 4
   pub aborted : IsStatusOf journal status 5
   pub faulted : IsStatusOf journal status 6
   pub limited : IsStatusOf journal status 10
-
--- the one word that is taken
-abbrev pub AreRun : List (List ℕ) → Type 0
-AreRun words = words ≡ codes "run" ∷ []
 
 -- more bytes were read than a program has
 abbrev pub IsTooBig : Option (List ℕ) → Option (List ℕ) → ℕ → ℕ → Type 0
@@ -103,6 +153,7 @@ pub data IsLine (too_big : Type 0) (not_built : TextFault → Type 0)
   of_run : (entries : List Entry) (status : ℕ) → journal ≡ Some entries
       → ending_of (history_of entries) ≡ status
       → IsLine too_big not_built journal status (ending_line (history_of entries))
+  of_check : journal ≡ None → IsLine too_big not_built journal 0 []
   words_refused : IsLine too_big not_built journal 2 (codes "words refused\n")
   text_too_big : too_big → IsLine too_big not_built journal 3 (codes "text too big\n")
   text_refused : (found : TextFault) → not_built found
@@ -122,6 +173,7 @@ pub data IsStatus : ℕ → Type 0 where
   ran : IsStatus 0
   refused : IsStatus 2
   no_program : IsStatus 3
+  stuck : IsStatus 4
   aborted : IsStatus 5
   faulted : IsStatus 6
   read_failed : IsStatus 7
@@ -129,6 +181,6 @@ pub data IsStatus : ℕ → Type 0 where
   out_of_memory : IsStatus 9
   limited : IsStatus 10
 
--- the statuses without a run
-abbrev pub is_unrun : ℕ → Bool
-is_unrun n = (n == 2) || ((n == 3) || ((n == 7) || (n == 9)))
+-- the statuses with which nothing is written
+abbrev pub is_silent : ℕ → Bool
+is_silent n = (n == 2) || ((n == 3) || ((n == 7) || (n == 9)))

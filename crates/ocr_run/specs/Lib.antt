@@ -1,7 +1,5 @@
-pub mod Going
 pub mod Headline
-pub mod Limits
 pub mod Lines
+pub mod Output
 pub mod ProgramText
-pub mod Serving
-pub mod UnderWay
+pub mod Wants

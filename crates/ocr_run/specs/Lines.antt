@@ -1,13 +1,13 @@
 -- How a run came to its end, and the lines on `err`.
 use Rattle.std.specs.Prelude.{◌==◌, ℕ, List, [], ◌∷◌, ◌++◌, length, codes, if◌then◌else◌}
 use Rattle.std.specs.Fmt.{decimal}
-use Rattle.ocr_machine.specs.declared.entry.Entry.TheVariants.{Stop}
-use Rattle.ocr_machine.specs.declared.entry.Fault as machine
-use Rattle.ocr_machine.specs.declared.entry.Fault.TheVariants as kind
-use Rattle.ocr_machine.specs.declared.entry.Stop as run
-use Rattle.ocr_machine.specs.declared.entry.Stop.TheVariants as by
-use Rattle.ocr_machine.specs.History.{History}
-use Rattle.ocr_machine.specs.Output.{left_edts, status_of}
+use Rattle.ocr_history.specs.declared.entry.Entry.TheVariants.{Stop}
+use Rattle.ocr_history.specs.declared.entry.Fault as machine
+use Rattle.ocr_history.specs.declared.entry.Fault.TheVariants as kind
+use Rattle.ocr_history.specs.declared.entry.Stop as run
+use Rattle.ocr_history.specs.declared.entry.Stop.TheVariants as by
+use Rattle.ocr_history.specs.History.{History}
+use Rattle.ocr_history.specs.Output.{left_edts, status_of}
 use Rattle.ocr_run.specs.declared.ending.Ending.{Ending}
 use Rattle.ocr_run.specs.declared.ending.Ending.TheVariants as ending
 use Rattle.ocr_run.specs.declared.text.TextFault.{TextFault}

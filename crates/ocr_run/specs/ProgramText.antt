@@ -4,6 +4,7 @@ use Rattle.ocr_text.specs.Tokens.{AreTokens, IsFault}
 use Rattle.ocr_text.specs.declared.token.Token.{Token}
 use Rattle.ocr_tree.specs.Tree.{FunctionTree}
 use Rattle.ocr_grammar.specs.Lexing.{IsTreeOf, IsSyntaxFault}
+use Rattle.ocr_canonical.specs.Canonical.{program_text}
 use Rattle.ocr_check.specs.Check.{IsBreach, BreaksNoRule}
 use Rattle.ocr_check.specs.declared.rules.CheckFault.{CheckFault}
 use Rattle.ocr_run.specs.declared.text.TextFault.{TextFault}
@@ -23,6 +24,12 @@ pub record IsProgramText (bytes : List ℕ) (program : List FunctionTree) : Type
   pub are_tokens : AreTokens bytes tokens
   pub tree : IsTreeOf bytes tokens program
   pub sound : BreaksNoRule program
+
+-- these bytes are a program, and this is its canonical text
+pub record IsCanonicalOf (bytes text : List ℕ) : Type 0 where
+  pub program : List FunctionTree
+  pub is_program : IsProgramText bytes program
+  pub canonical : text ≡ program_text program
 
 -- these bytes are no program, and this is the first thing that is wrong with them
 pub data IsNoProgram (bytes : List ℕ) : TextFault → Type 0 where

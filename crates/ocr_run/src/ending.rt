@@ -1,8 +1,14 @@
 // How a run ended.
-ghost use Rattle.std.specs.Prelude.{◌≡◌};
-ghost use Rattle.ocr_run.specs.Lines.{end_status};
+ghost use Rattle.std.specs.Prelude.{◌≡◌, length, IfOk};
+ghost use Rattle.ocr_history.specs.History.{history_of};
+ghost use Rattle.ocr_history.specs.Output.{left_edts};
+ghost use Rattle.ocr_serial.specs.UnderWay.{IsEndedBy};
+ghost use Rattle.ocr_run.specs.Lines.{end_of, end_status};
+ghost use Rattle.ocr_run.specs.Wants.{IsMet};
 
-use ocr_machine::Stop;
+use ocr_base::NoMemory;
+use ocr_history::{Entry, Stop};
+use std::alloc::Global;
 
 /// How a run came to its end.
 #[derive(Clone, Copy, PartialEq, Eq, Debug)]
@@ -16,7 +22,8 @@ pub enum Ending {
 impl Ending {
     /// The exit status of the run (docs/SPECIFICATION.md, "The program").
     pub fn status(self) -> u8
-        ensures { result ≡ end_status self }
+        ensures status { result ≡ end_status self }
+        ensures met { IsMet result }
     {
         match self {
             Ending::Quiet(0) => 0,
@@ -26,6 +33,29 @@ impl Ending {
             Ending::Stopped(Stop::Fault { .. }) => 6,
             Ending::Stopped(Stop::Objects | Stop::Events { .. }) => 10,
             Ending::Stopped(Stop::Memory) => 9,
+        }
+    }
+}
+
+// How many EDTs were made and never started.
+fn left_count(alloc: Global, entries: &[Entry]) -> Result<u64, NoMemory>
+    ensures { IfOk result (λ count. count ≡ length (left_edts (history_of entries.now))) }
+{
+    let (left, _) = ocr_report::left_edts(alloc, entries)?;
+    Ok(left.len() as u64)
+}
+
+/// How a run ended that has these entries, the last of which is this Stop, if any.
+#[tactic(auto, using(crate::proofs::Ends::end_count))]
+pub fn ending_of(alloc: Global, entries: &[Entry], stop: Option<Stop>) -> Result<Ending, NoMemory>
+    requires { IsEndedBy stop (history_of entries.now) }
+    ensures { IfOk result (λ ending. ending ≡ end_of (history_of entries.now)) }
+{
+    match stop {
+        Some(stop) => Ok(Ending::Stopped(stop)),
+        None => {
+            let count = left_count(alloc, entries)?;
+            Ok(Ending::Quiet(count))
         }
     }
 }

@@ -7,7 +7,7 @@ use crate::ending::Ending;
 use crate::text::TextFault;
 use ocr_check::CheckFault;
 use ocr_guid::Guid;
-use ocr_machine::{Fault, Stop};
+use ocr_history::{Fault, Stop};
 use std::alloc::{AllocError, Global};
 
 // Words, a number, and more.
@@ -68,10 +68,10 @@ fn line_of_stop(alloc: Global, stop: Stop) -> Result<Vec<u8>, AllocError>
 }
 
 /// The line of a run that ended so; none where it is empty.
-pub fn line_of_ending(alloc: Global, ending: Ending) -> Result<Vec<u8>, AllocError>
-    ensures { IfOk result (λ line. line.items ≡ end_line ending) }
+pub fn line_of_ending(alloc: Global, ending: &Ending) -> Result<Vec<u8>, AllocError>
+    ensures { IfOk result (λ line. line.items ≡ end_line ending.now) }
 {
-    match ending {
+    match *ending {
         Ending::Quiet(0) => Ok(Vec::new(alloc)),
         Ending::Quiet(left) => line_with(alloc, b"stuck: ", left),
         Ending::Stopped(stop) => line_of_stop(alloc, stop),

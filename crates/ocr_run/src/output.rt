@@ -1,14 +1,48 @@
-// What a run prints.
-ghost use Rattle.std.specs.Prelude.{◌≡◌, ◌++◌, IfOk, OnOk};
-ghost use Rattle.ocr_machine.specs.History.{history_of};
-ghost use Rattle.ocr_machine.specs.Output.{printed, line_of};
+// What a run writes.
+ghost use Rattle.std.specs.Prelude.{◌≡◌, ◌++◌, length, IfOk, OnOk};
+ghost use Rattle.ocr_tree.specs.View.{tree_of};
+ghost use Rattle.ocr_history.specs.History.{Setting, history_of};
+ghost use Rattle.ocr_history.specs.Output.{printed, line_of};
+ghost use Rattle.ocr_journal.specs.JournalText as journals;
+ghost use Rattle.ocr_report.specs.Blocks as made;
+ghost use Rattle.ocr_report.specs.Left as lefts;
+ghost use Rattle.ocr_report.specs.Refused as refusals;
+ghost use Rattle.ocr_report.specs.Stale as stales;
+ghost use Rattle.ocr_report.specs.Summary as summaries;
+ghost use Rattle.ocr_run.specs.Output.{asked_if, output_of};
 
-use ocr_body::Call;
-use ocr_machine::Entry;
-use std::alloc::{AllocError, Global};
+use ocr_base::NoMemory;
+use ocr_history::{Entry, Journal};
+use ocr_journal::journal_text;
+use ocr_meaning::Call;
+use ocr_report::{blocks_text, left_text, refused_text, stale_text, summary_text};
+use ocr_tree::Program;
+use ocr_words::Reports;
+use std::alloc::Global;
 
-/// The lines of a journal's prints, in their order.
-pub fn output(alloc: Global, entries: &[Entry]) -> Result<Vec<u8>, AllocError>
+/// What a run of this program with these arguments writes that has this journal: the lines of its prints, in their
+/// order, and the texts that are asked for.
+pub fn output(
+    alloc: Global,
+    program: &Program,
+    args: &[u64],
+    journal: &Journal,
+    reports: Reports,
+) -> Result<Vec<u8>, NoMemory>
+    ensures { IfOk result (λ text. (s : Setting) → s.program ≡ tree_of program.now
+        → s.args ≡ args.now → text.items ≡ output_of s (history_of journal.now) reports) }
+{
+    let mut text = prints(alloc, journal.entries())?;
+    summary(alloc, &mut text, journal, reports.summary)?;
+    left(alloc, &mut text, journal, reports.left)?;
+    stale(alloc, &mut text, journal, reports.stale)?;
+    refused(alloc, &mut text, journal, reports.refused)?;
+    blocks(alloc, &mut text, journal, args, reports.blocks)?;
+    entries(alloc, &mut text, journal, program, reports.journal)?;
+    Ok(text)
+}
+
+fn prints(alloc: Global, entries: &[Entry]) -> Result<Vec<u8>, NoMemory>
     ensures { IfOk result (λ text. text.items ≡ printed (history_of entries.now)) }
 {
     let mut out = Vec::new(alloc);
@@ -18,7 +52,7 @@ pub fn output(alloc: Global, entries: &[Entry]) -> Result<Vec<u8>, AllocError>
     Ok(out)
 }
 
-fn push_line(alloc: Global, out: &mut Vec<u8>, entry: &Entry) -> Result<(), AllocError>
+fn push_line(alloc: Global, out: &mut Vec<u8>, entry: &Entry) -> Result<(), NoMemory>
     ensures { OnOk result (out.new.items ≡ out.old.items ++ line_of entry.now) }
 {
     if let Entry::Call { call, .. } = entry {
@@ -27,6 +61,105 @@ fn push_line(alloc: Global, out: &mut Vec<u8>, entry: &Entry) -> Result<(), Allo
             out.extend_from_slice(text.as_bytes())?;
             out.push(b'\n')?;
         }
+    }
+    Ok(())
+}
+
+fn summary(
+    alloc: Global,
+    text: &mut Vec<u8>,
+    journal: &Journal,
+    is_asked: bool,
+) -> Result<(), NoMemory>
+    ensures { OnOk result (text.new.items ≡ text.old.items
+        ++ asked_if is_asked (summaries.summary_text (history_of journal.now))) }
+{
+    if is_asked {
+        let report = summary_text(alloc, journal)?;
+        text.extend_from_slice(&report)?;
+    }
+    Ok(())
+}
+
+fn left(
+    alloc: Global,
+    text: &mut Vec<u8>,
+    journal: &Journal,
+    is_asked: bool,
+) -> Result<(), NoMemory>
+    ensures { OnOk result ((s : Setting) → text.new.items ≡ text.old.items
+        ++ asked_if is_asked (lefts.left_text s (history_of journal.now))) }
+{
+    if is_asked {
+        let report = left_text(alloc, journal)?;
+        text.extend_from_slice(&report)?;
+    }
+    Ok(())
+}
+
+fn stale(
+    alloc: Global,
+    text: &mut Vec<u8>,
+    journal: &Journal,
+    is_asked: bool,
+) -> Result<(), NoMemory>
+    ensures { OnOk result (text.new.items ≡ text.old.items
+        ++ asked_if is_asked (stales.stale_text (history_of journal.now))) }
+{
+    if is_asked {
+        let report = stale_text(alloc, journal)?;
+        text.extend_from_slice(&report)?;
+    }
+    Ok(())
+}
+
+fn refused(
+    alloc: Global,
+    text: &mut Vec<u8>,
+    journal: &Journal,
+    is_asked: bool,
+) -> Result<(), NoMemory>
+    ensures { OnOk result (text.new.items ≡ text.old.items
+        ++ asked_if is_asked (refusals.refused_text (history_of journal.now))) }
+{
+    if is_asked {
+        let report = refused_text(alloc, journal)?;
+        text.extend_from_slice(&report)?;
+    }
+    Ok(())
+}
+
+fn blocks(
+    alloc: Global,
+    text: &mut Vec<u8>,
+    journal: &Journal,
+    args: &[u64],
+    is_asked: bool,
+) -> Result<(), NoMemory>
+    ensures { OnOk result ((s : Setting) → length s.args ≡ length args.now
+        → text.new.items ≡ text.old.items
+        ++ asked_if is_asked (made.blocks_text s (history_of journal.now))) }
+{
+    if is_asked {
+        let report = blocks_text(alloc, journal, args)?;
+        text.extend_from_slice(&report)?;
+    }
+    Ok(())
+}
+
+fn entries(
+    alloc: Global,
+    text: &mut Vec<u8>,
+    journal: &Journal,
+    program: &Program,
+    is_asked: bool,
+) -> Result<(), NoMemory>
+    ensures { OnOk result (text.new.items ≡ text.old.items
+        ++ asked_if is_asked (journals.journal_text (tree_of program.now) (history_of journal.now))) }
+{
+    if is_asked {
+        let report = journal_text(alloc, journal, program)?;
+        text.extend_from_slice(&report)?;
     }
     Ok(())
 }

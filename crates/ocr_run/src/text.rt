@@ -1,13 +1,15 @@
 // The program that a task text is.
-ghost use Rattle.std.specs.Prelude.{◌≡◌, ◌≤◌, IfOk, IfErr, length};
+ghost use Rattle.std.specs.Prelude.{◌≡◌, ◌≤◌, IfOk, IfErr, length, true};
 ghost use Rattle.ocr_text.specs.Tokens.{AreTokens};
+ghost use Rattle.ocr_tree.specs.Built.{are_built};
 ghost use Rattle.ocr_tree.specs.View.{tree_of};
-ghost use Rattle.ocr_body.specs.Checked.{checked_tree};
+ghost use Rattle.ocr_code.specs.Checked.{checked_tree};
 ghost use Rattle.ocr_grammar.specs.Lexing.{IsTreeOf};
-ghost use Rattle.ocr_run.specs.ProgramText.{IsProgramText, IsTextStop, TextLaw, most_bytes};
+ghost use Rattle.ocr_run.specs.ProgramText.{IsProgramText, IsCanonicalOf, IsTextStop, TextLaw, most_bytes};
 
-use ocr_body::Checked;
+use ocr_canonical::print_program;
 use ocr_check::{CheckFault, CheckStop, check};
+use ocr_code::Checked;
 use ocr_program::{ParseStop, SyntaxFault, parse};
 use ocr_text::{LexFault, Token, TokensStop, tokens};
 use ocr_tree::Program;
@@ -65,14 +67,32 @@ fn read(alloc: Global, bytes: &[u8], tokens: &[Token]) -> Result<Program, TextSt
 pub fn program_of(alloc: Global, bytes: &[u8]) -> Result<Checked, TextStop>
     requires { length bytes.now ≤ most_bytes }
     ensures program { IfOk result (λ checked. IsProgramText bytes.now (checked_tree checked)) }
+    ensures built { IfOk result (λ checked. are_built (checked_tree checked) ≡ true) }
     ensures stop { IfErr result (IsTextStop bytes.now) }
 {
     let tokens = cut(alloc, bytes)?;
     let program = read(alloc, bytes, &tokens)?;
     match check(alloc, program) {
-        Ok(checked) => Ok(checked),
+        Ok(checked) => {
+            checked.runnable_law(); // only for the proof: its calls are built
+            Ok(checked)
+        }
         Err(CheckStop::Fault(fault)) => Err(TextStop::Fault(TextFault::Breach(fault))),
         Err(CheckStop::NoMemory) => Err(TextStop::NoMemory),
+    }
+}
+
+/// The canonical text of the program that these bytes are; or the first thing that is wrong with
+/// them.
+pub fn canonical_of(alloc: Global, bytes: &[u8]) -> Result<Vec<u8>, TextStop>
+    requires { length bytes.now ≤ most_bytes }
+    ensures text { IfOk result (λ text. IsCanonicalOf bytes.now text.items) }
+    ensures stop { IfErr result (IsTextStop bytes.now) }
+{
+    let checked = program_of(alloc, bytes)?;
+    match print_program(alloc, checked.program()) {
+        Ok(text) => Ok(text),
+        Err(_) => Err(TextStop::NoMemory),
     }
 }
 

@@ -1,20 +1,23 @@
 // The top call.
-ghost use Rattle.std.specs.Prelude.{◌≡◌, ◌≢◌, ◌⊎◌, ◌↔◌, ◌+◌, ◌<◌, ◌≤◌, ◌^◌, [], ◌∷◌, true, IfSome, IfNone, IsSome, IsNone, IfOk, OnErr, IsTrue, map, length, string_bytes, codes, List, ℕ, Option, Some};
+ghost use Rattle.std.specs.Prelude.{◌≡◌, ◌≢◌, ◌⊎◌, ◌+◌, ◌<◌, ◌≤◌, ◌^◌, true, IfSome, IfNone, IsSome, IsNone, length, List, ℕ, Option, Some};
 ghost use Rattle.std.specs.Io.KnownBytes.{Keeps};
 ghost use Rattle.ocr_base.specs.Count.{Rose};
 ghost use Rattle.ocr_tree.specs.Tree.{FunctionTree};
-ghost use Rattle.ocr_machine.specs.History.{history_of};
-ghost use Rattle.ocr_machine.specs.Output.{ending_of};
+ghost use Rattle.ocr_history.specs.History.{history_of};
+ghost use Rattle.ocr_history.specs.Output.{ending_of};
+ghost use Rattle.ocr_words.specs.Form.{texts_of};
+ghost use Rattle.ocr_words.specs.Wanted.{IsAsked};
 ghost use Rattle.ocr_run.specs.Lines.{ending_line};
 ghost use Rattle.ocr_run.specs.ProgramText.{IsProgramText, IsNoProgram, most_bytes};
-ghost use Rattle.ocr_run.specs.UnderWay.{IsMet};
-ghost use Rattle.ocr_run.specs.Headline.{IsHeadline, IsExecuted, IsAnswered, IsWritten, IsCaused, CameTo, AreRun, IsTooBig, IsNotBuilt, IsRefusedText, IsLine, IsTold, IsStatus, is_unrun};
+ghost use Rattle.ocr_run.specs.Headline.{IsHeadline, IsAnswered, IsCopied, IsCheckedText, IsWritten, IsCheck, IsComplete, IsCaused, CameTo, AreRefused, IsTooBig, IsNotBuilt, IsRefusedText, IsLine, IsTold, IsStatus, is_silent};
+ghost use Rattle.ocr_run.specs.Wants.{IsMet, IsServable, IsAnsweredAs, IsReadAs};
 
 use crate::execute::{Executed, execute};
 use crate::lines::line_of_fault;
-use crate::text::{TextFault, TextStop};
+use crate::text::{TextFault, TextStop, canonical_of};
+use ocr_history::Journal;
 use ocr_io::{ReadStop, Sink, Source, read_all, write_all};
-use ocr_machine::Journal;
+use ocr_words::{Options, Wanted, WordsStop, command};
 use std::alloc::Global;
 
 /// The most bytes that a program has.
@@ -28,15 +31,6 @@ pub struct Ended {
     pub journal: Option<Journal>,
 }
 
-fn are_run(words: &[String]) -> bool
-    ensures { IsTrue result ↔ AreRun (map (λ w. string_bytes w) words.now) }
-{
-    match words {
-        [word] => word.as_str() == "run",
-        _ => false,
-    }
-}
-
 // Writes a line to `err`. A write that fails there changes nothing else.
 #[tactic(auto, using(crate::proofs::Told::told_whole, crate::proofs::Told::told_front))]
 fn tell<E: Sink>(err: &mut E, line: &[u8])
@@ -47,12 +41,12 @@ fn tell<E: Sink>(err: &mut E, line: &[u8])
 }
 
 // The end without a run.
-#[tactic(auto, using(crate::proofs::Told::unrun_caused, crate::proofs::Told::unrun_status))]
+#[tactic(auto, using(crate::proofs::Told::silent_caused, crate::proofs::Told::silent_status))]
 fn refuse<E: Sink>(err: &mut E, status: u8, line: &[u8]) -> Ended
-    requires { is_unrun status ≡ true }
+    requires { is_silent status ≡ true }
     ensures status { result.status ≡ status }
     ensures known { IsStatus result.status }
-    ensures caused { IsCaused result.journal result.status }
+    ensures caused { IsCaused ⊥ result.journal result.status }
     ensures journal { IsNone result.journal }
     ensures told { IsTold (E.taken err.old) (E.taken err.new)
         (Rose (E.failures err.old) (E.failures err.new)) line.now }
@@ -68,7 +62,7 @@ fn refuse<E: Sink>(err: &mut E, status: u8, line: &[u8]) -> Ended
 fn refuse_text<E: Sink>(alloc: Global, err: &mut E, found: TextFault) -> Ended
     ensures status { (result.status ≡ 3) ⊎ (result.status ≡ 9) }
     ensures known { IsStatus result.status }
-    ensures caused { IsCaused result.journal result.status }
+    ensures caused { IsCaused ⊥ result.journal result.status }
     ensures journal { IsNone result.journal }
     ensures told { (line : List ℕ) × (IsTold (E.taken err.old) (E.taken err.new)
         (Rose (E.failures err.old) (E.failures err.new)) line
@@ -120,15 +114,25 @@ fn finish<O: Sink, E: Sink>(executed: Executed, out: &mut O, err: &mut E) -> End
 }
 
 // Runs the program that these bytes are, and writes its output.
-fn answer<O: Sink, E: Sink>(alloc: Global, bytes: &[u8], out: &mut O, err: &mut E) -> Ended
-    requires { length bytes.now ≤ most_bytes }
+fn answer_run<O: Sink, E: Sink>(
+    alloc: Global,
+    options: Options,
+    args: &[u64],
+    bytes: &[u8],
+    out: &mut O,
+    err: &mut E,
+) -> Ended
+    requires size { length bytes.now ≤ most_bytes }
+    requires args { length args.now ≤ 32 }
+    requires some { 2 ≤ options.objects }
+    requires most { options.objects ≤ 65536 }
     ensures status { IsStatus result.status }
     ensures accepted { (result.status ≢ 2) × (result.status ≢ 7) }
-    ensures ran { IfSome result.journal (IsAnswered bytes.now (O.taken out.old) (O.taken out.new)
-        (Rose (O.failures out.old) (O.failures out.new)) result.status) }
+    ensures ran { IfSome result.journal (IsAnswered options args.now bytes.now (O.taken out.old)
+        (O.taken out.new) (Rose (O.failures out.old) (O.failures out.new)) result.status) }
     ensures unrun { IfNone result.journal
         (((result.status ≡ 3) ⊎ (result.status ≡ 9)) × Keeps (O.taken out.old) (O.taken out.new)) }
-    ensures caused { IsCaused result.journal result.status }
+    ensures caused { IsCaused ⊥ result.journal result.status }
     ensures no_program { result.status ≡ 3
         → IsNone result.journal × ((found : TextFault) × IsNoProgram bytes.now found) }
     ensures complete { (program : List FunctionTree) → IsProgramText bytes.now program
@@ -142,40 +146,130 @@ fn answer<O: Sink, E: Sink>(alloc: Global, bytes: &[u8], out: &mut O, err: &mut 
     ensures write_fault { result.status ≡ 8 → Rose (O.failures out.old) (O.failures out.new) }
     ensures memory { result.status ≡ 9 → Keeps (O.taken out.old) (O.taken out.new) }
 {
-    match execute(alloc, bytes) {
+    match execute(alloc, options, args, bytes) {
         Ok(executed) => finish(executed, out, err),
         Err(TextStop::Fault(found)) => refuse_text(alloc, err, found),
         Err(TextStop::NoMemory) => refuse(err, 9, b"want of memory\n"),
     }
 }
 
-/// The program: looks at the words, reads the input, runs the task program that it is, and writes
-/// what it prints.
-///
-/// The one word that is taken is `run`. The status is that of docs/SPECIFICATION.md, "The program",
-/// and the line that goes with it is written to `err`. The journal is given with each of the
-/// statuses 0, 5, 6, 8 and 10, may be given with 9, and is not given with 2, 3 and 7.
-pub fn ocr_main<S: Source, O: Sink, E: Sink>(
+// Writes the canonical text of a program.
+fn copy<O: Sink, E: Sink>(text: &[u8], out: &mut O, err: &mut E) -> Ended
+    ensures status { (result.status ≡ 0) ⊎ (result.status ≡ 8) }
+    ensures journal { IsNone result.journal }
+    ensures written { IsWritten (O.taken out.old) (O.taken out.new)
+        (Rose (O.failures out.old) (O.failures out.new)) text.now 0 result.status }
+    ensures told { (line : List ℕ) × (IsTold (E.taken err.old) (E.taken err.new)
+        (Rose (E.failures err.old) (E.failures err.new)) line
+        × IsLine ⊥ (λ found. ⊥) result.journal result.status line) }
+{
+    match write_all(out, text) {
+        Ok(()) => Ended {
+            status: 0,
+            journal: None,
+        },
+        Err(_) => {
+            tell(err, b"write fault\n");
+            Ended {
+                status: 8,
+                journal: None,
+            }
+        }
+    }
+}
+
+// Checks the program that these bytes are, and writes its canonical text.
+fn answer_check<O: Sink, E: Sink>(alloc: Global, bytes: &[u8], out: &mut O, err: &mut E) -> Ended
+    requires { length bytes.now ≤ most_bytes }
+    ensures status { (result.status ≡ 0) ⊎ (result.status ≡ 3) ⊎ (result.status ≡ 8)
+        ⊎ (result.status ≡ 9) }
+    ensures journal { IsNone result.journal }
+    ensures copied { (result.status ≡ 0) ⊎ (result.status ≡ 8)
+        → IsCopied bytes.now (O.taken out.old) (O.taken out.new)
+        (Rose (O.failures out.old) (O.failures out.new)) result.status }
+    ensures silent { (result.status ≡ 3) ⊎ (result.status ≡ 9)
+        → Keeps (O.taken out.old) (O.taken out.new) }
+    ensures no_program { result.status ≡ 3
+        → (found : TextFault) × IsNoProgram bytes.now found }
+    ensures complete { (program : List FunctionTree) → IsProgramText bytes.now program
+        → (Rose (O.failures out.old) (O.failures out.new) → ⊥)
+        → (result.status ≡ 9) ⊎ (result.status ≡ 0) }
+    ensures refused { (found : TextFault) → IsNoProgram bytes.now found
+        → (result.status ≡ 3) ⊎ (result.status ≡ 9) }
+    ensures told { (line : List ℕ) × (IsTold (E.taken err.old) (E.taken err.new)
+        (Rose (E.failures err.old) (E.failures err.new)) line
+        × IsLine ⊥ (IsNoProgram bytes.now) result.journal result.status line) }
+    ensures write_fault { result.status ≡ 8 → Rose (O.failures out.old) (O.failures out.new) }
+{
+    match canonical_of(alloc, bytes) {
+        Ok(text) => copy(&text, out, err),
+        Err(TextStop::Fault(found)) => refuse_text(alloc, err, found),
+        Err(TextStop::NoMemory) => refuse(err, 9, b"want of memory\n"),
+    }
+}
+
+// Does with these bytes what is wanted.
+fn answer<O: Sink, E: Sink>(
     alloc: Global,
-    words: &[String],
+    wanted: Wanted,
+    bytes: &[u8],
+    out: &mut O,
+    err: &mut E,
+) -> Ended
+    requires size { length bytes.now ≤ most_bytes }
+    requires servable { IsServable wanted }
+    ensures status { IsStatus result.status }
+    ensures accepted { (result.status ≢ 2) × (result.status ≢ 7) }
+    ensures ran { IfSome result.journal (IsAnsweredAs wanted bytes.now (O.taken out.old)
+        (O.taken out.new) (Rose (O.failures out.old) (O.failures out.new)) result.status) }
+    ensures copied { IsCheck wanted → (result.status ≡ 0) ⊎ (result.status ≡ 8)
+        → IsCopied bytes.now (O.taken out.old) (O.taken out.new)
+        (Rose (O.failures out.old) (O.failures out.new)) result.status }
+    ensures unrun { (IsCheck wanted → ⊥)
+        → IfNone result.journal ((result.status ≡ 3) ⊎ (result.status ≡ 9)) }
+    ensures silent { is_silent result.status ≡ true → Keeps (O.taken out.old) (O.taken out.new) }
+    ensures caused { IsCaused (IsCheck wanted) result.journal result.status }
+    ensures no_program { result.status ≡ 3
+        → IsNone result.journal × ((found : TextFault) × IsNoProgram bytes.now found) }
+    ensures complete { (program : List FunctionTree) → IsProgramText bytes.now program
+        → (Rose (O.failures out.old) (O.failures out.new) → ⊥)
+        → (result.status ≡ 9) ⊎ IsComplete wanted result.journal result.status }
+    ensures refused { (found : TextFault) → IsNoProgram bytes.now found
+        → (result.status ≡ 3) ⊎ (result.status ≡ 9) }
+    ensures told { (line : List ℕ) × (IsTold (E.taken err.old) (E.taken err.new)
+        (Rose (E.failures err.old) (E.failures err.new)) line
+        × IsLine ⊥ (IsNoProgram bytes.now) result.journal result.status line) }
+    ensures write_fault { result.status ≡ 8 → Rose (O.failures out.old) (O.failures out.new) }
+{
+    match wanted {
+        Wanted::Run { options, args } => {
+            answer_run(alloc, options, args.as_slice(), bytes, out, err)
+        }
+        Wanted::Check => answer_check(alloc, bytes, out, err),
+        Wanted::Load { .. } => unreachable!(),
+    }
+}
+
+// Reads the input, and does with it what is wanted.
+fn serve<S: Source, O: Sink, E: Sink>(
+    alloc: Global,
+    wanted: Wanted,
     input: &mut S,
     out: &mut O,
     err: &mut E,
 ) -> Ended
-    // The headline: all bytes of the source are a program, the journal is a run of it that came to
-    // its end and kept the limits, and the bytes written are the journal's output.
-    ensures headline { IfSome result.journal
-        (IsHeadline (S.left input.old) (S.left input.new) (O.taken out.old) (O.taken out.new)
-        (Rose (O.failures out.old) (O.failures out.new)) result.status) }
-    ensures given { (result.status ≡ 0) ⊎ (result.status ≡ 5) ⊎ (result.status ≡ 6)
-        ⊎ (result.status ≡ 8) ⊎ (result.status ≡ 10) → IsSome result.journal }
-    ensures silent { IfNone result.journal (Keeps (O.taken out.old) (O.taken out.new)) }
-
-    // Each status has its cause.
+    requires { IsServable wanted }
     ensures status { IsStatus result.status }
-    ensures caused { IsCaused result.journal result.status }
-    ensures words { (result.status ≡ 2) ↔ (AreRun (map (λ w. string_bytes w) words.now) → ⊥) }
-    ensures untouched { result.status ≡ 2 → input.new ≡ input.old }
+    ensures accepted { result.status ≢ 2 }
+    ensures ran { IfSome result.journal (IsReadAs wanted (S.left input.old) (S.left input.new)
+        (O.taken out.old) (O.taken out.new) (Rose (O.failures out.old) (O.failures out.new))
+        result.status) }
+    ensures copied { IsCheck wanted → (result.status ≡ 0) ⊎ (result.status ≡ 8)
+        → IsCheckedText (S.left input.old) (S.left input.new) (O.taken out.old) (O.taken out.new)
+        (Rose (O.failures out.old) (O.failures out.new)) result.status }
+    ensures unrun { (IsCheck wanted → ⊥) → IfNone result.journal (is_silent result.status ≡ true) }
+    ensures silent { is_silent result.status ≡ true → Keeps (O.taken out.old) (O.taken out.new) }
+    ensures caused { IsCaused (IsCheck wanted) result.journal result.status }
     ensures no_program { result.status ≡ 3 → IsNone result.journal
         × (IsTooBig (S.left input.old) (S.left input.new) (S.given input.old) (S.given input.new)
         ⊎ ((found : TextFault) × IsNotBuilt (S.left input.old) (S.left input.new) found)) }
@@ -184,17 +278,83 @@ pub fn ocr_main<S: Source, O: Sink, E: Sink>(
     ensures read_fault { result.status ≡ 7
         → IsNone result.journal × Rose (S.failures input.old) (S.failures input.new) }
     ensures write_fault { result.status ≡ 8 → Rose (O.failures out.old) (O.failures out.new) }
-    ensures memory { result.status ≡ 9 → Keeps (O.taken out.old) (O.taken out.new) }
-
-    // Where no read and no write failed, a program is run to its end, and other bytes are refused,
-    // but for want of memory.
     ensures complete { (bytes : List ℕ) (program : List FunctionTree)
-        → AreRun (map (λ w. string_bytes w) words.now)
         → S.left input.old ≡ Some bytes → IsProgramText bytes program
         → (Rose (S.failures input.old) (S.failures input.new) → ⊥)
         → (Rose (O.failures out.old) (O.failures out.new) → ⊥)
-        → (result.status ≡ 9) ⊎ CameTo result.journal result.status }
-    ensures refused { (bytes : List ℕ) → AreRun (map (λ w. string_bytes w) words.now)
+        → (result.status ≡ 9) ⊎ IsComplete wanted result.journal result.status }
+    ensures refused { (bytes : List ℕ) → S.left input.old ≡ Some bytes → IsRefusedText bytes
+        → (Rose (S.failures input.old) (S.failures input.new) → ⊥)
+        → (result.status ≡ 3) ⊎ (result.status ≡ 9) }
+    ensures told { (line : List ℕ) × (IsTold (E.taken err.old) (E.taken err.new)
+        (Rose (E.failures err.old) (E.failures err.new)) line
+        × IsLine (IsTooBig (S.left input.old) (S.left input.new) (S.given input.old)
+        (S.given input.new))
+        (IsNotBuilt (S.left input.old) (S.left input.new)) result.journal result.status line) }
+{
+    match read_all(alloc, input, MOST_BYTES) {
+        Ok(bytes) => answer(alloc, wanted, &bytes, out, err),
+        Err(ReadStop::Failed) => refuse(err, 7, b"read fault\n"),
+        Err(ReadStop::TooBig) => refuse(err, 3, b"text too big\n"),
+        Err(ReadStop::NoMemory) => refuse(err, 9, b"want of memory\n"),
+    }
+}
+
+/// The program: looks at the words, reads the input, does what the words ask for, and writes what
+/// comes of it.
+///
+/// The words have one of the forms of docs/SPECIFICATION.md, "The words", which tells the statuses
+/// too; the line that goes with a status is written to `err`. For `run` the journal is given with
+/// each of the statuses 0, 4, 5, 6, 8 and 10, may be given with 9, and is not given with 2, 3 and 7.
+/// `check` gives none.
+pub fn ocr_main<S: Source, O: Sink, E: Sink>(
+    alloc: Global,
+    words: &[String],
+    input: &mut S,
+    out: &mut O,
+    err: &mut E,
+) -> Ended
+    // The headline: the words ask for a run, all bytes of the source are a program, the journal is
+    // a run of it that came to its end and kept the limits, and the bytes written are the journal's
+    // output.
+    ensures headline { IfSome result.journal
+        (IsHeadline (texts_of words.now) (S.left input.old) (S.left input.new) (O.taken out.old)
+        (O.taken out.new) (Rose (O.failures out.old) (O.failures out.new)) result.status) }
+    ensures given { (result.status ≡ 0) ⊎ (result.status ≡ 4) ⊎ (result.status ≡ 5)
+        ⊎ (result.status ≡ 6) ⊎ (result.status ≡ 8) ⊎ (result.status ≡ 10)
+        → IsSome result.journal ⊎ IsAsked (texts_of words.now) Wanted.Check }
+    // A check: all bytes of the source are a program, and its canonical text was written.
+    ensures check { IsAsked (texts_of words.now) Wanted.Check
+        → (result.status ≡ 0) ⊎ (result.status ≡ 8)
+        → IsCheckedText (S.left input.old) (S.left input.new) (O.taken out.old) (O.taken out.new)
+        (Rose (O.failures out.old) (O.failures out.new)) result.status }
+    ensures silent { is_silent result.status ≡ true → Keeps (O.taken out.old) (O.taken out.new) }
+
+    // Each status has its cause.
+    ensures status { IsStatus result.status }
+    ensures caused { IsCaused (IsAsked (texts_of words.now) Wanted.Check) result.journal
+        result.status }
+    ensures words { result.status ≡ 2 → AreRefused (texts_of words.now) }
+    ensures words_refused { AreRefused (texts_of words.now)
+        → ((result.status ≡ 2) ⊎ (result.status ≡ 9)) × (input.new ≡ input.old) }
+    ensures no_program { result.status ≡ 3 → IsNone result.journal
+        × (IsTooBig (S.left input.old) (S.left input.new) (S.given input.old) (S.given input.new)
+        ⊎ ((found : TextFault) × IsNotBuilt (S.left input.old) (S.left input.new) found)) }
+    ensures too_big { S.given input.old + (most_bytes + 1) < 2 ^ 64
+        → S.given input.new ≡ S.given input.old + (most_bytes + 1) → result.status ≡ 3 }
+    ensures read_fault { result.status ≡ 7
+        → IsNone result.journal × Rose (S.failures input.old) (S.failures input.new) }
+    ensures write_fault { result.status ≡ 8 → Rose (O.failures out.old) (O.failures out.new) }
+
+    // Where no read and no write failed, a program is run to its end or its text written, and other
+    // bytes are refused, but for want of memory.
+    ensures complete { (wanted : Wanted) (bytes : List ℕ) (program : List FunctionTree)
+        → IsAsked (texts_of words.now) wanted
+        → S.left input.old ≡ Some bytes → IsProgramText bytes program
+        → (Rose (S.failures input.old) (S.failures input.new) → ⊥)
+        → (Rose (O.failures out.old) (O.failures out.new) → ⊥)
+        → (result.status ≡ 9) ⊎ IsComplete wanted result.journal result.status }
+    ensures refused { (wanted : Wanted) (bytes : List ℕ) → IsAsked (texts_of words.now) wanted
         → S.left input.old ≡ Some bytes → IsRefusedText bytes
         → (Rose (S.failures input.old) (S.failures input.new) → ⊥)
         → (result.status ≡ 3) ⊎ (result.status ≡ 9) }
@@ -205,13 +365,9 @@ pub fn ocr_main<S: Source, O: Sink, E: Sink>(
         (S.given input.new))
         (IsNotBuilt (S.left input.old) (S.left input.new)) result.journal result.status line) }
 {
-    if !are_run(words) {
-        return refuse(err, 2, b"words refused\n");
-    }
-    match read_all(alloc, input, MOST_BYTES) {
-        Ok(bytes) => answer(alloc, &bytes, out, err),
-        Err(ReadStop::Failed) => refuse(err, 7, b"read fault\n"),
-        Err(ReadStop::TooBig) => refuse(err, 3, b"text too big\n"),
-        Err(ReadStop::NoMemory) => refuse(err, 9, b"want of memory\n"),
+    match command(alloc, words) {
+        Ok(wanted) => serve(alloc, wanted, input, out, err),
+        Err(WordsStop::Refused) => refuse(err, 2, b"words refused\n"),
+        Err(WordsStop::NoMemory) => refuse(err, 9, b"want of memory\n"),
     }
 }

@@ -311,13 +311,13 @@ const CREATIONS_OUT: &[u8] = b"0
 22
 0
 22
-0
-22
-0
-22
 6
 0
 7
+0
+8
+0
+9
 0
 2
 1
@@ -326,7 +326,9 @@ const CREATIONS_OUT: &[u8] = b"0
 #[test]
 fn creations_are_refused_in_their_order(rt: HostRuntime) -> Result<(), Fail> {
     let done = run(rt.alloc(), CREATIONS, NO_FAULTS)?;
-    assert_eq!(rt; done.ended.status, 0);
+    // The two EDTs with a slot never start.
+    assert_eq!(rt; done.ended.status, 4);
+    assert_eq!(rt; done.err.bytes(), b"stuck: 2\n".as_slice());
     assert_eq!(rt; done.out.bytes(), CREATIONS_OUT);
     Ok(())
 }
@@ -355,19 +357,213 @@ fn mainEdt { let t = ocrEdtTemplateCreate(a, 1, 0); ocrEdtCreate(t, 1, [t], 0, [
     Ok(())
 }
 
+// Words and a text, and what comes of them: the status, the output, and the line on `err`.
+struct Row {
+    words: &'static [&'static str],
+    text: &'static [u8],
+    status: u8,
+    out: &'static [u8],
+    err: &'static [u8],
+}
+
+const TEMPLATES: &[u8] = b"fn mainEdt { while 1 { print ocrEdtTemplateCreate(mainEdt, 0, 0); } }";
+
+// An EDT with two slots, and one without.
+const STUCK: &[u8] = b"fn one { } fn mainEdt {
+  ocrEdtCreate(ocrEdtTemplateCreate(one, 0, 2), 0, [], 2, [], 0);
+  ocrEdtCreate(ocrEdtTemplateCreate(one, 0, 0), 0, [], 0, [], 0);
+}";
+
+static ROWS: [Row; 13] = [
+    Row {
+        words: &["run", "--objects", "4"],
+        text: TEMPLATES,
+        status: 10,
+        out: b"3\n4\n",
+        err: b"limit: objects\n",
+    },
+    Row {
+        words: &["run", "--objects=2"],
+        text: TEMPLATES,
+        status: 10,
+        out: b"",
+        err: b"limit: objects\n",
+    },
+    Row {
+        words: &["run", "--workers", "1", "--events", "2"],
+        text: FIRST,
+        status: 10,
+        out: b"",
+        err: b"limit: events of worker 1\n",
+    },
+    // A Stop weighs nothing.
+    Row {
+        words: &["run", "--events=3"],
+        text: FIRST,
+        status: 0,
+        out: b"42\n",
+        err: b"",
+    },
+    Row {
+        words: &["run", "--", "5", "007"],
+        text: FIRST,
+        status: 0,
+        out: b"42\n",
+        err: b"",
+    },
+    Row {
+        words: &["run", "--journal"],
+        text: FIRST,
+        status: 0,
+        out: b"42\njournal 4\n0 acquire 2 1\n1 start 2\n2 call 2 print 42\n3 stop shutdown 2\n",
+        err: b"",
+    },
+    Row {
+        words: &["run", "--journal"],
+        text: b"fn mainEdt { }",
+        status: 0,
+        out: b"journal 4\n0 acquire 2 1\n1 start 2\n2 free 2 1\n3 end 2 0\n",
+        err: b"",
+    },
+    Row {
+        words: &["run", "--workers", "1", "--events", "2", "--journal"],
+        text: FIRST,
+        status: 10,
+        out: b"journal 3\n0 acquire 2 1\n1 start 2\n2 stop events 1 1\n",
+        err: b"limit: events of worker 1\n",
+    },
+    Row {
+        words: &["run", "--left", "--summary"],
+        text: STUCK,
+        status: 4,
+        out: b"edts 3 started 2 left 1 stale 0\nleft 1\nedt 4 open 0 1\n",
+        err: b"stuck: 1\n",
+    },
+    Row {
+        words: &["run", "--blocks", "5", "6"],
+        text: FIRST,
+        status: 0,
+        out: b"42\nblocks 1\nblock 1 words 3 live\n",
+        err: b"",
+    },
+    // The reports come in one order, whatever that of the words.
+    Row {
+        words: &[
+            "run",
+            "--journal",
+            "--blocks",
+            "--refused",
+            "--stale",
+            "--left",
+            "--summary",
+        ],
+        text: b"fn mainEdt { }",
+        status: 0,
+        out: b"edts 1 started 1 left 0 stale 0\nleft 0\nstale 0\nrefused 0\nblocks 1\n\
+            block 1 words 1 live\njournal 4\n0 acquire 2 1\n1 start 2\n2 free 2 1\n3 end 2 0\n",
+        err: b"",
+    },
+    Row {
+        words: &["check"],
+        text: b"fn mainEdt{print (1+2)*3;if 0{}else{}}",
+        status: 0,
+        out: b"fn mainEdt {\n  print (1 + 2) * 3;\n  if 0 {\n  }\n}\n",
+        err: b"",
+    },
+    Row {
+        words: &["check"],
+        text: b"fn mainEdt { print x; }",
+        status: 3,
+        out: b"",
+        err: b"check fault: rule 4 in function 1\n",
+    },
+];
+
+#[test]
+fn words_say_what_comes_of_a_text(rt: HostRuntime) -> Result<(), Fail> {
+    let alloc = rt.alloc();
+    for row in &ROWS {
+        let done = outcome_of(alloc, row.words, row.text.to_vec(alloc)?, 1000, NO_FAULTS)?;
+        assert_eq!(rt; done.ended.status, row.status);
+        assert_eq!(rt; done.out.bytes(), row.out);
+        assert_eq!(rt; done.err.bytes(), row.err);
+        assert_eq!(rt; done.ended.journal.is_some(), row.words[0] == "run");
+    }
+    Ok(())
+}
+
+// A line of words with `count` numbers.
+fn status_with(alloc: Global, count: usize) -> Result<u8, Fail> {
+    let mut texts = vec![in alloc; "run"]?;
+    for _ in 0..count {
+        texts.push("7")?;
+    }
+    let done = outcome_of(alloc, &texts, FIRST.to_vec(alloc)?, 1000, NO_FAULTS)?;
+    Ok(done.ended.status)
+}
+
+#[test]
+fn run_takes_32_numbers(rt: HostRuntime) -> Result<(), Fail> {
+    assert_eq!(rt; status_with(rt.alloc(), 32)?, 0);
+    assert_eq!(rt; status_with(rt.alloc(), 33)?, 2);
+    Ok(())
+}
+
+#[test]
+fn canonical_text_of_an_example_is_its_own(rt: HostRuntime) -> Result<(), Fail> {
+    let alloc = rt.alloc();
+    for (text, _, _) in EXAMPLES {
+        let first = outcome_of(alloc, &["check"], text.to_vec(alloc)?, 4000, NO_FAULTS)?;
+        assert_eq!(rt; first.ended.status, 0);
+        let copy = first.out.bytes().to_vec(alloc)?;
+        let second = outcome_of(alloc, &["check"], copy, 4000, NO_FAULTS)?;
+        assert_eq!(rt; second.ended.status, 0);
+        assert_eq!(rt; second.out.bytes(), first.out.bytes());
+    }
+    Ok(())
+}
+
+#[test]
+fn check_tells_faults_of_reading_and_writing(rt: HostRuntime) -> Result<(), Fail> {
+    let alloc = rt.alloc();
+    let read = Faults {
+        reads: &[0],
+        ..NO_FAULTS
+    };
+    let done = outcome_of(alloc, &["check"], FIRST.to_vec(alloc)?, 1000, read)?;
+    assert_eq!(rt; done.ended.status, 7);
+    assert_eq!(rt; done.out.bytes(), b"".as_slice());
+    assert_eq!(rt; done.err.bytes(), b"read fault\n".as_slice());
+
+    let write = Faults {
+        writes: &[1],
+        write_most: 4,
+        ..NO_FAULTS
+    };
+    let done = outcome_of(alloc, &["check"], FIRST.to_vec(alloc)?, 1000, write)?;
+    assert_eq!(rt; done.ended.status, 8);
+    assert_eq!(rt; done.out.bytes(), b"fn m".as_slice());
+    assert_eq!(rt; done.err.bytes(), b"write fault\n".as_slice());
+    Ok(())
+}
+
 #[test]
 fn other_words_are_refused(rt: HostRuntime) -> Result<(), Fail> {
     let alloc = rt.alloc();
-    let none = outcome_of(alloc, &[], FIRST.to_vec(alloc)?, 1000, NO_FAULTS)?;
-    let twice = outcome_of(
-        alloc,
+    let rows: [&[&str]; 10] = [
+        &[],
+        &["Run"],
         &["run", "run"],
-        FIRST.to_vec(alloc)?,
-        1000,
-        NO_FAULTS,
-    )?;
-    let other = outcome_of(alloc, &["Run"], FIRST.to_vec(alloc)?, 1000, NO_FAULTS)?;
-    for done in [none, twice, other] {
+        &["run", "--workers", "65"],
+        &["run", "--workers", "0"],
+        &["run", "--workers", "2", "--workers", "3"],
+        &["run", "-5"],
+        &["load", "501"],
+        &["run", "--workers", "64", "--events", "250001"],
+        &["check", "5"],
+    ];
+    for texts in rows {
+        let done = outcome_of(alloc, texts, FIRST.to_vec(alloc)?, 1000, NO_FAULTS)?;
         assert_eq!(rt; done.ended.status, 2);
         assert_eq!(rt; done.out.bytes(), b"".as_slice());
         assert_eq!(rt; done.err.bytes(), b"words refused\n".as_slice());

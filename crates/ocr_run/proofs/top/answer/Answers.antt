@@ -1,49 +1,37 @@
-use Rattle.std.proofs.Common.{sym, subst, refl, codes}
-use Rattle.ocr_run.specs.ProgramText.{IsNoProgram}
-use Rattle.ocr_run.specs.Headline.{want_of_memory}
-use Rattle.ocr_run.proofs.Texts.{text_law}
-use Rattle.ocr_run.proofs.Told.{weaker_line, line_at, run_caused, run_complete, run_keeps, run_failed, ran_not}
+use Rattle.std.proofs.Common.{◌≡◌, ◌⊎◌, sym, subst}
+use Rattle.ocr_words.specs.declared.wanted.Wanted.{Wanted}
+use Rattle.ocr_run.specs.Headline.{IsCheck, IsComplete}
+use Rattle.ocr_run.proofs.Told.{weaker_caused, checked_caused, checked_status, none_first, run_silent, checked_silent}
 use Rattle.ocr_run.proofs.top.answer.Goals as goal
 
-pub returns-in-Ok-clause-accepted : goal.returns-in-Ok-clause-accepted
-returns-in-Ok-clause-accepted g c =
-    (ran_not _ _ _ _ _ c.finish.result.status 2 c.in-Ok.ensures.met c.finish.ensures.written refl, ran_not _ _ _ _ _ c.finish.result.status 7 c.in-Ok.ensures.met c.finish.ensures.written refl)
+pub returns-in-Run-clause-caused : goal.returns-in-Run-clause-caused
+returns-in-Run-clause-caused g c = weaker_caused (IsCheck c.args.wanted) c.answer_run.result.journal c.answer_run.result.status c.answer_run.ensures.caused
 
-pub returns-in-Ok-clause-caused : goal.returns-in-Ok-clause-caused
-returns-in-Ok-clause-caused g c =
-    run_caused c.finish.result.journal c.in-Ok.executed.journal _ _ _ _ c.in-Ok.executed.status c.finish.result.status c.finish.ensures.journal (sym c.in-Ok.ensures.ran.ending) c.finish.ensures.written
+pub returns-in-Check-clause-caused : goal.returns-in-Check-clause-caused
+returns-in-Check-clause-caused g c = checked_caused (IsCheck c.args.wanted) c.answer_check.result.journal c.answer_check.result.status (subst IsCheck (sym c.in-Check.is) tt) c.answer_check.ensures.journal c.answer_check.ensures.status
 
-pub returns-in-Ok-clause-no_program : goal.returns-in-Ok-clause-no_program
-returns-in-Ok-clause-no_program g c = λ is. absurd (ran_not _ _ _ _ _ c.finish.result.status 3 c.in-Ok.ensures.met c.finish.ensures.written refl is)
+pub returns-in-Check-clause-status : goal.returns-in-Check-clause-status
+returns-in-Check-clause-status g c = checked_status c.answer_check.result.status c.answer_check.ensures.status
 
-pub returns-in-Ok-clause-complete : goal.returns-in-Ok-clause-complete
-returns-in-Ok-clause-complete g c = λ program is sound.
-    run_complete c.finish.result.journal c.in-Ok.executed.journal _ _ _ _ c.in-Ok.executed.status c.finish.result.status c.finish.ensures.journal (sym c.in-Ok.ensures.ran.ending) c.finish.ensures.written sound
+pub returns-in-Run-clause-unrun : goal.returns-in-Run-clause-unrun
+returns-in-Run-clause-unrun g c = λ run. none_first c.answer_run.result.journal _ _ c.answer_run.ensures.unrun
 
-pub returns-in-Ok-clause-refused : goal.returns-in-Ok-clause-refused
-returns-in-Ok-clause-refused g c = λ found none. absurd (text_law.apart c.args.bytes.now c.in-Ok.ensures.ran.program found c.in-Ok.ensures.ran.is_program none)
+pub returns-in-Check-clause-unrun : goal.returns-in-Check-clause-unrun
+returns-in-Check-clause-unrun g c = λ run. absurd (run (subst IsCheck (sym c.in-Check.is) tt))
 
-pub returns-in-Ok-clause-told : goal.returns-in-Ok-clause-told
-returns-in-Ok-clause-told g c =
-    let t = c.finish.ensures.told in
-    (t.0, (t.1.0, weaker_line ⊥ ⊥ (λ found. ⊥) (IsNoProgram c.args.bytes.now) c.finish.result.journal c.finish.result.status t.0 (λ a. a) (λ found a. absurd a) t.1.1))
+pub returns-in-Run-clause-silent : goal.returns-in-Run-clause-silent
+returns-in-Run-clause-silent g c = λ is.
+    run_silent c.answer_run.result.journal c.answer_run.result.status _ _ _ c.answer_run.ensures.accepted c.answer_run.ensures.unrun c.answer_run.ensures.memory c.answer_run.ensures.no_program is
 
-pub returns-in-Ok-clause-write_fault : goal.returns-in-Ok-clause-write_fault
-returns-in-Ok-clause-write_fault g c = λ is. run_failed _ _ _ _ _ c.finish.result.status c.in-Ok.ensures.met c.finish.ensures.written is
+pub returns-in-Check-clause-silent : goal.returns-in-Check-clause-silent
+returns-in-Check-clause-silent g c = λ is. checked_silent c.answer_check.result.status _ c.answer_check.ensures.status c.answer_check.ensures.silent is
 
-pub returns-in-Ok-clause-memory : goal.returns-in-Ok-clause-memory
-returns-in-Ok-clause-memory g c = λ is. run_keeps _ _ _ _ _ c.finish.result.status c.finish.ensures.written is
+pub returns-in-Run-clause-complete : goal.returns-in-Run-clause-complete
+returns-in-Run-clause-complete g c = λ program is sound.
+    subst (λ (w : Wanted). (c.answer_run.result.status ≡ 9) ⊎ IsComplete w c.answer_run.result.journal c.answer_run.result.status) (sym c.in-Run.is)
+    (c.answer_run.ensures.complete program is sound)
 
-pub returns-in-Err-Fault-clause-complete : goal.returns-in-Err-Fault-clause-complete
-returns-in-Err-Fault-clause-complete g c = λ program is sound.
-    absurd (text_law.apart c.args.bytes.now program c.in-Err-Fault.found is (rw c.in-Err-Fault.field-0-is at c.in-Err-Fault.ensures.stop))
-
-pub returns-in-Err-Fault-clause-told : goal.returns-in-Err-Fault-clause-told
-returns-in-Err-Fault-clause-told g c =
-    let t = c.refuse_text.ensures.told in
-    let none : IsNoProgram c.args.bytes.now c.in-Err-Fault.found = rw c.in-Err-Fault.field-0-is at c.in-Err-Fault.ensures.stop in
-    (t.0, (t.1.0, weaker_line ⊥ ⊥ _ (IsNoProgram c.args.bytes.now) c.refuse_text.result.journal c.refuse_text.result.status t.0 (λ a. a) (λ other same. subst (IsNoProgram c.args.bytes.now) (sym same) none) t.1.1))
-
-pub returns-in-Err-NoMemory-clause-told : goal.returns-in-Err-NoMemory-clause-told
-returns-in-Err-NoMemory-clause-told g c =
-    (codes "want of memory\n", (c.refuse.ensures.told, line_at ⊥ (IsNoProgram c.args.bytes.now) c.refuse.result.journal 9 c.refuse.result.status _ c.refuse.ensures.status want_of_memory))
+pub returns-in-Check-clause-complete : goal.returns-in-Check-clause-complete
+returns-in-Check-clause-complete g c = λ program is sound.
+    subst (λ (w : Wanted). (c.answer_check.result.status ≡ 9) ⊎ IsComplete w c.answer_check.result.journal c.answer_check.result.status) (sym c.in-Check.is)
+    (c.answer_check.ensures.complete program is sound)

@@ -1,50 +1,45 @@
-use Rattle.std.proofs.Common.{◌≡◌, ◌≤◌, length, Err, ap, inr, sym, ◌∙◌, codes, subst, ℕ, List}
-use Rattle.ocr_run.specs.ProgramText.{IsNoProgram, IsProgramText, most_bytes}
-use Rattle.ocr_run.specs.Headline.{IsAllOf, words_refused, text_too_big, read_fault, want_of_memory}
-use Rattle.ocr_run.proofs.Told.{weaker_line, line_at, all_of, told_bytes}
+use Rattle.std.proofs.Common.{◌≡◌, ◌⊎◌, codes, subst, sym}
+use Rattle.ocr_words.specs.Form.{texts_of}
+use Rattle.ocr_words.specs.declared.wanted.Wanted.{Wanted}
+use Rattle.ocr_run.specs.Headline.{IsComplete, words_refused, want_of_memory}
+use Rattle.ocr_run.proofs.Told.{line_at, servable, headline_of, check_of, asked_of, caused_as, weaker_caused, given_of}
 use Rattle.ocr_run.proofs.top.ocr_main.Goals as goal
 
-pub returns-then-not-are_run-clause-told : goal.returns-then-not-are_run-clause-told
-returns-then-not-are_run-clause-told g c =
-    (codes "words refused\n", (c.refuse.ensures.told, line_at _ _ c.refuse.result.journal 2 c.refuse.result.status _ c.refuse.ensures.status words_refused))
+pub serve-requires : goal.serve-requires
+serve-requires g c = servable (texts_of c.args.words.now) c.in-Ok.wanted c.in-Ok.ensures.ok
 
-pub returns-in-Ok-clause-no_program : goal.returns-in-Ok-clause-no_program
-returns-in-Ok-clause-no_program g c = λ is.
-    let old = g.S.Source.left c.args.input.now in
-    let all : IsAllOf old (g.S.Source.left c.read_all.new.source) c.deref.result.now =
-    subst (IsAllOf old (g.S.Source.left c.read_all.new.source)) (sym c.deref.ensures.value) (all_of old (g.S.Source.left c.read_all.new.source) c.in-Ok.bytes.items c.in-Ok.ensures.whole c.in-Ok.ensures.end) in
-    let size : length c.deref.result.now ≤ most_bytes = rw c.deref.ensures.value c.in-Ok.ensures.most in
-    let a = c.answer.ensures.no_program is in
-    (a.0, inr (a.1.0, record { bytes = c.deref.result.now; read = all; size = size; no_program = a.1.1 }))
+pub returns-in-Ok-clause-headline : goal.returns-in-Ok-clause-headline
+returns-in-Ok-clause-headline g c =
+    headline_of (texts_of c.args.words.now) c.in-Ok.wanted _ _ _ _ _ c.serve.result.status c.serve.result.journal c.in-Ok.ensures.ok c.serve.ensures.ran
 
-pub returns-in-Ok-clause-told : goal.returns-in-Ok-clause-told
-returns-in-Ok-clause-told g c =
-    let old = g.S.Source.left c.args.input.now in
-    let all : IsAllOf old (g.S.Source.left c.read_all.new.source) c.deref.result.now =
-    subst (IsAllOf old (g.S.Source.left c.read_all.new.source)) (sym c.deref.ensures.value) (all_of old (g.S.Source.left c.read_all.new.source) c.in-Ok.bytes.items c.in-Ok.ensures.whole c.in-Ok.ensures.end) in
-    let size : length c.deref.result.now ≤ most_bytes = rw c.deref.ensures.value c.in-Ok.ensures.most in
-    let t = c.answer.ensures.told in
-    (t.0, (t.1.0, weaker_line ⊥ _ (IsNoProgram c.deref.result.now) _ c.answer.result.journal c.answer.result.status t.0 (λ a. absurd a) (λ found none. record { bytes = c.deref.result.now; read = all; size = size; no_program = none }) t.1.1))
+pub returns-in-Ok-clause-check : goal.returns-in-Ok-clause-check
+returns-in-Ok-clause-check g c = λ asked is. c.serve.ensures.copied (check_of (texts_of c.args.words.now) c.in-Ok.wanted c.in-Ok.ensures.only asked) is
+
+pub returns-in-Ok-clause-caused : goal.returns-in-Ok-clause-caused
+returns-in-Ok-clause-caused g c =
+    caused_as _ _ c.serve.result.journal c.serve.result.status (asked_of (texts_of c.args.words.now) c.in-Ok.wanted c.in-Ok.ensures.ok) c.serve.ensures.caused
 
 pub returns-in-Ok-clause-complete : goal.returns-in-Ok-clause-complete
-returns-in-Ok-clause-complete g c = λ bytes program words told is reads writes.
-    let same : c.deref.result.now ≡ bytes = c.deref.ensures.value ∙ told_bytes (g.S.Source.left c.args.input.now) bytes c.in-Ok.bytes.items told c.in-Ok.ensures.whole in
-    c.answer.ensures.complete program (subst (λ (b : List ℕ). IsProgramText b program) (sym same) is) writes
+returns-in-Ok-clause-complete g c = λ wanted bytes program asked told is reads writes.
+    subst (λ (w : Wanted). (c.serve.result.status ≡ 9) ⊎ IsComplete w c.serve.result.journal c.serve.result.status) (sym (c.in-Ok.ensures.only wanted asked))
+    (c.serve.ensures.complete bytes program told is reads writes)
 
-pub returns-in-Err-Failed-clause-told : goal.returns-in-Err-Failed-clause-told
-returns-in-Err-Failed-clause-told g c =
-    (codes "read fault\n", (c.refuse-in-Err-Failed.ensures.told, line_at _ _ c.refuse-in-Err-Failed.result.journal 7 c.refuse-in-Err-Failed.result.status _ c.refuse-in-Err-Failed.ensures.status read_fault))
+pub returns-in-Ok-clause-refused : goal.returns-in-Ok-clause-refused
+returns-in-Ok-clause-refused g c = λ wanted bytes asked told is reads. c.serve.ensures.refused bytes told is reads
 
-pub returns-in-Err-TooBig-clause-told : goal.returns-in-Err-TooBig-clause-told
-returns-in-Err-TooBig-clause-told g c = (
-  codes "text too big\n",
-  (
-    c.refuse-in-Err-TooBig.ensures.told,
-    line_at _ _ c.refuse-in-Err-TooBig.result.journal 3 c.refuse-in-Err-TooBig.result.status _ c.refuse-in-Err-TooBig.ensures.status
-        (text_too_big (c.in-Err-TooBig.ensures.too_big (ap Err c.in-Err-TooBig.field-0-is))),
-  ),
-)
+pub returns-in-Err-Refused-clause-told : goal.returns-in-Err-Refused-clause-told
+returns-in-Err-Refused-clause-told g c =
+    (codes "words refused\n", (c.refuse.ensures.told, line_at _ _ c.refuse.result.journal 2 c.refuse.result.status _ c.refuse.ensures.status words_refused))
 
 pub returns-in-Err-NoMemory-clause-told : goal.returns-in-Err-NoMemory-clause-told
 returns-in-Err-NoMemory-clause-told g c =
     (codes "want of memory\n", (c.refuse-in-Err-NoMemory.ensures.told, line_at _ _ c.refuse-in-Err-NoMemory.result.journal 9 c.refuse-in-Err-NoMemory.result.status _ c.refuse-in-Err-NoMemory.ensures.status want_of_memory))
+
+pub returns-in-Err-Refused-clause-caused : goal.returns-in-Err-Refused-clause-caused
+returns-in-Err-Refused-clause-caused g c = weaker_caused _ c.refuse.result.journal c.refuse.result.status c.refuse.ensures.caused
+
+pub returns-in-Err-NoMemory-clause-caused : goal.returns-in-Err-NoMemory-clause-caused
+returns-in-Err-NoMemory-clause-caused g c = weaker_caused _ c.refuse-in-Err-NoMemory.result.journal c.refuse-in-Err-NoMemory.result.status c.refuse-in-Err-NoMemory.ensures.caused
+
+pub returns-in-Ok-clause-given : goal.returns-in-Ok-clause-given
+returns-in-Ok-clause-given g c = λ is. given_of (texts_of c.args.words.now) c.in-Ok.wanted c.serve.result.journal c.serve.result.status c.in-Ok.ensures.ok c.serve.ensures.unrun is

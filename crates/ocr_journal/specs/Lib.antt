@@ -1,0 +1,3 @@
+pub mod EntryText
+pub mod JournalText
+pub mod Phrase

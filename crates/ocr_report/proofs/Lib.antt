@@ -1,0 +1,6 @@
+pub mod Lined
+pub mod Made
+pub mod Opened
+pub mod Placed
+pub mod Unstarted
+pub mod Uses

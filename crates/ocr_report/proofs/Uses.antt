@@ -1,0 +1,40 @@
+-- One entry more among the uses of destroyed objects.
+use Rattle.std.proofs.Common.{◌≡◌, ◌∙◌, ◌<◌, ◌+◌, ℕ, List, [], ◌∷◌, ◌++◌, Bool, ◌||◌, if◌then◌else◌, length, take, get_or, refl, ap, sym, codes}
+use Rattle.std.proofs.lemmas.List.{reverse-append, take_more}
+use Rattle.ocr_history.specs.declared.entry.Entry.{Entry}
+use Rattle.ocr_history.specs.declared.entry.Entry.TheVariants as an
+use Rattle.ocr_history.specs.History.{History, history_of}
+use Rattle.ocr_journal.specs.Phrase.{Text, phrase}
+use Rattle.ocr_report.specs.Destroyed.{is_destroyed, is_victim, victim_in}
+use Rattle.ocr_report.specs.Stale.{stale_line, stale_lines, first_stale, is_stale, objects_of}
+
+pub history_next : (xs : List Entry) (i : ℕ) (e : Entry) → i < length xs → e ≡ get_or xs i e → history_of (take (i + 1) xs) ≡ e ∷ history_of (take i xs)
+history_next xs i e below is =
+    ap history_of (take_more xs i e below) ∙ reverse-append (take i xs) (get_or xs i e ∷ [])
+    ∙ ap (λ (x : Entry). x ∷ history_of (take i xs)) (sym is)
+
+first_same : (f g : ℕ → Bool) → ((n : ℕ) → f n ≡ g n) → (ns : List ℕ) → first_stale f ns ≡ first_stale g ns
+first_same f g same [] = refl
+first_same f g same (n ∷ ns) =
+    ap (λ b. if b then n else first_stale f ns) (same n) ∙ ap (λ m. if g n then n else m) (first_same f g same ns)
+
+line_same : (f g : ℕ → Bool) → ((n : ℕ) → f n ≡ g n) → (e : Entry) → stale_line f e ≡ stale_line g e
+line_same f g same (an.Call t home c a w) =
+    ap (λ n. if is_stale a.code then phrase (codes "call") (t ∷ n ∷ []) ++ 10 ∷ [] else []) (first_same f g same (objects_of c))
+line_same f g same (an.Deliver m c) = refl
+line_same f g same (an.Acquire t d) = refl
+line_same f g same (an.Wait t d) = refl
+line_same f g same (an.StaleAcquire t d) = refl
+line_same f g same (an.Start t) = refl
+line_same f g same (an.Free t d w) = refl
+line_same f g same (an.End t g') = refl
+line_same f g same (an.Stop why) = refl
+
+pub lines_next : (past : History) (e : Entry) (f : ℕ → Bool) (old new : Text) → ((n : ℕ) → f n ≡ is_destroyed past n)
+    → old ≡ stale_lines past → new ≡ old ++ stale_line f e → new ≡ stale_lines (e ∷ past)
+lines_next past e f old new same is made =
+    made ∙ ap (λ (x : Text). x ++ stale_line f e) is ∙ ap (λ (x : Text). stale_lines past ++ x) (line_same f (is_destroyed past) same e)
+
+pub destroyed_next : (past : History) (e : Entry) (f g : ℕ → Bool) → ((n : ℕ) → f n ≡ is_destroyed past n)
+    → ((n : ℕ) → g n ≡ (is_victim (victim_in e) n || f n)) → (n : ℕ) → g n ≡ is_destroyed (e ∷ past) n
+destroyed_next past e f g same made n = made n ∙ ap (λ b. is_victim (victim_in e) n || b) (same n)

@@ -1,0 +1,28 @@
+-- The objects that a call has destroyed.
+use Rattle.std.specs.Prelude.{ℕ, [], ◌∷◌, Bool, false, ◌||◌, ◌==◌, if◌then◌else◌, Option, Some, None}
+use Rattle.ocr_meaning.specs.Holds.{is_done}
+use Rattle.ocr_meaning.specs.declared.call.Call as body
+use Rattle.ocr_meaning.specs.declared.call.Call.TheVariants as call
+use Rattle.ocr_history.specs.declared.entry.Entry.{Entry}
+use Rattle.ocr_history.specs.declared.entry.Entry.TheVariants as an
+use Rattle.ocr_history.specs.History.{History}
+
+-- the object that a call is to destroy
+abbrev pub victim_of : body.Call → Option ℕ
+victim_of (call.DbDestroy d) = Some d
+victim_of (call.EventDestroy e) = Some e
+victim_of (call.TemplateDestroy t) = Some t
+victim_of other = None
+
+-- the object that an entry destroys
+abbrev pub victim_in : Entry → Option ℕ
+victim_in (an.Call t home c a w) = if is_done a.code then victim_of c else None
+victim_in other = None
+
+abbrev pub is_victim : Option ℕ → ℕ → Bool
+is_victim None g = false
+is_victim (Some n) g = n == g
+
+abbrev pub is_destroyed : History → ℕ → Bool
+is_destroyed [] g = false
+is_destroyed (e ∷ past) g = is_victim (victim_in e) g || is_destroyed past g

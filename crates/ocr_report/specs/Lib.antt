@@ -1,0 +1,13 @@
+pub mod Blocks
+pub mod Destroyed
+pub mod Edts
+pub mod Headed
+pub mod Left
+pub mod Lists
+pub mod Made
+pub mod Open
+pub mod Refused
+pub mod Sizes
+pub mod Slots
+pub mod Stale
+pub mod Summary

@@ -1,0 +1,23 @@
+-- What an entry makes.
+use Rattle.std.specs.Prelude.{ℕ, List, if◌then◌else◌, Option, Some, None}
+use Rattle.ocr_meaning.specs.Holds.{is_done}
+use Rattle.ocr_meaning.specs.declared.call.Call as body
+use Rattle.ocr_meaning.specs.declared.call.Call.TheVariants as call
+use Rattle.ocr_meaning.specs.declared.call.Answer.{Answer}
+use Rattle.ocr_history.specs.declared.entry.Entry.{Entry}
+use Rattle.ocr_history.specs.declared.entry.Entry.TheVariants as an
+use Rattle.ocr_history.specs.Numbers.{placed}
+
+-- the EDT
+abbrev pub edt_by : body.Call → Answer → Option ℕ
+edt_by (call.EdtCreate from pc ps dc ds fl o) a = if is_done a.code then Some a.value else None
+edt_by other a = None
+
+abbrev pub edt_in : Entry → Option ℕ
+edt_in (an.Call t home c a w) = edt_by c a
+edt_in other = None
+
+-- numbers with one more at its place, where there is one
+abbrev pub with_number : Option ℕ → List ℕ → List ℕ
+with_number None ns = ns
+with_number (Some n) ns = placed n ns

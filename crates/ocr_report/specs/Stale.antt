@@ -1,0 +1,77 @@
+-- The uses of destroyed objects: calls and satisfactions that were answered STALE, and acquires
+-- that found a block gone.
+use Rattle.std.specs.Prelude.{ℕ, ◌+◌, List, [], ◌∷◌, ◌++◌, Bool, true, false, if◌then◌else◌, codes}
+use Rattle.ocr_guid.specs.declared.Code.{Code}
+use Rattle.ocr_guid.specs.declared.Code.TheVariants as code
+use Rattle.ocr_meaning.specs.declared.call.Call as body
+use Rattle.ocr_meaning.specs.declared.call.Call.TheVariants as call
+use Rattle.ocr_history.specs.declared.entry.Entry.{Entry}
+use Rattle.ocr_history.specs.declared.entry.Entry.TheVariants as an
+use Rattle.ocr_history.specs.declared.entry.What.{What}
+use Rattle.ocr_history.specs.declared.entry.What.TheVariants as what
+use Rattle.ocr_history.specs.History.{History}
+use Rattle.ocr_journal.specs.Phrase.{Text, phrase}
+use Rattle.ocr_report.specs.Destroyed.{is_destroyed}
+use Rattle.ocr_report.specs.Headed.{headed}
+
+abbrev pub is_stale : Code → Bool
+is_stale code.Stale = true
+is_stale other = false
+
+-- the objects that a call names, in the order of its arguments
+abbrev pub objects_of : body.Call → List ℕ
+objects_of (call.DbRelease d) = d ∷ []
+objects_of (call.DbDestroy d) = d ∷ []
+objects_of (call.EventDestroy e) = e ∷ []
+objects_of (call.Satisfy e payload slot) = e ∷ payload ∷ []
+objects_of (call.AddDependence s x slot mode) = s ∷ x ∷ []
+objects_of (call.TemplateDestroy t) = t ∷ []
+objects_of (call.EdtCreate t pc ps dc deps fl o) = t ∷ deps
+objects_of other = []
+
+-- the first of them that is destroyed, and 0 where none is
+abbrev pub first_stale : (ℕ → Bool) → List ℕ → ℕ
+first_stale destroyed [] = 0
+first_stale destroyed (g ∷ rest) = if destroyed g then g else first_stale destroyed rest
+
+-- a line for a use, and none for any other entry
+abbrev pub delivery_line : What → Code → Text
+delivery_line (what.Satisfy e slot g) code =
+    if is_stale code then phrase (codes "delivery") (e ∷ []) ++ 10 ∷ [] else []
+delivery_line other code = []
+
+abbrev pub stale_line : (ℕ → Bool) → Entry → Text
+stale_line destroyed (an.Call t home c a w) =
+    if is_stale a.code
+    then phrase (codes "call") (t ∷ first_stale destroyed (objects_of c) ∷ []) ++ 10 ∷ [] else []
+stale_line destroyed (an.Deliver message code) = delivery_line message.what code
+stale_line destroyed (an.StaleAcquire t d) = phrase (codes "acquire") (t ∷ d ∷ []) ++ 10 ∷ []
+stale_line destroyed other = []
+
+abbrev pub is_satisfaction : What → Bool
+is_satisfaction (what.Satisfy e slot g) = true
+is_satisfaction other = false
+
+abbrev pub one_if : Bool → ℕ
+one_if true = 1
+one_if false = 0
+
+-- an entry uses a destroyed object
+abbrev pub is_stale_use : Entry → Bool
+is_stale_use (an.Call t home c a w) = is_stale a.code
+is_stale_use (an.Deliver message code) =
+    if is_satisfaction message.what then is_stale code else false
+is_stale_use (an.StaleAcquire t d) = true
+is_stale_use other = false
+
+-- how many uses there are, and their lines, the oldest first
+abbrev pub stale_count : History → ℕ
+stale_count [] = 0
+stale_count (e ∷ past) = stale_count past + one_if (is_stale_use e)
+
+abbrev pub stale_lines : History → Text
+stale_lines [] = []
+stale_lines (e ∷ past) = stale_lines past ++ stale_line (is_destroyed past) e
+
+abbrev pub stale_text : History → Text
+stale_text past = headed (codes "stale") (stale_count past) (stale_lines past)

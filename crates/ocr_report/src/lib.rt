@@ -1,0 +1,25 @@
+//! The reports on a run, told from its journal.
+#![tactic(auto)]
+
+mod blocks;
+mod destroyed;
+mod edts;
+mod headed;
+mod holders;
+mod left;
+mod lists;
+mod refused;
+mod sizes;
+mod slots;
+mod stale;
+mod summary;
+
+pub use blocks::blocks_text;
+pub use edts::left as left_edts;
+pub use left::left_text;
+pub use refused::refused_text;
+pub use stale::stale_text;
+pub use summary::summary_text;
+
+#[cfg(test)]
+mod tests;

@@ -1,0 +1,122 @@
+// The uses of destroyed objects.
+ghost use Rattle.std.specs.Prelude.{◌≡◌, ◌++◌, [], ◌∷◌, OnOk, IfOk};
+ghost use Rattle.std.specs.Ordering.{nat_cmp};
+ghost use Rattle.std.specs.BTreeSet as set;
+ghost use Rattle.ocr_history.specs.History.{history_of};
+ghost use Rattle.ocr_report.specs.Stale as spec;
+
+use crate::destroyed::destroy;
+use crate::headed::{headed, line};
+use ocr_base::NoMemory;
+use ocr_guid::Code;
+use ocr_history::{Entry, Journal, Message, What};
+use ocr_meaning::{Answer, Call};
+use std::alloc::Global;
+use std::collections::BTreeSet;
+
+// Whether an entry uses a destroyed object.
+fn is_stale_use(entry: &Entry) -> bool
+    ensures { result ≡ spec.is_stale_use entry.now }
+{
+    match entry {
+        Entry::Call { answer, .. } => answer.code == Code::Stale,
+        Entry::Deliver {
+            message: Message {
+                what: What::Satisfy { .. },
+                ..
+            },
+            code,
+        } => *code == Code::Stale,
+        Entry::StaleAcquire { .. } => true,
+        _ => false,
+    }
+}
+
+/// How many uses of destroyed objects there are.
+pub fn stale_count(entries: &[Entry]) -> u64
+    ensures { result ≡ spec.stale_count (history_of entries.now) }
+{
+    let mut count: u64 = 0;
+    for entry in entries {
+        if is_stale_use(entry) {
+            count += 1;
+        }
+    }
+    count
+}
+
+// The first of some objects that is destroyed, and 0 where none is.
+fn first_stale(destroyed: &BTreeSet<u64>, objects: &[u64]) -> u64
+    ensures { result ≡ spec.first_stale (set.contains nat_cmp destroyed.now) objects.now }
+{
+    match objects {
+        [] => 0,
+        [first, rest @ ..] => if destroyed.contains(first) {
+            *first
+        } else {
+            first_stale(destroyed, rest)
+        },
+    }
+}
+
+// The first destroyed object that a call names.
+fn stale_object(destroyed: &BTreeSet<u64>, call: &Call) -> u64
+    ensures { result ≡ spec.first_stale (set.contains nat_cmp destroyed.now)
+        (spec.objects_of call.now) }
+{
+    match call {
+        Call::DbRelease { block } | Call::DbDestroy { block } => first_stale(destroyed, &[*block]),
+        Call::EventDestroy { event } => first_stale(destroyed, &[*event]),
+        Call::Satisfy { event, payload, .. } => first_stale(destroyed, &[*event, *payload]),
+        Call::AddDependence { source, target, .. } => first_stale(destroyed, &[*source, *target]),
+        Call::TemplateDestroy { template } => first_stale(destroyed, &[*template]),
+        Call::EdtCreate { template, deps, .. } => if destroyed.contains(template) {
+            *template
+        } else {
+            first_stale(destroyed, deps.as_slice())
+        },
+        _ => 0,
+    }
+}
+
+// Writes the line of a use of a destroyed object.
+fn stale_line(text: &mut Vec<u8>, destroyed: &BTreeSet<u64>, entry: &Entry) -> Result<(), NoMemory>
+    ensures { OnOk result (text.new.items ≡ text.old.items
+        ++ spec.stale_line (set.contains nat_cmp destroyed.now) entry.now) }
+{
+    match entry {
+        Entry::Call {
+            edt,
+            call,
+            answer: Answer {
+                code: Code::Stale,
+                ..
+            },
+            ..
+        } => line(text, b"call", &[edt.0, stale_object(destroyed, call)]),
+        Entry::Deliver {
+            message: Message {
+                what: What::Satisfy { event, .. },
+                ..
+            },
+            code: Code::Stale,
+        } => line(text, b"delivery", &[event.0]),
+        Entry::StaleAcquire { edt, block } => line(text, b"acquire", &[edt.0, block.0]),
+        _ => Ok(()),
+    }
+}
+
+/// The report on the uses of destroyed objects: how many there are, and for each who used what.
+/// NoMemory where memory is refused.
+pub fn stale_text(alloc: Global, journal: &Journal) -> Result<Vec<u8>, NoMemory>
+    ensures { IfOk result (λ text. text.items ≡ spec.stale_text (history_of journal.now)) }
+{
+    let entries = journal.entries();
+    let mut destroyed = BTreeSet::new(alloc);
+    let mut lines = Vec::new(alloc);
+    for entry in entries {
+        stale_line(&mut lines, &destroyed, entry)?;
+        destroy(&mut destroyed, entry)?;
+    }
+    headed(alloc, b"stale", stale_count(entries), &lines)
+}

@@ -1,0 +1,255 @@
+// A journal with each kind of line of each report, which were written by hand.
+use crate::{blocks_text, left_text, refused_text, stale_text, summary_text};
+use ocr_base::Seq;
+use ocr_guid::{Code, Guid};
+use ocr_history::{Entry, Journal, Message, Stop, What, Writes};
+use ocr_meaning::{Answer, Call};
+use std::alloc::Global;
+use std::test::Fail;
+
+const UNINITIALIZED: u64 = 18446744073709551615;
+
+// A call of EDT 2.
+fn called(alloc: Global, call: Call, code: Code, value: u64) -> Entry {
+    Entry::Call {
+        edt: Guid(2),
+        home: Guid::NULL,
+        call,
+        answer: Answer {
+            code,
+            value,
+            scope: Guid::NULL,
+            output: Guid::NULL,
+        },
+        writes: Writes::none(alloc),
+    }
+}
+
+fn template(depc: u64) -> Call {
+    Call::TemplateCreate {
+        function: 1,
+        paramc: 0,
+        depc,
+    }
+}
+
+fn creation(alloc: Global, template: u64, deps: &[u64]) -> Result<Call, Fail> {
+    Ok(Call::EdtCreate {
+        template,
+        paramc: 0,
+        params: Seq::new(alloc),
+        depc: 4294967294,
+        deps: Seq::from_vec(Vec::from_slice(alloc, deps)?),
+        flags: 0,
+        output: false,
+    })
+}
+
+fn delivered(what: What, code: Code) -> Entry {
+    let message = Message {
+        place: 7,
+        index: 0,
+        what,
+    };
+    Entry::Deliver { message, code }
+}
+
+fn satisfied(event: u64, code: Code) -> Entry {
+    let satisfaction = What::Satisfy {
+        event: Guid(event),
+        slot: 0,
+        payload: Guid::NULL,
+    };
+    delivered(satisfaction, code)
+}
+
+// Blocks 4 and 5 and EDT 7 are made after those with greater numbers.
+fn makings(alloc: Global) -> Result<Vec<Entry>, Fail> {
+    let by = |call, value| called(alloc, call, Code::Done, value);
+    let set = What::Set {
+        edt: Guid(7),
+        slot: 1,
+        payload: Guid::NULL,
+    };
+    Ok(vec![in alloc;
+        Entry::Acquire {
+            edt: Guid(2),
+            block: Guid(1)
+        },
+        Entry::Start { edt: Guid(2) },
+        by(template(2), 3),
+        by(
+            Call::DbCreate {
+                length: 8,
+                flags: 1
+            },
+            6
+        ),
+        by(
+            Call::DbCreate {
+                length: 16,
+                flags: 0
+            },
+            4
+        ),
+        by(
+            Call::DbCreate {
+                length: 524288,
+                flags: 1
+            },
+            5
+        ),
+        by(creation(alloc, 3, &[])?, 8),
+        by(creation(alloc, 3, &[UNINITIALIZED, 0])?, 7),
+        delivered(set, Code::Done),
+        by(template(0), 10),
+        by(creation(alloc, 10, &[])?, 9),
+        Entry::Acquire {
+            edt: Guid(8),
+            block: Guid(5)
+        },
+    ]?)
+}
+
+fn destructions(alloc: Global, entries: &mut Vec<Entry>) -> Result<(), Fail> {
+    let by = |call, code, value| called(alloc, call, code, value);
+    entries.push(by(Call::DbDestroy { block: 4 }, Code::Done, 0))?;
+    entries.push(by(Call::DbRelease { block: 4 }, Code::Stale, 200))?;
+    entries.push(by(Call::DbDestroy { block: 6 }, Code::Done, 0))?;
+    entries.push(by(Call::DbDestroy { block: 5 }, Code::Done, 0))?;
+    entries.push(by(creation(alloc, 3, &[1, 6, 4])?, Code::Stale, 0))?;
+    entries.push(by(Call::TemplateDestroy { template: 3 }, Code::Done, 0))?;
+    entries.push(by(creation(alloc, 3, &[4])?, Code::Stale, 0))?;
+    Ok(())
+}
+
+fn uses(alloc: Global, entries: &mut Vec<Entry>) -> Result<(), Fail> {
+    let by = |call| called(alloc, call, Code::Stale, 200);
+    let satisfy = Call::Satisfy {
+        event: 20,
+        payload: 4,
+        slot: 0,
+    };
+    let depend = Call::AddDependence {
+        source: 6,
+        target: 8,
+        slot: 0,
+        mode: 3,
+    };
+    entries.push(by(satisfy))?;
+    entries.push(by(depend))?;
+    entries.push(satisfied(20, Code::Stale))?;
+    entries.push(satisfied(21, Code::Eperm))?;
+    entries.push(satisfied(22, Code::Einval))?;
+    entries.push(satisfied(23, Code::Done))?;
+    entries.push(Entry::StaleAcquire {
+        edt: Guid(7),
+        block: Guid(6),
+    })?;
+    entries.push(Entry::Stop(Stop::Shutdown { edt: Guid(2) }))?;
+    Ok(())
+}
+
+fn journal(alloc: Global) -> Result<Journal, Fail> {
+    let mut entries = makings(alloc)?;
+    destructions(alloc, &mut entries)?;
+    uses(alloc, &mut entries)?;
+    Ok(Journal::from_vec(entries))
+}
+
+#[test]
+fn a_summary_counts_edts_and_stale_uses(rt: HostRuntime) -> Result<(), Fail> {
+    let text = summary_text(rt.alloc(), &journal(rt.alloc())?)?;
+    assert_eq!(rt;
+        text.as_slice(),
+        b"edts 4 started 1 left 3 stale 7\n".as_slice()
+    );
+    Ok(())
+}
+
+#[test]
+fn edts_that_are_left_have_their_open_slots(rt: HostRuntime) -> Result<(), Fail> {
+    let text = left_text(rt.alloc(), &journal(rt.alloc())?)?;
+    assert_eq!(rt;
+        text.as_slice(),
+        b"left 3
+edt 7 open 0
+edt 8 open 0 1
+edt 9 open
+"
+            .as_slice()
+    );
+    Ok(())
+}
+
+#[test]
+fn stale_uses_name_the_first_destroyed_object(rt: HostRuntime) -> Result<(), Fail> {
+    let text = stale_text(rt.alloc(), &journal(rt.alloc())?)?;
+    assert_eq!(rt;
+        text.as_slice(),
+        b"stale 7
+call 2 4
+call 2 6
+call 2 3
+call 2 4
+call 2 6
+delivery 20
+acquire 7 6
+"
+            .as_slice()
+    );
+    Ok(())
+}
+
+#[test]
+fn satisfactions_that_were_refused_have_their_codes(rt: HostRuntime) -> Result<(), Fail> {
+    let text = refused_text(rt.alloc(), &journal(rt.alloc())?)?;
+    assert_eq!(rt;
+        text.as_slice(),
+        b"refused 2
+delivery 21 1
+delivery 22 22
+"
+            .as_slice()
+    );
+    Ok(())
+}
+
+#[test]
+fn blocks_are_live_destroyed_or_gone(rt: HostRuntime) -> Result<(), Fail> {
+    let text = blocks_text(rt.alloc(), &journal(rt.alloc())?, &[7, 8])?;
+    assert_eq!(rt;
+        text.as_slice(),
+        b"blocks 4
+block 1 words 3 live
+block 4 words 2 gone
+block 5 words 65536 destroyed
+block 6 words 1 gone
+"
+            .as_slice()
+    );
+    Ok(())
+}
+
+#[test]
+fn no_entry_is_the_opening_alone(rt: HostRuntime) -> Result<(), Fail> {
+    let alloc = rt.alloc();
+    let journal = Journal::from_vec(Vec::new(alloc));
+    let summary = summary_text(alloc, &journal)?;
+    assert_eq!(rt;
+        summary.as_slice(),
+        b"edts 1 started 0 left 1 stale 0\n".as_slice()
+    );
+    let left = left_text(alloc, &journal)?;
+    assert_eq!(rt; left.as_slice(), b"left 1\nedt 2 open\n".as_slice());
+    let stale = stale_text(alloc, &journal)?;
+    assert_eq!(rt; stale.as_slice(), b"stale 0\n".as_slice());
+    let refused = refused_text(alloc, &journal)?;
+    assert_eq!(rt; refused.as_slice(), b"refused 0\n".as_slice());
+    let blocks = blocks_text(alloc, &journal, &[])?;
+    assert_eq!(rt;
+        blocks.as_slice(),
+        b"blocks 1\nblock 1 words 1 live\n".as_slice()
+    );
+    Ok(())
+}

@@ -1,0 +1,28 @@
+use Rattle.std.proofs.Common.{sym, subst, codes}
+use Rattle.ocr_run.specs.ProgramText.{IsNoProgram}
+use Rattle.ocr_run.specs.Headline.{want_of_memory}
+use Rattle.ocr_run.proofs.Texts.{text_law}
+use Rattle.ocr_run.proofs.Told.{weaker_line, line_at}
+use Rattle.ocr_run.proofs.top.answer_check.Goals as goal
+
+pub returns-in-Ok-clause-refused : goal.returns-in-Ok-clause-refused
+returns-in-Ok-clause-refused g c = λ found none. absurd (text_law.apart c.args.bytes.now c.in-Ok.ensures.text.program found c.in-Ok.ensures.text.is_program none)
+
+pub returns-in-Ok-clause-told : goal.returns-in-Ok-clause-told
+returns-in-Ok-clause-told g c =
+    let t = c.copy.ensures.told in
+    (t.0, (t.1.0, weaker_line ⊥ ⊥ (λ found. ⊥) (IsNoProgram c.args.bytes.now) c.copy.result.journal c.copy.result.status t.0 (λ a. a) (λ found a. absurd a) t.1.1))
+
+pub returns-in-Err-Fault-clause-complete : goal.returns-in-Err-Fault-clause-complete
+returns-in-Err-Fault-clause-complete g c = λ program is sound.
+    absurd (text_law.apart c.args.bytes.now program c.in-Err-Fault.found is (rw c.in-Err-Fault.field-0-is at c.in-Err-Fault.ensures.stop))
+
+pub returns-in-Err-Fault-clause-told : goal.returns-in-Err-Fault-clause-told
+returns-in-Err-Fault-clause-told g c =
+    let t = c.refuse_text.ensures.told in
+    let none : IsNoProgram c.args.bytes.now c.in-Err-Fault.found = rw c.in-Err-Fault.field-0-is at c.in-Err-Fault.ensures.stop in
+    (t.0, (t.1.0, weaker_line ⊥ ⊥ _ (IsNoProgram c.args.bytes.now) c.refuse_text.result.journal c.refuse_text.result.status t.0 (λ a. a) (λ other same. subst (IsNoProgram c.args.bytes.now) (sym same) none) t.1.1))
+
+pub returns-in-Err-NoMemory-clause-told : goal.returns-in-Err-NoMemory-clause-told
+returns-in-Err-NoMemory-clause-told g c =
+    (codes "want of memory\n", (c.refuse.ensures.told, line_at ⊥ (IsNoProgram c.args.bytes.now) c.refuse.result.journal 9 c.refuse.result.status _ c.refuse.ensures.status want_of_memory))

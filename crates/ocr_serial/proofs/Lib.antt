@@ -1,0 +1,10 @@
+pub mod Blocks
+pub mod Stops
+pub mod Goings
+pub mod Beginnings
+pub mod Turns
+pub mod Cores
+pub mod Served
+pub mod Entered
+pub mod Woken
+pub mod Desks

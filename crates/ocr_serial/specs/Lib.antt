@@ -1,0 +1,4 @@
+pub mod Going
+pub mod Limits
+pub mod Serving
+pub mod UnderWay
