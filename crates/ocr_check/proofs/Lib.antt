@@ -1,7 +1,7 @@
 pub mod Arguments
-pub mod Built
 pub mod Mentions
 pub mod First
+pub mod Kept
 pub mod Judging
 pub mod Texts
 pub mod Parts
@@ -10,3 +10,4 @@ pub mod Outcomes
 pub mod Programs
 pub mod Rulesets
 pub mod Stops
+pub mod Unbuilt

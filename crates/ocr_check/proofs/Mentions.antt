@@ -60,9 +60,6 @@ quiet-used y es q = record { lets = λ past. q.lets (check.Used y ∷ past); dec
 quiet-function : (y : List ℕ) (es : List Mention) → IsQuiet es → IsQuiet (check.FunctionNamed y ∷ es)
 quiet-function y es q = record { lets = λ past. q.lets (check.FunctionNamed y ∷ past); declared = λ past n x. q.declared (check.FunctionNamed y ∷ past) n x }
 
-quiet-called : (call : CallName) (xs : Arguments) (es : List Mention) → IsQuiet es → IsQuiet (check.Called call xs ∷ es)
-quiet-called call xs es q = record { lets = λ past. q.lets (check.Called call xs ∷ past); declared = λ past n x. q.declared (check.Called call xs ∷ past) n x }
-
 quiet-list : (kind : ListKind) (k : ℕ) (es : List Mention) → IsQuiet es → IsQuiet (check.ListClosed kind k ∷ es)
 quiet-list kind k es q = record { lets = λ past. q.lets (check.ListClosed kind k ∷ past); declared = λ past n x. q.declared (check.ListClosed kind k ∷ past) n x }
 
@@ -82,7 +79,7 @@ mutual
   quiet-expression (tree.Depv e) = quiet-expression e
   quiet-expression (tree.Unary op e) = quiet-expression e
   quiet-expression (tree.Binary op a b) = quiet-append (mentions_of_expression a) (mentions_of_expression b) (quiet-expression a) (quiet-expression b)
-  quiet-expression (tree.Invoked call xs) = quiet-called call xs (mentions_of_arguments call Parameters xs) (quiet-arguments call Parameters xs)
+  quiet-expression (tree.Invoked call xs) = quiet-arguments call Parameters xs
 
   pub quiet-arguments : (call : CallName) (kind : ListKind) (xs : Arguments) → IsQuiet (mentions_of_arguments call kind xs)
   quiet-arguments call kind tree.empty = quiet-nil
@@ -126,8 +123,7 @@ mutual
       ∙ (λ i. option_or (expression_agrees names past a i) (expression_agrees names (onto past (mentions_of_expression a)) b i))
       ∙ ap (λ (d : List ℕ → Bool). option_or (expression_rule (known_of names) (declared_of past) a) (expression_rule (known_of names) d b))
       (still past (mentions_of_expression a) (quiet-expression a))
-  expression_agrees names past (tree.Invoked call xs) =
-      ap (λ (o : Option ℕ). option_or (rule_broken names past (check.Called call xs)) o) (arguments_agree names (check.Called call xs ∷ past) call Parameters xs)
+  expression_agrees names past (tree.Invoked call xs) = arguments_agree names past call Parameters xs
 
   pub arguments_agree : (names : List (List ℕ)) (past : List Mention) (call : CallName) (kind : ListKind) (xs : Arguments)
       → first_broken names past (mentions_of_arguments call kind xs) ≡ arguments_rule (known_of names) (declared_of past) call kind xs

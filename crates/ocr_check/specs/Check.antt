@@ -7,7 +7,6 @@ use Rattle.std.specs.Str.{bytes_eq}
 use Rattle.std.specs.List.{list_any}
 use Rattle.ocr_tree.specs.Tree.{Expression, Arguments, Statement, Statements, FunctionTree}
 use Rattle.ocr_tree.specs.Tree as tree
-use Rattle.ocr_tree.specs.Built.{is_call_built}
 pub use Rattle.ocr_tree.specs.Rules.{count_of}
 use Rattle.ocr_tree.specs.Functions.{main_name}
 use Rattle.ocr_tree.specs.declared.tree.CallName.{CallName}
@@ -42,8 +41,6 @@ pub data Mention : Type 0 where
   Declared : (name : List ℕ) → Mention
   -- a variable is read, assigned, or written after `&`
   Used : (name : List ℕ) → Mention
-  -- the name of a call stands before its arguments
-  Called : (call : CallName) (arguments : Arguments) → Mention
   -- a function is named as the code of a template
   FunctionNamed : (name : List ℕ) → Mention
   -- a list is closed
@@ -70,7 +67,7 @@ abbrev mutual
   mentions_of_expression (tree.Unary op e) = mentions_of_expression e
   mentions_of_expression (tree.Binary op a b) = mentions_of_expression a ++ mentions_of_expression b
   mentions_of_expression (tree.Invoked call arguments) =
-      Called call arguments ∷ mentions_of_arguments call Parameters arguments
+      mentions_of_arguments call Parameters arguments
 
   -- the mentions of the arguments of a call; `kind` is what the next list holds
   pub mentions_of_arguments : CallName → ListKind → Arguments → List Mention
@@ -96,8 +93,7 @@ abbrev mutual
       ++ (BlockOpened ∷ (mentions_of_statements body ++ (BlockClosed ∷ [])))
   mentions_of_statement (tree.Print e) = mentions_of_expression e
   mentions_of_statement (tree.Return e) = mentions_of_expression e
-  mentions_of_statement (tree.Do call arguments) =
-      Called call arguments ∷ mentions_of_arguments call Parameters arguments
+  mentions_of_statement (tree.Do call arguments) = mentions_of_arguments call Parameters arguments
 
   pub mentions_of_statements : Statements → List Mention
   mentions_of_statements tree.nothing = []
@@ -114,7 +110,6 @@ let_names [] = []
 let_names (LetBegins x ∷ past) = x ∷ let_names past
 let_names (Declared x ∷ past) = let_names past
 let_names (Used x ∷ past) = let_names past
-let_names (Called call arguments ∷ past) = let_names past
 let_names (FunctionNamed x ∷ past) = let_names past
 let_names (ListClosed kind n ∷ past) = let_names past
 let_names (BlockOpened ∷ past) = let_names past
@@ -128,7 +123,6 @@ is_declared depth x (LetBegins y ∷ past) = is_declared depth x past
 is_declared zero x (Declared y ∷ past) = bytes_eq y x || is_declared zero x past
 is_declared (suc depth) x (Declared y ∷ past) = is_declared (suc depth) x past
 is_declared depth x (Used y ∷ past) = is_declared depth x past
-is_declared depth x (Called call arguments ∷ past) = is_declared depth x past
 is_declared depth x (FunctionNamed y ∷ past) = is_declared depth x past
 is_declared depth x (ListClosed kind n ∷ past) = is_declared depth x past
 is_declared zero x (BlockOpened ∷ past) = is_declared zero x past
@@ -142,7 +136,6 @@ rule_broken names past (LetBegins x) = cond (is_among x (let_names past)) (Some 
     (cond (nat_lt (length (let_names past)) most_lets) None (Some 7))
 rule_broken names past (Declared x) = None
 rule_broken names past (Used x) = cond (is_declared 0 x past) None (Some 4)
-rule_broken names past (Called call arguments) = cond (is_call_built call arguments) None (Some 8)
 rule_broken names past (FunctionNamed f) = cond (is_among f names) None (Some 5)
 rule_broken names past (ListClosed kind n) = cond (nat_le n (most_members kind)) None (Some 6)
 rule_broken names past BlockOpened = None

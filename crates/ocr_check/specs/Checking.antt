@@ -4,7 +4,6 @@ use Rattle.std.specs.Prelude.{ℕ, Bool, cond, nat_lt, nat_le, List, [], ◌∷�
 use Rattle.std.specs.Option.{option_or}
 use Rattle.ocr_tree.specs.Tree.{Expression, Arguments, Statement, Statements, FunctionTree}
 use Rattle.ocr_tree.specs.Tree as tree
-use Rattle.ocr_tree.specs.Built.{is_call_built}
 use Rattle.ocr_check.specs.Check.{Mention, rule_broken, is_among, mention_of_name, most_members, most_lets, count_of}
 use Rattle.ocr_check.specs.Check as check
 use Rattle.ocr_tree.specs.declared.tree.CallName.{CallName}
@@ -17,8 +16,6 @@ abbrev pub mention_rule : (known declared : List ℕ → Bool) → Mention → O
 mention_rule known declared (check.LetBegins x) = None
 mention_rule known declared (check.Declared x) = None
 mention_rule known declared (check.Used x) = cond (declared x) None (Some 4)
-mention_rule known declared (check.Called call arguments) =
-    cond (is_call_built call arguments) None (Some 8)
 mention_rule known declared (check.FunctionNamed f) = cond (known f) None (Some 5)
 mention_rule known declared (check.ListClosed kind n) =
     cond (nat_le n (most_members kind)) None (Some 6)
@@ -39,8 +36,7 @@ abbrev mutual
   expression_rule known declared (tree.Binary op a b) =
       option_or (expression_rule known declared a) (expression_rule known declared b)
   expression_rule known declared (tree.Invoked call arguments) =
-      option_or (mention_rule known declared (check.Called call arguments))
-      (arguments_rule known declared call Parameters arguments)
+      arguments_rule known declared call Parameters arguments
 
   pub arguments_rule : (known declared : List ℕ → Bool) → CallName → ListKind → Arguments → Option ℕ
   arguments_rule known declared call kind tree.empty = None
@@ -53,12 +49,6 @@ abbrev mutual
   arguments_rule known declared call kind (tree.named x rest) =
       option_or (mention_rule known declared (mention_of_name call x))
       (arguments_rule known declared call kind rest)
-
--- a call at its place: its name, then its arguments
-abbrev pub call_rule : (known declared : List ℕ → Bool) → CallName → Arguments → Option ℕ
-call_rule known declared call arguments =
-    option_or (mention_rule known declared (check.Called call arguments))
-    (arguments_rule known declared call Parameters arguments)
 
 -- the names that the walk of a function keeps: those that were let, and those of them that are
 -- declared where it stands
@@ -115,7 +105,7 @@ abbrev mutual
   statement_outcome known (tree.Print e) k = told k (value_rule known k e)
   statement_outcome known (tree.Return e) k = told k (value_rule known k e)
   statement_outcome known (tree.Do call arguments) k =
-      told k (call_rule known (λ x. is_among x k.declared) call arguments)
+      told k (arguments_rule known (λ x. is_among x k.declared) call Parameters arguments)
 
   pub statements_outcome : (known : List ℕ → Bool) → Statements → Declarations → Outcome
   statements_outcome known tree.nothing k = Passed k

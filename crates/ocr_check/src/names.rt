@@ -1,14 +1,12 @@
 // The walk of a function in the order of its text, with the names that were let.
-ghost use Rattle.std.specs.Prelude.{◌≡◌, ◌&&◌, ℕ, List, None, IfErr, OnOk};
+ghost use Rattle.std.specs.Prelude.{◌≡◌, ℕ, List, None, IfErr, OnOk};
 ghost use Rattle.ocr_check.specs.Check.{Used, FunctionNamed, mention_of_name};
 ghost use Rattle.ocr_check.specs.declared.names.ListKind.TheVariants.{Parameters};
 ghost use Rattle.ocr_check.specs.Check.{is_among as among};
-ghost use Rattle.ocr_check.specs.Checking.{mention_rule, expression_rule, arguments_rule, call_rule, let_rule, with_name, no_declarations, Passed, leaving, statement_outcome, statements_outcome, function_rule};
+ghost use Rattle.ocr_check.specs.Checking.{mention_rule, expression_rule, arguments_rule, let_rule, with_name, no_declarations, Passed, leaving, statement_outcome, statements_outcome, function_rule};
 ghost use Rattle.ocr_check.specs.Names.{texts, known_in, declared_in, declarations_in, knows, members_rule, assign_rule, IsFaultIn, IsStopIn, IsStopAt, IsSameFunction};
 ghost use Rattle.ocr_tree.specs.Tree.{Let};
-ghost use Rattle.ocr_tree.specs.Built as built;
-ghost use Rattle.ocr_tree.specs.Built.{is_none};
-ghost use Rattle.ocr_tree.specs.View.{expression_of, name_of, arguments_of, members_of, output_of, statement_of, statements_of, function_of};
+ghost use Rattle.ocr_tree.specs.View.{expression_of, name_of, arguments_of, statement_of, statements_of, function_of};
 
 use crate::rules::{CheckFault, CheckStop};
 use ocr_tree::{
@@ -58,38 +56,6 @@ fn is_among(name: &[u8], others: &[&[u8]]) -> bool
     ensures { result ≡ among name.now (texts others.now) }
 {
     others.contains(&name)
-}
-
-// Whether a creation asks for no dependences and no output event.
-#[tactic(auto, using(crate::proofs::Plain::no_members, crate::proofs::Plain::no_output))]
-fn is_plain(deps: &[Expr], output: &Option<Name>) -> bool
-    ensures { result ≡ (is_none (members_of deps.now) && is_none (output_of output.now)) }
-{
-    deps.is_empty() && output.is_none()
-}
-
-// Whether a call can be made already.
-fn is_call_built(call: &Invoke) -> bool
-    ensures { result ≡ built.is_call_built (name_of call.now) (arguments_of call.now) }
-{
-    match call {
-        Invoke::DbCreate { .. } => false,
-        Invoke::DbRelease { .. } => false,
-        Invoke::DbDestroy { .. } => false,
-        Invoke::EventCreate { .. } => false,
-        Invoke::EventCreateParams { .. } => false,
-        Invoke::EventDestroy { .. } => false,
-        Invoke::Satisfy { .. } => false,
-        Invoke::SatisfySlot { .. } => false,
-        Invoke::AddDependence { .. } => false,
-        Invoke::TemplateCreate { .. } => true,
-        Invoke::TemplateDestroy { .. } => false,
-        Invoke::EdtCreate { deps, output, .. } => is_plain(deps, output),
-        Invoke::Shutdown => true,
-        Invoke::Abort { .. } => true,
-        Invoke::Load { .. } => false,
-        Invoke::Store { .. } => false,
-    }
 }
 
 impl<'n, 'a> Names<'n, 'a> {
@@ -185,25 +151,8 @@ impl<'n, 'a> Names<'n, 'a> {
                 self.expression(left)?;
                 self.expression(right)
             }
-            Expr::Invoke(call) => self.call(call),
+            Expr::Invoke(call) => self.arguments(call),
         }
-    }
-
-    // A call: its name, then its arguments.
-    #[cycle(expression)]
-    #[tactic(auto, using(crate::proofs::Rulesets::parts))]
-    fn call(&self, call: &Invoke) -> Result<(), CheckStop>
-        ensures ok { OnOk result
-            (call_rule (known_in self.now) (declared_in self.now) (name_of call.now)
-            (arguments_of call.now) ≡ None) }
-        ensures err { IfErr result (IsStopAt self.now.function
-            (call_rule (known_in self.now) (declared_in self.now) (name_of call.now)
-            (arguments_of call.now))) }
-    {
-        if !is_call_built(call) {
-            return Err(CheckStop::Fault(self.fault(8)));
-        }
-        self.arguments(call)
     }
 
     // The arguments of a call, the first list of which are parameters and the second dependences.
@@ -332,7 +281,7 @@ impl<'n, 'a> Names<'n, 'a> {
             }
             Stmt::Print { value } => self.expression(value),
             Stmt::Return { value } => self.expression(value),
-            Stmt::Invoke(call) => self.call(call),
+            Stmt::Invoke(call) => self.arguments(call),
         }
     }
 
@@ -390,6 +339,3 @@ pub fn walk_function<'a>(
     let mut walk = Names::new(alloc, names, number);
     walk.statements(&function.body)
 }
-
-#[cfg(test)]
-mod tests;

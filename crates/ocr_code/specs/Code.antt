@@ -2,7 +2,7 @@
 use Rattle.std.specs.Prelude.{◌≡◌, ◌<◌, ℕ, List, [], ◌∷◌, Bool, true, ◌&&◌, not, nat_lt, ◌==◌, ◌^◌, bytes_eq, map, length, slice_index_or}
 use Rattle.std.specs.List.{list_any}
 use Rattle.ocr_tree.specs.Tree as tree
-use Rattle.ocr_tree.specs.Tree.{names_in}
+pub use Rattle.ocr_tree.specs.Rules.{has_function}
 use Rattle.ocr_tree.specs.declared.tree.CallName.{CallName}
 use Rattle.ocr_tree.specs.declared.tree.CallName.TheVariants as name
 use Rattle.ocr_code.specs.declared.code.ExprCode.{ExprCode}
@@ -12,7 +12,8 @@ use Rattle.ocr_code.specs.declared.code.CallCode.TheVariants as call
 use Rattle.ocr_code.specs.declared.code.ArgCode.{ArgCode}
 use Rattle.ocr_code.specs.declared.code.ArgCode.TheVariants as args
 use Rattle.ocr_code.specs.declared.code.Named.{Named}
-use Rattle.ocr_code.specs.declared.code.StmtCode.{StmtCode, Row_of-StmtCode, end_of-StmtCode, more_of-StmtCode}
+use Rattle.ocr_code.specs.declared.code.StmtCode.{StmtCode, Row_of-StmtCode, end_of-StmtCode}
+use Rattle.ocr_code.specs.declared.code.StmtCode.{more_of-StmtCode}
 use Rattle.ocr_code.specs.declared.code.StmtCode.TheVariants as step
 use Rattle.ocr_code.specs.declared.code.FunctionCode.{FunctionCode}
 
@@ -80,11 +81,6 @@ abbrev mutual
 abbrev pub statements_in : List (List ℕ) → List StmtCode → tree.Statements
 statements_in names [] = tree.nothing
 statements_in names (s ∷ rest) = tree.statement (statement_at names s) (statements_in names rest)
-
--- the call that wants a function's name has a name among its arguments
-abbrev pub has_function : CallName → tree.Arguments → Bool
-has_function name.TemplateCreate xs = nat_lt 0 (length (names_in xs))
-has_function other xs = true
 
 -- a name has a place among these, and the number of the function of this name
 abbrev pub is_name_placed : (List ℕ → ℕ) → List (List ℕ) → Named → Bool

@@ -5,7 +5,9 @@ use Rattle.ocr_tree.specs.Tree as tree
 use Rattle.ocr_tree.specs.View.{functions_of}
 use Rattle.ocr_tree.specs.declared.tree.CallName.{CallName}
 use Rattle.ocr_tree.specs.declared.tree.Function.{Function}
-use Rattle.ocr_code.specs.Code.{name_at, is_placed, is_call_placed, are_args_placed, is_step_placed, are_placed, call_name, call_arguments, arguments_at, expression_at, statement_at, statements_in}
+use Rattle.ocr_code.specs.Code.{name_at, is_placed, is_call_placed, are_args_placed, is_step_placed}
+use Rattle.ocr_code.specs.Code.{are_placed, call_name, call_arguments, arguments_at, expression_at}
+use Rattle.ocr_code.specs.Code.{statement_at, statements_in}
 use Rattle.ocr_code.specs.declared.code.ExprCode.{ExprCode}
 use Rattle.ocr_code.specs.declared.code.CallCode.{CallCode}
 use Rattle.ocr_code.specs.declared.code.ArgCode.{ArgCode}

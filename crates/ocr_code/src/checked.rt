@@ -83,8 +83,8 @@ impl Checked {
         let _code = self.code.as_slice();
     }
 
-    /// What everything above may rest on: each call is built, names a function that is there and
-    /// has short lists, and there is a `mainEdt`.
+    /// What everything above may rest on: each call names a function that is there and has short
+    /// lists, and there is a `mainEdt`.
     pub fn runnable_law(&self)
         ensures { IsRunnable (checked_tree self.now) }
     {

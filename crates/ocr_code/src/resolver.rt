@@ -1,15 +1,19 @@
 // The code of a program: each variable by the place of its name among its function's names.
 #![tactic(auto, using(crate::proofs::Names::grew_same, crate::proofs::Names::grew_twice))]
 
-ghost use Rattle.std.specs.Prelude.{◌≡◌, ◌<◌, ◌+◌, ◌^◌, ℕ, List, true, false, map, length, IfOk, OnOk, IfSome, IfNone};
+ghost use Rattle.std.specs.Prelude.{◌≡◌, ◌<◌, ◌+◌, ◌^◌, ℕ, List, true, false, map, length, IfOk};
+ghost use Rattle.std.specs.Prelude.{OnOk, IfSome, IfNone};
 ghost use Rattle.std.specs.List.{list_any};
 ghost use Rattle.std.specs.Prelude.{bytes_eq};
-ghost use Rattle.ocr_code.specs.Code.{are_distinct, is_placed, expression_at, body_in, bodies_in, is_sound, are_sound};
-ghost use Rattle.ocr_code.specs.Resolved.{Grew, IsPlace, IsExpression, IsArguments, IsCall, IsStatement, AreStatements, numbers_of};
+ghost use Rattle.ocr_code.specs.Code.{are_distinct, is_placed, expression_at, body_in, bodies_in};
+ghost use Rattle.ocr_code.specs.Code.{is_sound, are_sound};
+ghost use Rattle.ocr_code.specs.Resolved.{Grew, IsPlace, IsExpression, IsArguments, IsCall};
+ghost use Rattle.ocr_code.specs.Resolved.{IsStatement, AreStatements, numbers_of};
 ghost use Rattle.ocr_tree.specs.Functions.{numbers_in};
 ghost use Rattle.ocr_tree.specs.Tree as tree;
 ghost use Rattle.ocr_tree.specs.Tree.{Arguments};
-ghost use Rattle.ocr_tree.specs.View.{expression_of, name_of, arguments_of, members_of, statement_of, statements_of, tree_of};
+ghost use Rattle.ocr_tree.specs.View.{expression_of, name_of, arguments_of, members_of};
+ghost use Rattle.ocr_tree.specs.View.{statement_of, statements_of, tree_of};
 
 use crate::code::{ArgCode, CallCode, ExprCode, FunctionCode, Named, StmtCode};
 use ocr_base::NoMemory;
@@ -366,7 +370,7 @@ fn function(
     Ok(FunctionCode { names, body })
 }
 
-// The code of each function of a program.
+/// The code of each function of a program.
 #[tactic(auto, using(crate::proofs::Rulesets::resolving))]
 pub fn resolve(alloc: Global, program: &Program) -> Result<Vec<FunctionCode>, NoMemory>
     requires few { length (tree_of program.now) + 1 < 2 ^ 32 }

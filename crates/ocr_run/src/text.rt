@@ -1,14 +1,15 @@
 // The program that a task text is.
-ghost use Rattle.std.specs.Prelude.{◌≡◌, ◌≤◌, IfOk, IfErr, length, true};
+ghost use Rattle.std.specs.Prelude.{◌≡◌, ◌≤◌, IfOk, IfErr, OnOk, length, true};
 ghost use Rattle.ocr_text.specs.Tokens.{AreTokens};
 ghost use Rattle.ocr_tree.specs.Built.{are_built};
 ghost use Rattle.ocr_tree.specs.View.{tree_of};
+ghost use Rattle.ocr_check.specs.Check.{BreaksNoRule};
 ghost use Rattle.ocr_code.specs.Checked.{checked_tree};
 ghost use Rattle.ocr_grammar.specs.Lexing.{IsTreeOf};
 ghost use Rattle.ocr_run.specs.ProgramText.{IsProgramText, IsCanonicalOf, IsTextStop, TextLaw, most_bytes};
 
 use ocr_canonical::print_program;
-use ocr_check::{CheckFault, CheckStop, check};
+use ocr_check::{CheckFault, CheckStop, check, first_unbuilt};
 use ocr_code::Checked;
 use ocr_program::{ParseStop, SyntaxFault, parse};
 use ocr_text::{LexFault, Token, TokensStop, tokens};
@@ -63,6 +64,26 @@ fn read(alloc: Global, bytes: &[u8], tokens: &[Token]) -> Result<Program, TextSt
     }
 }
 
+fn judged(
+    alloc: Global,
+    bytes: &[u8],
+    tokens: &[Token],
+    program: Program,
+) -> Result<Checked, TextStop>
+    requires size { length bytes.now ≤ most_bytes }
+    requires tokens { AreTokens bytes.now tokens.now }
+    requires tree { IsTreeOf bytes.now tokens.now (tree_of program) }
+    ensures tree { IfOk result (λ checked. checked_tree checked ≡ tree_of program) }
+    ensures sound { OnOk result (BreaksNoRule (tree_of program)) }
+    ensures stop { IfErr result (IsTextStop bytes.now) }
+{
+    match check(alloc, program) {
+        Ok(checked) => Ok(checked),
+        Err(CheckStop::Fault(fault)) => Err(TextStop::Fault(TextFault::Breach(fault))),
+        Err(CheckStop::NoMemory) => Err(TextStop::NoMemory),
+    }
+}
+
 /// The program that these bytes are, ready to be run; or the first thing that is wrong with them.
 pub fn program_of(alloc: Global, bytes: &[u8]) -> Result<Checked, TextStop>
     requires { length bytes.now ≤ most_bytes }
@@ -72,13 +93,11 @@ pub fn program_of(alloc: Global, bytes: &[u8]) -> Result<Checked, TextStop>
 {
     let tokens = cut(alloc, bytes)?;
     let program = read(alloc, bytes, &tokens)?;
-    match check(alloc, program) {
-        Ok(checked) => {
-            checked.runnable_law(); // only for the proof: its calls are built
-            Ok(checked)
-        }
-        Err(CheckStop::Fault(fault)) => Err(TextStop::Fault(TextFault::Breach(fault))),
-        Err(CheckStop::NoMemory) => Err(TextStop::NoMemory),
+    let checked = judged(alloc, bytes, &tokens, program)?;
+    match first_unbuilt(alloc, checked.program()) {
+        Ok(None) => Ok(checked),
+        Ok(Some(fault)) => Err(TextStop::Fault(TextFault::Breach(fault))),
+        Err(_) => Err(TextStop::NoMemory),
     }
 }
 

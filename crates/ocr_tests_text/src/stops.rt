@@ -87,7 +87,24 @@ fn programs_stop_at_the_first_rule_that_they_break(rt: HostRuntime) {
             Stop::Rule(4, 1),
         ),
         ("fn f { } fn mainEdt { let x = x; }", Stop::Rule(4, 2)),
+        (
+            "fn mainEdt { ocrEdtTemplateCreate(f, 0, 0); }",
+            Stop::Rule(5, 1),
+        ),
+        (
+            "fn mainEdt { ocrEdtCreate(1, 0, [], 0, [], 0, &o); }",
+            Stop::Rule(4, 1),
+        ),
         ("fn mainEdt { ocrDbCreate(8, 0); }", Stop::Rule(8, 1)),
+        // A call that can't be run yet is told only where no other rule is broken anywhere.
+        (
+            "fn f { ocrDbCreate(8, 0); } fn mainEdt { print x; }",
+            Stop::Rule(4, 2),
+        ),
+        (
+            "fn f { } fn g { if 1 { print 1 + load(1, 2); } } fn mainEdt { store(1, 2, 3); }",
+            Stop::Rule(8, 2),
+        ),
     ];
     for (text, stop) in rows {
         assert_eq!(rt;
@@ -99,6 +116,30 @@ fn programs_stop_at_the_first_rule_that_they_break(rt: HostRuntime) {
     let taken =
         "fn other { } fn mainEdt { let y = 1; while y { let x = 0; y = x; } ocrShutdown(); }";
     assert_eq!(rt; stop_of(rt.alloc(), taken.as_bytes()), None);
+}
+
+// A creation of an EDT with this many parameters and dependences.
+fn creation(alloc: Global, params: u32, deps: u32) -> Result<Vec<u8>, AllocError> {
+    let front = repeated(
+        alloc,
+        b"fn mainEdt { ocrEdtCreate(1, 0, [",
+        b"1,",
+        params,
+        b"1], 0, [",
+    )?;
+    repeated(alloc, front.as_slice(), b"1,", deps, b"1], 0); }")
+}
+
+#[test]
+fn lists_have_at_most_16_and_32_members(rt: HostRuntime) -> Result<(), AllocError> {
+    let alloc = rt.alloc();
+    let enough = creation(alloc, 15, 31)?;
+    assert_eq!(rt; stop_of(alloc, enough.as_slice()), Some(Stop::Rule(8, 1)));
+    let many = creation(alloc, 16, 0)?;
+    assert_eq!(rt; stop_of(alloc, many.as_slice()), Some(Stop::Rule(6, 1)));
+    let many = creation(alloc, 0, 32)?;
+    assert_eq!(rt; stop_of(alloc, many.as_slice()), Some(Stop::Rule(6, 1)));
+    Ok(())
 }
 
 #[test]

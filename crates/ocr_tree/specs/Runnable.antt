@@ -1,14 +1,12 @@
 -- Programs that may be run.
 use Rattle.std.specs.Prelude.{◌≡◌, ◌≤◌, ◌<◌, ◌+◌, ◌^◌, List, length, true}
 use Rattle.ocr_tree.specs.Tree.{FunctionTree}
-use Rattle.ocr_tree.specs.Built.{are_built}
 use Rattle.ocr_tree.specs.Functions.{number_of_main}
 use Rattle.ocr_tree.specs.Rules.{are_functions_named, are_lists_short}
 
--- all calls are built, the functions that they name are there, their lists are short enough, there
--- is a `mainEdt`, and each function has a number of 32 bits, as has the one past the last
+-- the functions that its calls name are there, their lists are short enough, there is a `mainEdt`,
+-- and each function has a number of 32 bits, as has the one past the last
 pub record IsRunnable (program : List FunctionTree) : Type 0 where
-  pub built : are_built program ≡ true
   pub named : are_functions_named program ≡ true
   pub short : are_lists_short program ≡ true
   pub has_main : number_of_main program ≤ length program

@@ -2,11 +2,12 @@ use Rattle.std.proofs.Common.{◌≡◌, ◌≤◌, ◌∙◌, ℕ, List, length
 use Rattle.std.proofs.lemmas.List.{take_all, length-map}
 use Rattle.std.proofs.lemmas.Result.{err_from_is_err_and}
 use Rattle.ocr_check.specs.Check.{BreaksSome, FailsNowhere, is_among, names_of, no_main}
+use Rattle.ocr_tree.proofs.Named.{functions_named}
 use Rattle.ocr_tree.specs.Functions.{main_name}
 use Rattle.ocr_check.specs.Names.{knows}
 use Rattle.ocr_tree.specs.View.{function_of, functions_of}
 use Rattle.ocr_tree.specs.declared.tree.Function.{Function}
-use Rattle.ocr_check.proofs.Built.{keeps_built, keeps_named, keeps_short, named_within}
+use Rattle.ocr_check.proofs.Kept.{keeps_named, keeps_short, named_within}
 use Rattle.ocr_check.proofs.First.{FailsNowhere-nil}
 use Rattle.ocr_check.proofs.Programs.{none_more, function_sound, walk_stops}
 use Rattle.ocr_check.proofs.rules.judge.Goals as goal
@@ -43,9 +44,8 @@ returns-clause-runnable c =
     let main : is_among main_name (names_of (functions_of fs)) ≡ true =
     sym (c.in_ok-names.ensures.names main_name) ∙ ap (λ (x : List ℕ). knows c.in_ok-names.names x) (sym c.main_name.ensures) ∙ sym c.contains.ensures ∙ c.if-not-contains.false in
     record {
-      built = keeps_built (names_of (functions_of fs)) (functions_of fs) sound;
-      named = keeps_named (functions_of fs) sound;
-      short = keeps_short (names_of (functions_of fs)) (functions_of fs) sound;
+      named = keeps_named (functions_of fs) (functions_named fs) sound;
+      short = keeps_short (names_of (functions_of fs)) (functions_of fs) (functions_named fs) sound;
       has_main = named_within main_name (functions_of fs) main;
       few = omega (arith, c.requires, length-map fs function_of);
     }

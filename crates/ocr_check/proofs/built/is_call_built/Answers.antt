@@ -3,7 +3,7 @@ use Rattle.ocr_tree.specs.Built.{is_none}
 use Rattle.ocr_tree.specs.View.{members_of, output_of}
 use Rattle.ocr_tree.specs.declared.tree.Expr.{Expr}
 use Rattle.ocr_check.proofs.Plain.{plain_is}
-use Rattle.ocr_check.proofs.names.is_call_built.Goals as goal
+use Rattle.ocr_check.proofs.built.is_call_built.Goals as goal
 
 pub returns-in-EdtCreate : goal.returns-in-EdtCreate
 returns-in-EdtCreate c =
