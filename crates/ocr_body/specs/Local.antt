@@ -6,7 +6,8 @@ use Rattle.ocr_tree.specs.declared.tree.CallName.{CallName}
 use Rattle.ocr_tree.specs.declared.tree.CallName.TheVariants as name
 use Rattle.ocr_meaning.specs.Behaviour.{Behaviour, Ends, Stops}
 use Rattle.ocr_meaning.specs.Holds.{Holds}
-use Rattle.ocr_meaning.specs.Meaning.{State, Frame, Given, Value, eval, coded_call, load_step, store_step}
+use Rattle.ocr_meaning.specs.Meaning.{State, Frame, Given, Value, eval, coded_call, load_step}
+use Rattle.ocr_meaning.specs.Meaning.{store_step}
 use Rattle.ocr_meaning.specs.declared.call.Call.{Call}
 use Rattle.ocr_code.specs.Checked.{checked_tree}
 use Rattle.ocr_code.specs.Code.{name_at}

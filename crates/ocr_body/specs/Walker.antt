@@ -10,12 +10,15 @@ use Rattle.ocr_meaning.specs.Meaning.{State, Value, Given}
 use Rattle.ocr_meaning.specs.Meaning as meaning
 use Rattle.ocr_meaning.specs.declared.call.BodyStop.{BodyStop}
 use Rattle.ocr_meaning.specs.declared.call.Call.{Call}
-use Rattle.ocr_code.specs.Code.{are_distinct, is_placed, is_call_placed, are_args_placed, is_step_placed, are_placed, call_name, call_arguments, arguments_at, expression_at, statement_at, statements_in}
+use Rattle.ocr_code.specs.Code.{are_distinct, is_placed, is_call_placed, are_args_placed}
+use Rattle.ocr_code.specs.Code.{is_step_placed, are_placed, call_name, call_arguments, arguments_at}
+use Rattle.ocr_code.specs.Code.{expression_at, statement_at, statements_in}
 use Rattle.ocr_code.specs.declared.code.ArgCode.{ArgCode}
 use Rattle.ocr_code.specs.declared.code.CallCode.{CallCode}
 use Rattle.ocr_code.specs.declared.code.ExprCode.{ExprCode}
 use Rattle.ocr_code.specs.declared.code.StmtCode.{StmtCode}
-use Rattle.ocr_body.specs.Local.{value_in, state_of, frame_of, numbers_of, given_of, output_at, way_step, Flows, Leaves}
+use Rattle.ocr_body.specs.Local.{value_in, state_of, frame_of, numbers_of, given_of, output_at}
+use Rattle.ocr_body.specs.Local.{way_step, Flows, Leaves}
 use Rattle.ocr_body.specs.Serving.{HasValue, StoppedBy}
 use Rattle.ocr_body.specs.declared.api.Api.{Ghosts}
 use Rattle.ocr_body.specs.declared.given.Given as found

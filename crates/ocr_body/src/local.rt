@@ -14,8 +14,8 @@ use ocr_meaning::BodyStop;
 use ocr_tree::Name;
 use std::alloc::Global;
 
-// What the walker keeps of a body: its fuel, the code of its last call, its variables by their
-// places, and, once it stopped or returned, why and what.
+/// What the walker keeps of a body: its fuel, the code of its last call, its variables by their
+/// places, and, once it stopped or returned, why and what.
 #[derive(Drop)]
 pub struct Local {
     pub fuel: u64,
@@ -25,11 +25,11 @@ pub struct Local {
     pub returned: Guid,
 }
 
-// The body stopped, and why is kept in `stop`: so small an answer goes in a register.
+/// The body stopped, and why is kept in `stop`: so small an answer goes in a register.
 #[derive(Clone, Copy)]
 pub struct Halt;
 
-// What a body was given, its program, and the names of its variables.
+/// What a body was given, its program, and the names of its variables.
 #[derive(Clone, Copy)]
 pub struct Frame<'a> {
     pub alloc: Global,
@@ -39,14 +39,14 @@ pub struct Frame<'a> {
     pub names: &'a [Name],
 }
 
-// Where a statement leads. What a body returned is kept in `returned`.
+/// Where a statement leads. What a body returned is kept in `returned`.
 #[derive(Clone, Copy)]
 pub enum Flow {
     Next,
     Returned,
 }
 
-// The body stops for this.
+/// The body stops for this.
 #[inline(always)]
 pub fn stopped(stop: BodyStop, local: &mut Local) -> Halt
     ensures stop { local.new.stop ≡ stop }
@@ -56,7 +56,7 @@ pub fn stopped(stop: BodyStop, local: &mut Local) -> Halt
     Halt
 }
 
-// Pays one unit of fuel, or stops for want of it.
+/// Pays one unit of fuel, or stops for want of it.
 pub fn pay(local: &mut Local) -> Result<(), Halt>
     ensures ok { OnOk result ((names : List (List ℕ)) (holds : Holds)
         (k : State → Behaviour) → meaning.spend (state_of names holds local.old) k
@@ -73,7 +73,7 @@ pub fn pay(local: &mut Local) -> Result<(), Halt>
     Ok(())
 }
 
-// The value of a variable.
+/// The value of a variable.
 pub fn read(frame: &Frame, place: usize, local: &Local) -> u64
     requires place { place < length frame.now.names.now }
     requires fits { Fits frame.now local.now }
@@ -83,7 +83,7 @@ pub fn read(frame: &Frame, place: usize, local: &Local) -> u64
     local.values[place]
 }
 
-// A variable gets a value, whatever is held.
+/// A variable gets a value, whatever is held.
 pub fn write(frame: &Frame, place: usize, value: u64, local: &mut Local)
     requires place { place < length frame.now.names.now }
     requires fits { Fits frame.now local.old }

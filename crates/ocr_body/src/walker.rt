@@ -2,7 +2,8 @@
 // why it stopped and what the body returned are kept in `local`.
 #![tactic(auto, using(crate::proofs::Rulesets::walking))]
 
-ghost use Rattle.std.specs.Prelude.{◌≡◌, ◌&&◌, ◌≤◌, ◌<◌, [], true, ℕ, IfOk, OnOk, OnErr, IfErr, IfSome, length, replicate};
+ghost use Rattle.std.specs.Prelude.{◌≡◌, ◌&&◌, ◌≤◌, ◌<◌, [], true, ℕ, IfOk, OnOk, OnErr, IfErr};
+ghost use Rattle.std.specs.Prelude.{IfSome, length, replicate, slice_index};
 ghost use Rattle.ocr_base.specs.Count.{Rose};
 ghost use Rattle.ocr_meaning.specs.Behaviour.{Behaviour, Ends, Stops, IsTrace};
 ghost use Rattle.ocr_meaning.specs.Body.{behaviour, says};
@@ -11,14 +12,19 @@ ghost use Rattle.ocr_meaning.specs.Meaning as meaning;
 ghost use Rattle.ocr_code.specs.Checked.{checked_tree};
 ghost use Rattle.ocr_code.specs.Code.{name_at, has_function, arguments_at};
 ghost use Rattle.ocr_body.specs.Local.{given_of};
-ghost use Rattle.ocr_body.specs.Serving.{Begins, BeginsValue, BeginsGiven, IsDone, IsGiven, StoppedBy};
-ghost use Rattle.ocr_body.specs.Walker.{next_of, next_after, GoesOn, IsCause, Yields, Leads, Fits, StillFits, Keeps, is_expr_in, is_call_in, are_args_in, is_stmt_in, are_stmts_in, state_in, expr_part, call_part, coded_part, args_part, made_part, way_part, ask_part, load_part, store_part, stmt_part, stmts_part, loop_part};
+ghost use Rattle.ocr_body.specs.Serving.{Begins, BeginsValue, BeginsGiven, IsDone, IsGiven};
+ghost use Rattle.ocr_body.specs.Serving.{StoppedBy};
+ghost use Rattle.ocr_body.specs.Walker.{next_of, next_after, GoesOn, IsCause, Yields, Leads, Fits};
+ghost use Rattle.ocr_body.specs.Walker.{StillFits, Keeps, is_expr_in, is_call_in, are_args_in};
+ghost use Rattle.ocr_body.specs.Walker.{is_stmt_in, are_stmts_in, state_in, expr_part, call_part};
+ghost use Rattle.ocr_body.specs.Walker.{coded_part, args_part, made_part, way_part, ask_part};
+ghost use Rattle.ocr_body.specs.Walker.{load_part, store_part, stmt_part, stmts_part, loop_part};
 
 use crate::api::Api;
 use crate::given::{Given, Way, call_of, output_of, way_of};
 use crate::local::{Flow, Frame, Halt, Local, pay, read, stopped, write};
 use crate::operators::{apply, operate};
-use crate::plain::{NONE_LEFT, plain};
+use crate::plain::{NONE_LEFT, dependence, leaf, plain};
 use ocr_base::{NoMemory, Seq};
 use ocr_code::{ArgCode, CallCode, Checked, ExprCode, Named, StmtCode};
 use ocr_guid::Guid;
@@ -67,52 +73,149 @@ fn eval<A: Api>(frame: &Frame, expr: &ExprCode, local: &mut Local, api: &mut A) 
         ExprCode::LastCode => Ok(local.code),
         ExprCode::Paramv(index) => {
             let index = eval(frame, index, local, api)?;
-            if index >= frame.params.len() as u64 {
-                return Err(stopped(BodyStop::BadIndex, local));
-            }
-            Ok(frame.params[index as usize])
+            Ok(parameter_at(frame, index, local)?)
         }
         ExprCode::Depv(index) => {
             let index = eval(frame, index, local, api)?;
-            if index >= frame.deps.len() as u64 {
-                return Err(stopped(BodyStop::BadIndex, local));
-            }
-            let dependence = frame.deps[index as usize];
-            Ok(dependence.0)
+            Ok(dependence_at(frame, index, local)?)
         }
-        ExprCode::Unary(op, operand) => {
-            let x = eval(frame, operand, local, api)?;
-            Ok(apply(*op, x))
-        }
+        ExprCode::Unary(op, of) => Ok(apply(*op, operand(frame, of, local, api)?)),
         ExprCode::Binary(op, left, right) => {
-            let x = eval(frame, left, local, api)?;
-            let y = eval(frame, right, local, api)?; // after the left one
-            match operate(*op, x, y) {
-                Ok(value) => Ok(value),
-                Err(stop) => Err(stopped(stop, local)),
-            }
+            let x = operand(frame, left, local, api)?;
+            let y = operand(frame, right, local, api)?; // after the left one
+            Ok(combine(*op, x, y, local)?)
         }
         ExprCode::WithNumber(op, place, number) => {
             pay(local)?; // for the variable
-            let x = read(frame, *place, local);
             pay(local)?; // for the number
-            combine(*op, x, *number, local)
+            combine(*op, read(frame, *place, local), *number, local)
         }
         ExprCode::WithVariable(op, place, other) => {
             pay(local)?; // for each variable
-            let x = read(frame, *place, local);
             pay(local)?;
-            let y = read(frame, *other, local);
-            combine(*op, x, y, local)
+            let x = read(frame, *place, local);
+            combine(*op, x, read(frame, *other, local), local)
         }
         ExprCode::Invoke(_) => unreachable!(),
     }
 }
 
-// A call, which is a node of its own.
+// The value of an operand of an operator. A variable and a call have no other function between.
+#[cycle(eval)]
+#[inline(always)]
+fn operand<A: Api>(
+    frame: &Frame,
+    expr: &ExprCode,
+    local: &mut Local,
+    api: &mut A,
+) -> Result<u64, Halt>
+    requires ready { A.is_ready api.old }
+    requires fits { Fits frame.now local.old }
+    requires placed { is_expr_in frame.now expr.now ≡ true }
+    requires begins { BeginsValue (next_of A.Api api.old)
+        (expr_part frame.now expr.now (A.holds api.old) local.old) }
+    ensures goes_on { GoesOn A.Api api.old api.new }
+    ensures still_fits { StillFits frame.now local.old local.new }
+    ensures ok { IfOk result (λ v. Yields A.Api api.old api.new
+        (expr_part frame.now expr.now (A.holds api.old) local.old) v frame.now local.new) }
+    ensures err { OnErr result (IsCause A.Api api.old api.new local.new.stop) }
+{
+    if let ExprCode::Invoke(call) = expr {
+        return invoke(frame, call, local, api);
+    }
+    if let ExprCode::Variable(place) = expr {
+        pay(local)?;
+        return Ok(read(frame, *place, local));
+    }
+    eval(frame, expr, local, api)
+}
+
+// A call, which is a node of its own. A load of what stands in leaves is done here, without a call
+// of any part of the walker; the others have functions with the same arguments, so that each goes
+// on to the next by a jump.
 #[cycle(eval)]
 #[inline(never)]
 fn invoke<A: Api>(
+    frame: &Frame,
+    call: &CallCode,
+    local: &mut Local,
+    api: &mut A,
+) -> Result<u64, Halt>
+    requires ready { A.is_ready api.old }
+    requires fits { Fits frame.now local.old }
+    requires placed { is_call_in frame.now call.now ≡ true }
+    requires begins { BeginsValue (next_of A.Api api.old)
+        (call_part frame.now call.now (A.holds api.old) local.old) }
+    ensures goes_on { GoesOn A.Api api.old api.new }
+    ensures still_fits { StillFits frame.now local.old local.new }
+    ensures ok { IfOk result (λ v. Yields A.Api api.old api.new
+        (call_part frame.now call.now (A.holds api.old) local.old) v frame.now local.new) }
+    ensures err { OnErr result (IsCause A.Api api.old api.new local.new.stop) }
+{
+    let CallCode::Load(block, word) = call else {
+        return invoke_store(frame, call, local, api);
+    };
+    if local.fuel < 4 {
+        return invoke_by_parts(frame, call, local, api);
+    }
+    let block = dependence(frame, block, local.fuel - 1, local);
+    if block.left == NONE_LEFT {
+        return invoke_by_parts(frame, call, local, api);
+    }
+    let word = leaf(frame, word, block.left, local);
+    if word.left == NONE_LEFT {
+        return invoke_by_parts(frame, call, local, api);
+    }
+    local.fuel = word.left;
+    load(frame, block.value, word.value, local, api)
+}
+
+// A store of what stands in leaves, which is done as such a load, or any other call.
+#[cycle(eval)]
+#[inline(never)]
+fn invoke_store<A: Api>(
+    frame: &Frame,
+    call: &CallCode,
+    local: &mut Local,
+    api: &mut A,
+) -> Result<u64, Halt>
+    requires ready { A.is_ready api.old }
+    requires fits { Fits frame.now local.old }
+    requires placed { is_call_in frame.now call.now ≡ true }
+    requires begins { BeginsValue (next_of A.Api api.old)
+        (call_part frame.now call.now (A.holds api.old) local.old) }
+    ensures goes_on { GoesOn A.Api api.old api.new }
+    ensures still_fits { StillFits frame.now local.old local.new }
+    ensures ok { IfOk result (λ v. Yields A.Api api.old api.new
+        (call_part frame.now call.now (A.holds api.old) local.old) v frame.now local.new) }
+    ensures err { OnErr result (IsCause A.Api api.old api.new local.new.stop) }
+{
+    let CallCode::Store(block, word, value) = call else {
+        return invoke_by_parts(frame, call, local, api);
+    };
+    if local.fuel < 5 {
+        return invoke_by_parts(frame, call, local, api);
+    }
+    let block = dependence(frame, block, local.fuel - 1, local);
+    if block.left == NONE_LEFT {
+        return invoke_by_parts(frame, call, local, api);
+    }
+    let word = leaf(frame, word, block.left, local);
+    if word.left == NONE_LEFT {
+        return invoke_by_parts(frame, call, local, api);
+    }
+    let value = leaf(frame, value, word.left, local);
+    if value.left == NONE_LEFT {
+        return invoke_by_parts(frame, call, local, api);
+    }
+    local.fuel = value.left;
+    store(frame, block.value, word.value, value.value, local, api)
+}
+
+// Any call, one part after another.
+#[cycle(eval)]
+#[inline(never)]
+fn invoke_by_parts<A: Api>(
     frame: &Frame,
     call: &CallCode,
     local: &mut Local,
@@ -252,6 +355,35 @@ fn find<A: Api>(frame: &Frame, expr: &ExprCode, local: &mut Local, api: &mut A) 
     Ok(found.value)
 }
 
+// A parameter by its index, or a stop for an index past the end.
+fn parameter_at(frame: &Frame, index: u64, local: &mut Local) -> Result<u64, Halt>
+    ensures keeps { Keeps local.old local.new }
+    ensures within { OnOk result (index < length frame.now.params.now) }
+    ensures ok { IfOk result (λ v. v ≡ slice_index frame.now.params.now index) }
+    ensures past { OnErr result (length frame.now.params.now ≤ index) }
+    ensures stop { OnErr result (local.new.stop ≡ BodyStop.BadIndex) }
+{
+    if index >= frame.params.len() as u64 {
+        return Err(stopped(BodyStop::BadIndex, local));
+    }
+    Ok(frame.params[index as usize])
+}
+
+// A dependence by its index, or a stop for an index past the end.
+fn dependence_at(frame: &Frame, index: u64, local: &mut Local) -> Result<u64, Halt>
+    ensures keeps { Keeps local.old local.new }
+    ensures within { OnOk result (index < length frame.now.deps.now) }
+    ensures ok { IfOk result (λ v. v ≡ slice_index frame.now.deps.now index) }
+    ensures past { OnErr result (length frame.now.deps.now ≤ index) }
+    ensures stop { OnErr result (local.new.stop ≡ BodyStop.BadIndex) }
+{
+    if index >= frame.deps.len() as u64 {
+        return Err(stopped(BodyStop::BadIndex, local));
+    }
+    let dependence = frame.deps[index as usize];
+    Ok(dependence.0)
+}
+
 // The value of an operator between two values, or a stop for a divisor 0.
 fn combine(op: BinaryOp, x: u64, y: u64, local: &mut Local) -> Result<u64, Halt>
     ensures keeps { Keeps local.old local.new }
@@ -375,6 +507,7 @@ fn ask<A: Api>(
 
 // A load.
 #[tactic(auto, using(crate::proofs::Rulesets::accessing))]
+#[inline(always)]
 fn load<A: Api>(
     frame: &Frame,
     block: u64,
@@ -400,6 +533,7 @@ fn load<A: Api>(
 
 // A store, which has the value 0.
 #[tactic(auto, using(crate::proofs::Rulesets::accessing))]
+#[inline(always)]
 fn store<A: Api>(
     frame: &Frame,
     block: u64,
@@ -569,9 +703,9 @@ fn zeros(alloc: Global, count: usize) -> Result<Vec<u64>, NoMemory>
 
 /// Runs a body to its end. It makes the calls that the body's meaning says, in their order, and
 /// ends as it says; `Closed` comes only where the run was found closed in this call, and any other
-/// stop but want of memory exactly where the body says it next. Nothing was stored before it; at its
-/// end the Api holds what the meaning says that the body holds, so the words that were stored in
-/// `Ew` are its private writes.
+/// stop but want of memory exactly where the body says it next. Nothing was stored before it; at
+/// its end the Api holds what the meaning says that the body holds, so the words that were stored
+/// in `Ew` are its private writes.
 pub fn walk<A: Api>(
     alloc: Global,
     program: &Checked,

@@ -5,8 +5,8 @@ use Rattle.ocr_meaning.specs.declared.call.Call.{Call}
 use Rattle.ocr_meaning.specs.declared.call.Answer.{Answer}
 use Rattle.ocr_meaning.specs.declared.call.BodyStop.{BodyStop}
 
--- What a body does from some moment on: it ends with a GUID and these holds, it stops the run, or it
--- makes a call and goes on by the answer. The writes are the private writes of the hold that the
+-- What a body does from some moment on: it ends with a GUID and these holds, it stops the run, or
+-- it makes a call and goes on by the answer. The writes are the private writes of the hold that the
 -- call ends where it is accepted.
 pub data Behaviour : Type 0 where
   Ends : (returned : ℕ) → (holds : Holds) → Behaviour

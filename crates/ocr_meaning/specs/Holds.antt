@@ -1,5 +1,6 @@
 -- What a body holds, what it stored there, and what its loads and stores come to.
-use Rattle.std.specs.Prelude.{ℕ, ◌/◌, List, [], Bool, true, false, nat_lt, ◌==◌, if◌then◌else◌, Option, Some, None, slice_index}
+use Rattle.std.specs.Prelude.{ℕ, ◌/◌, List, [], Bool, true, false, nat_lt, ◌==◌, if◌then◌else◌}
+use Rattle.std.specs.Prelude.{Option, Some, None, slice_index}
 use Rattle.ocr_guid.specs.declared.Code.{Code}
 use Rattle.ocr_guid.specs.declared.Code.TheVariants as code
 use Rattle.ocr_acquire.specs.declared.Mode.{Mode}
@@ -11,8 +12,8 @@ use Rattle.ocr_meaning.specs.declared.call.BodyStop.TheVariants as stop
 use Rattle.ocr_meaning.specs.declared.call.Call as calls
 use Rattle.ocr_meaning.specs.declared.call.Call.TheVariants as call
 
--- a hold of a block: its mode, the block's length in words, and in EW and CONST the words with which
--- the hold began, and what was stored there since, rising, each word with its last value
+-- a hold of a block: its mode, the block's length in words, and in EW and CONST the words with
+-- which the hold began, and what was stored there since, rising, each word with its last value
 pub record Hold : Type 0 where
   pub mode : Mode
   pub size : ℕ

@@ -44,8 +44,8 @@ MakesOnly IsSuch (Stops s) = IsSaid s
 MakesOnly IsSuch (Asks made writes next) =
     IsSuch made × ((a : Answer) → MakesOnly IsSuch (next a))
 
--- a body of a program whose calls name functions that are there and have short lists makes only such
--- calls
+-- a body of a program whose calls name functions that are there and have short lists makes only
+-- such calls
 abbrev pub ServedLaw : Type 0
 ServedLaw = (b : Body) (log : List Asked) → are_functions_named b.program ≡ true
     → are_lists_short b.program ≡ true

@@ -1,11 +1,14 @@
 -- The meaning of a body: what it does, computed from its tree. Each part is told what comes after.
-use Rattle.std.specs.Prelude.{ℕ, zero, suc, ◌+◌, ◌-◌, ◌*◌, ◌/◌, ◌%◌, ◌^◌, List, [], ◌∷◌, ◌++◌, length, slice_index, slice_index_or, nat_lt, nat_le, ◌==◌, bytes_eq, Bool, true, false, if◌then◌else◌, bit_and, bit_or, bit_xor}
+use Rattle.std.specs.Prelude.{ℕ, zero, suc, ◌+◌, ◌-◌, ◌*◌, ◌/◌, ◌%◌, ◌^◌, List, [], ◌∷◌, ◌++◌}
+use Rattle.std.specs.Prelude.{length, slice_index, slice_index_or, nat_lt, nat_le, ◌==◌, bytes_eq}
+use Rattle.std.specs.Prelude.{Bool, true, false, if◌then◌else◌, bit_and, bit_or, bit_xor}
 use Rattle.ocr_guid.specs.Code.{number_of}
 use Rattle.ocr_tree.specs.Constant.{value_of}
 use Rattle.ocr_tree.specs.Tree as tree
 use Rattle.ocr_tree.specs.Tree.{Statement, Statements, Expression, Arguments, names_in}
 use Rattle.ocr_meaning.specs.Behaviour.{Behaviour, Ends, Stops, Asks}
-use Rattle.ocr_meaning.specs.Holds.{Holds, Access, Refused, Silent, Entered, load_of, store_of, after_store, private_of, after_call}
+use Rattle.ocr_meaning.specs.Holds.{Holds, Access, Refused, Silent, Entered, load_of, store_of}
+use Rattle.ocr_meaning.specs.Holds.{after_store, private_of, after_call}
 use Rattle.ocr_meaning.specs.declared.call.BodyStop.TheVariants as stop
 use Rattle.ocr_meaning.specs.declared.call.Answer.{Answer}
 use Rattle.ocr_meaning.specs.declared.call.Call as calls

@@ -1,5 +1,6 @@
 -- Numbers of 64 bits, which are all that a body deals with.
-use Rattle.std.specs.Prelude.{◌≡◌, ◌<◌, ◌^◌, ℕ, List, [], ◌∷◌, Bool, true, ◌&&◌, nat_lt, length, All, Option, Some, None}
+use Rattle.std.specs.Prelude.{◌≡◌, ◌<◌, ◌^◌, ℕ, List, [], ◌∷◌, Bool, true, ◌&&◌, nat_lt, length}
+use Rattle.std.specs.Prelude.{All, Option, Some, None}
 use Rattle.ocr_meaning.specs.Holds.{Hold, Holds}
 use Rattle.ocr_meaning.specs.Behaviour.{Behaviour, Ends, Stops, Asks, Asked}
 use Rattle.ocr_meaning.specs.Body.{Body, says}

@@ -33,7 +33,7 @@ pub never_loaded : (here : Bool) (h : Hold) (w : ℕ) → is_isolated h.mode ≡
 never_loaded true h w is entered = silent_load (nat_lt w h.size) (is_isolated h.mode) _ is entered
 never_loaded false h w is entered = cc entered
 
-never_stored : (here : Bool) (h : Hold) (w : ℕ) → is_isolated h.mode ≡ true → store_of (if here then Some h else None) w ≡ Entered → ⊥
+pub never_stored : (here : Bool) (h : Hold) (w : ℕ) → is_isolated h.mode ≡ true → store_of (if here then Some h else None) w ≡ Entered → ⊥
 never_stored true h w is entered = silent_store (is_writable h.mode) (nat_lt w h.size) (is_isolated h.mode) is entered
 never_stored false h w is entered = cc entered
 

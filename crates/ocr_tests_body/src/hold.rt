@@ -109,7 +109,8 @@ impl Api for OneHold {
     }
 }
 
-fn raised(count: u64) -> u64
+/// One more, up to the last number.
+pub fn raised(count: u64) -> u64
     ensures rose { Rose count result }
     ensures more { count ≤ result }
 {
@@ -135,8 +136,8 @@ fn enter(entries: &mut Vec<(Call, Answer)>, call: Call, value: u64) -> Result<()
     }
 }
 
-// A load of a word of a loan.
-fn load_lent(lent: &Lent, word: u64) -> Result<u64, BodyStop>
+/// A load of a word of a loan. `BadIndex` where it has no such word.
+pub fn load_lent(lent: &Lent, word: u64) -> Result<u64, BodyStop>
     requires { is_isolated lent.now.mode ≡ true }
     ensures ok { IfOk result (λ v. (call : body.Call) (log : List Asked)
         → IsAccessed (load_of (Some (lent_hold lent.now)) word) call v log log) }
@@ -149,9 +150,10 @@ fn load_lent(lent: &Lent, word: u64) -> Result<u64, BodyStop>
     Ok(lent.load(word as u32))
 }
 
-// A store in a word of a loan.
+/// A store in a word of a loan. `NotWritable` where it is in `Const`, `BadIndex` where it has no
+/// such word, or `NoMemory`.
 #[tactic(auto, using(crate::proofs::Entries::silent_refused, crate::proofs::Entries::silent_at))]
-fn store_lent(alloc: Global, lent: &mut Lent, word: u64, value: u64) -> Result<(), BodyStop>
+pub fn store_lent(alloc: Global, lent: &mut Lent, word: u64, value: u64) -> Result<(), BodyStop>
     requires { is_isolated lent.old.mode ≡ true }
     ensures mode { lent.new.mode ≡ lent.old.mode }
     ensures began { lent.new.began ≡ lent.old.began }

@@ -3,7 +3,7 @@
 
 mod hold;
 
-pub use hold::{Access, Hold, OneHold};
+pub use hold::{Access, Hold, OneHold, load_lent, raised, store_lent};
 
 #[cfg(test)]
 mod tests;
