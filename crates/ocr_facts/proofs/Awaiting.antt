@@ -24,7 +24,7 @@ use Rattle.ocr_parts.specs.declared.part.Part.TheVariants as part
 use Rattle.ocr_parts.specs.Calls.{mode_named}
 use Rattle.ocr_parts.specs.Effects.{called, changed, doomed_template, granted, hold_ended, new_face, next_mode_on, readied_on}
 use Rattle.ocr_parts.specs.Footprint.{on_face}
-use Rattle.ocr_parts.specs.Kinds.{IsBlock, is_acquiring, is_acquiring_edt, loan_on, with_block, with_links, with_template}
+use Rattle.ocr_parts.specs.Kinds.{IsBlock, is_acquiring, is_acquiring_edt, loan_on, with_block, with_links, with_template, with_event}
 use Rattle.ocr_parts.specs.LegalOn.{IsCallOn, IsTaken}
 use Rattle.ocr_parts.specs.Legal.{IsRun, IsLegal}
 use Rattle.ocr_parts.specs.Messages.{resumed_by, resumed_by_call, resumed_by_doom, resumes}
@@ -35,7 +35,8 @@ use Rattle.ocr_quiet.specs.Waits.{AreStanding, IsOnce, awaits, awaits_in, queue_
 use Rattle.ocr_quiet.proofs.Choices.{on_from}
 use Rattle.ocr_quiet.proofs.Stages.{once}
 use Rattle.ocr_turns.specs.Counting.{is_in}
-use Rattle.ocr_facts.proofs.Queues.{Leaves, doomed, granted_queue, links_queue, released, template_queue}
+use Rattle.ocr_facts.proofs.Queues.{Leaves, doomed, granted_queue, links_queue, released, template_queue, event_queue}
+use Rattle.ocr_any_event.specs.AnyEvent.{after_destroy}
 
 -- WHO STANDS in the queue of a block
 abbrev pub IsQueued : Parts → ℕ → ℕ → Type 0
@@ -192,6 +193,9 @@ done_effect limit f u home (call.TemplateCreate function pc dc) a w legal done o
 done_effect limit f u home (call.EdtCreate from pc ps dc ds fl o) a w legal done once within = inl (refl, vacant_still f a.value (new_face (f.face from) dc ds) (legal.value.named.fresh done).vacant (new_queue (f.face from) dc ds))
 done_effect limit f u home (call.Store d k v) a w legal done once within = inl (refl, face_still f d (with_block (f.face d) (λ st. block_steps.after_store st k v)) (block_queue (f.face d) (λ st. block_steps.after_store st k v) (λ st. refl)))
 done_effect limit f u home (call.AddDependence from x i m) a w legal done once within = inl (refl, face_still f x (with_links (f.face x) (λ slots. after_link slots i (mode_named m))) (links_queue (f.face x) (λ slots. after_link slots i (mode_named m))))
+done_effect limit f u home (call.EventCreate k fl) a w legal done once within = inl (refl, vacant_still f a.value _ (legal.value.fresh done).vacant refl)
+done_effect limit f u home (call.EventCreateParams k fl most sats nd) a w legal done once within = inl (refl, vacant_still f a.value _ (legal.value.fresh done).vacant refl)
+done_effect limit f u home (call.EventDestroy x) a w legal done once within = inl (refl, face_still f x (with_event (f.face x) after_destroy) (event_queue (f.face x) after_destroy))
 done_effect limit f u home (call.TemplateDestroy x) a w legal done once within = inl (refl, face_still f x (with_template (f.face x) doomed_template) (template_queue (f.face x) doomed_template))
 done_effect limit f u home (call.DbRelease d) a w legal done once within =
     let leaves = release_leaves (f.face d) u w (loan_on (f.core u) d) _ (legal.value.0 done) (once d) in

@@ -3,6 +3,7 @@ use Rattle.std.proofs.Common.{◌≡◌, ℕ, zero, suc, ◌≤◌, Bool, true, 
 use Rattle.std.proofs.lemmas.Grind.{common_steps}
 use Rattle.std.proofs.lemmas.Bool.{eqb-true}
 use Rattle.std.proofs.lemmas.List.{reverse-append}
+use Rattle.ocr_guid.specs.Target.{EventCall}
 use mathlib.Core.Option.{some, some-injective, some-ne-none}
 use lib.ListN.{get_elem?}
 use Rattle.ocr_guid.specs.declared.Code.TheVariants as code
@@ -18,7 +19,7 @@ use Rattle.ocr_history.specs.History as history
 use Rattle.ocr_history.specs.Made.{Made, MadeBlock, MadeTemplate, MadeEdt, depc_in, edt_from, made, makes}
 use Rattle.ocr_parts.specs.declared.part.Part.{Part}
 use Rattle.ocr_parts.specs.declared.part.Part.TheVariants as part
-use Rattle.ocr_parts.specs.Calls.{block_calls, depc_of, is_doomed, link_calls}
+use Rattle.ocr_parts.specs.Calls.{block_calls, depc_of, event_calls, link_calls}
 use Rattle.ocr_parts.specs.Codes.{ATemplate, is_of_other_kind}
 use Rattle.ocr_parts.specs.Effects.{settled_parts}
 use Rattle.ocr_parts.specs.Footprint.{Covers, is_touched, on_face}
@@ -111,7 +112,7 @@ sends_same : (e : Entry) (f h : Parts) → sends e f ≡ sends e h
 sends_same (Call t home c a w) f h = refl
 sends_same other f h = refl
 
-settled_resumes : (e : Entry) (f : Parts) → resumes e (settled_parts f) ≡ resumes e f
+pub settled_resumes : (e : Entry) (f : Parts) → resumes e (settled_parts f) ≡ resumes e f
 settled_resumes (Call t home c a w) f = call_same c
   where
     call_same : (c : body.Call) → resumes (Call t home c a w) (settled_parts f) ≡ resumes (Call t home c a w) f
@@ -122,11 +123,9 @@ settled_resumes (Free t d w) f = refl
 settled_resumes other f = refl
 
 -- THE SLOTS of an EDT that is made, by its template's face
-face_slots : (m : Option Made) (links : List slot.SlotCall) (blocks : List block.BlockCall) (doomed : Bool) (ps : List ℕ) (dc : ℕ) → is_template (face m links blocks doomed) ≡ true → depc_in (edt_from m ps dc) ≡ slots_meant (face m links blocks doomed) dc
-face_slots (Some (MadeTemplate f pc own)) links blocks doomed ps dc is = refl
-face_slots (Some (MadeBlock n c)) links blocks doomed ps dc is = cc is
-face_slots (Some (MadeEdt f own n)) links blocks doomed ps dc is = cc is
-face_slots None links blocks doomed ps dc is = cc is
+face_slots : (m : Option Made) (links : List slot.SlotCall) (blocks : List block.BlockCall) (events : List EventCall) (ps : List ℕ) (dc : ℕ) → is_template (face m links blocks events) ≡ true → depc_in (edt_from m ps dc) ≡ slots_meant (face m links blocks events) dc
+face_slots (Some (MadeTemplate f pc own)) links blocks events ps dc is = refl
+face_slots other links blocks events ps dc is = cc is
 
 seen_slots : (x : Part) (dc : ℕ) → slots_meant (as_face x) dc ≡ slots_meant x dc
 seen_slots (part.Core c) dc = refl
@@ -167,7 +166,7 @@ counts_are t J (Call u home (call.EdtCreate from pc ps dc ds fl o) a w) kept eno
     let seen_face : f.face from ≡ as_face (look kept from) = rw inside at here in
     let made_v : makes a a.value ≡ true = both_on (is_done a.code) (a.value == a.value) done (number_same a.value) in
     ap depc_in (chosen_on (makes a a.value) (edt_from (made s past from) ps dc) (made s past a.value) made_v)
-    ∙ (face_slots (made s past from) (link_calls past from) (block_calls s past from) (is_doomed past from) ps dc template
+    ∙ (face_slots (made s past from) (link_calls past from) (block_calls s past from) (event_calls past from) ps dc template
     ∙ (ap (λ (x : Part). slots_meant x dc) seen_face ∙ seen_slots (look kept from) dc)))
 counts_are t J (Call u home other a w) kept enough run legal covers are = refl
 counts_are t J other kept enough run legal covers are = refl

@@ -1,6 +1,7 @@
 -- What an entry makes was not made before.
 use Rattle.std.proofs.Common.{◌≡◌, ◌≢◌, ℕ, zero, suc, ◌+◌, ◌≤◌, List, [], ◌∷◌, reverse, Bool, true, false, ◌==◌, ◌&&◌, ◌||◌, if◌then◌else◌, Option, Some, None, Ok, Err, is_some, refl, sym, ◌∙◌, ap, subst, arith}
 use Rattle.std.proofs.lemmas.Grind.{common_steps}
+use Rattle.ocr_guid.specs.Target.{EventCall, was_destroyed}
 use Rattle.ocr_guid.specs.declared.Code.TheVariants as code
 use Rattle.ocr_base.specs.declared.limits.TheConstants.{MOST_PARAMETERS, MOST_DEPENDENCES}
 use Rattle.ocr_template.specs.declared.Template.{Template}
@@ -16,7 +17,7 @@ use Rattle.ocr_history.specs.declared.entry.Entry.{Entry}
 use Rattle.ocr_history.specs.declared.entry.Entry.TheVariants.{Call}
 use Rattle.ocr_history.specs.History.{History, Setting}
 use Rattle.ocr_history.specs.Made.{Made, MadeBlock, MadeTemplate, MadeEdt, edt_from, is_edt, is_edt_made, made, makes, opened, depc_in}
-use Rattle.ocr_parts.specs.Calls.{block_calls, is_doomed, link_calls}
+use Rattle.ocr_parts.specs.Calls.{block_calls, event_calls, link_calls}
 use Rattle.ocr_parts.specs.Codes.{counted_code, creation_code}
 use Rattle.ocr_parts.specs.LegalOn.{IsNamed}
 use Rattle.ocr_parts.specs.Parts.{face, parts_of}
@@ -60,9 +61,9 @@ makes_it a n done is = rw done (subst (λ (k : ℕ). (a.value == k) ≡ true) is
 pub named_in : (s : Setting) (past : History) (u home : ℕ) (c : body.Call) (a : Answer) (w : List (ℕ × ℕ)) → IsLegal s past (Call u home c a w) → is_creation c ≡ true → IsNamed s.limit (parts_of s past) a
 named_in s past u home (call.DbCreate n fl) a w legal is = legal.on_parts.value
 named_in s past u home (call.TemplateCreate f pc dc) a w legal is = legal.on_parts.value
+named_in s past u home (call.EventCreate kind fl) a w legal is = legal.on_parts.value
+named_in s past u home (call.EventCreateParams kind fl most sats nd) a w legal is = legal.on_parts.value
 named_in s past u home (call.EdtCreate from pc ps dc ds fl o) a w legal is = legal.on_parts.value.named
-named_in s past u home (call.EventCreate kind fl) a w legal is = absurd legal.on_parts.value
-named_in s past u home (call.EventCreateParams kind fl mg ns nd) a w legal is = absurd legal.on_parts.value
 named_in s past u home other a w legal is = cc is
 
 pub free_before : (s : Setting) (past : History) (u home : ℕ) (c : body.Call) (a : Answer) (w : List (ℕ × ℕ)) (n : ℕ) → IsLegal s past (Call u home c a w) → MakesOne c a n → (made s past n ≡ None) × (is_within s.limit n ≡ true)
@@ -84,11 +85,11 @@ or_left_true false b is = cc is
 pub made_after : (s : Setting) (past : History) (u home : ℕ) (c : body.Call) (a : Answer) (w : List (ℕ × ℕ)) (n : ℕ) → IsRun s past → IsLegal s past (Call u home c a w) → MakesOne c a n → is_some (made s (Call u home c a w ∷ past) n) ≡ true
 made_after s past u home (call.DbCreate z fl) a w n run legal one = made_if (makes a n) _ (made s past n) (makes_it a n one.done one.number)
 made_after s past u home (call.TemplateCreate f pc dc) a w n run legal one = made_if (makes a n) _ (made s past n) (makes_it a n one.done one.number)
+made_after s past u home (call.EventCreate kind fl) a w n run legal one = made_if (makes a n) _ (made s past n) (makes_it a n one.done one.number)
+made_after s past u home (call.EventCreateParams kind fl most sats nd) a w n run legal one = made_if (makes a n) _ (made s past n) (makes_it a n one.done one.number)
 made_after s past u home (call.EdtCreate from pc ps dc ds fl o) a w n run legal one =
     let e : Entry = Call u home (call.EdtCreate from pc ps dc ds fl o) a w in
     edt_some (made s (e ∷ past) n) (edts_law s (e ∷ past) (run, legal) n ∙ or_left_true (makes a n) (is_edt past n) (makes_it a n one.done one.number))
-made_after s past u home (call.EventCreate kind fl) a w n run legal one = absurd legal.on_parts.value
-made_after s past u home (call.EventCreateParams kind fl mg ns nd) a w n run legal one = absurd legal.on_parts.value
 made_after s past u home other a w n run legal one = cc one.creation
 
 -- WHAT IS NOT MADE was made by no entry, and not at the opening
@@ -142,15 +143,13 @@ counted t pc dc ps ds fl is = elim (is_refused t.paramc pc MOST_PARAMETERS || is
     right true b is = cc is
     right false b is = is
 
-from_few : (m : Option Made) (links : List slot.SlotCall) (blocks : List block.BlockCall) (doomed : Bool) (pc dc : ℕ) (ps ds : List ℕ) (fl : ℕ) → creation_code (face m links blocks doomed) pc ps dc ds fl ≡ code.Done → depc_in (edt_from m ps dc) ≤ 32
-from_few (Some (MadeTemplate f own_pc own_dc)) links blocks doomed pc dc ps ds fl is = counted (record { function = f; paramc = own_pc; depc = own_dc; destroyed = doomed }) pc dc ps ds fl is
-from_few (Some (MadeBlock n c)) links blocks doomed pc dc ps ds fl is = cc is
-from_few (Some (MadeEdt f own n)) links blocks doomed pc dc ps ds fl is = cc is
-from_few None links blocks doomed pc dc ps ds fl is = cc is
+from_few : (m : Option Made) (links : List slot.SlotCall) (blocks : List block.BlockCall) (events : List EventCall) (pc dc : ℕ) (ps ds : List ℕ) (fl : ℕ) → creation_code (face m links blocks events) pc ps dc ds fl ≡ code.Done → depc_in (edt_from m ps dc) ≤ 32
+from_few (Some (MadeTemplate f own_pc own_dc)) links blocks events pc dc ps ds fl is = counted (record { function = f; paramc = own_pc; depc = own_dc; destroyed = was_destroyed events }) pc dc ps ds fl is
+from_few other links blocks events pc dc ps ds fl is = cc is
 
 pub few_slots : (s : Setting) (past : History) (u home from pc dc fl : ℕ) (ps ds : List ℕ) (o : Bool) (a : Answer) (w : List (ℕ × ℕ)) → is_done a.code ≡ true → IsLegal s past (Call u home (call.EdtCreate from pc ps dc ds fl o) a w)
     → depc_in (edt_from (made s past from) ps dc) ≤ 32
 few_slots s past u home from pc dc fl ps ds o a w done legal =
     let is_code : a.code ≡ code.Done = done_is a.code done in
-    from_few (made s past from) (link_calls past from) (block_calls s past from) (is_doomed past from) pc dc ps ds fl
+    from_few (made s past from) (link_calls past from) (block_calls s past from) (event_calls past from) pc dc ps ds fl
     (accepted u (parts_of s past).face (call.EdtCreate from pc ps dc ds fl o) (sym legal.on_parts.code ∙ is_code))

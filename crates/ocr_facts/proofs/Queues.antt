@@ -14,7 +14,8 @@ use Rattle.ocr_template.specs.declared.Template.{Template}
 use Rattle.ocr_parts.specs.declared.part.Part.{Part}
 use Rattle.ocr_parts.specs.declared.part.Part.TheVariants as part
 use Rattle.ocr_parts.specs.Effects.{granted, hold_ended, returned}
-use Rattle.ocr_parts.specs.Kinds.{with_links, with_template}
+use Rattle.ocr_parts.specs.Kinds.{with_links, with_template, with_event}
+use Rattle.ocr_any_event.specs.declared.AnyEvent.{AnyEvent}
 use Rattle.ocr_parts.specs.LegalOn.{IsTaken, IsRefused}
 use Rattle.ocr_quiet.specs.Waits.{queue_on, stands}
 use Rattle.ocr_quiet.proofs.Standing.{once_tail, returned_kept}
@@ -158,3 +159,7 @@ links_queue other step = refl
 pub template_queue : (x : Part) (step : Template → Template) → queue_on (with_template x step) ≡ queue_on x
 template_queue (part.Template t) step = refl
 template_queue other step = refl
+
+pub event_queue : (x : Part) (step : AnyEvent → AnyEvent) → queue_on (with_event x step) ≡ queue_on x
+event_queue (part.Event st) step = refl
+event_queue other step = refl

@@ -40,9 +40,7 @@ slots_in other = None
 
 pub edt_slots : (m : Option Made) → is_edt_made m ≡ true → slots_in m ≡ Some (depc_in m)
 edt_slots (Some (MadeEdt f ps n)) is = refl
-edt_slots (Some (MadeBlock n c)) is = cc is
-edt_slots (Some (MadeTemplate f pc dc)) is = cc is
-edt_slots None is = cc is
+edt_slots other is = cc is
 
 opened_slots : (s : history.Setting) (n : ℕ) → (if MAIN_EDT == n then Some 1 else None) ≡ slots_in (opened s n)
 opened_slots s n = elim (n == ARGUMENTS) as (λ b. (n == ARGUMENTS) ≡ b → (if MAIN_EDT == n then Some 1 else None) ≡ slots_in (opened s n)) [
@@ -96,6 +94,8 @@ pub slots_are : (t : Terms Setting) (past : History) (n : ℕ) → IsRun (of_ter
 slots_are t [] n run = opened_slots (of_terms t) n
 slots_are t (Call u home (call.DbCreate z fl) a w ∷ past) n run = other_new (makes a n) _ (made (of_terms t) past n) _ refl (λ on. (new_free (of_terms t) past a n run.1.on_parts.value on).0) (slots_are t past n run.0)
 slots_are t (Call u home (call.TemplateCreate f pc dc) a w ∷ past) n run = other_new (makes a n) _ (made (of_terms t) past n) _ refl (λ on. (new_free (of_terms t) past a n run.1.on_parts.value on).0) (slots_are t past n run.0)
+slots_are t (Call u home (call.EventCreate kind fl) a w ∷ past) n run = other_new (makes a n) _ (made (of_terms t) past n) _ refl (λ on. (new_free (of_terms t) past a n run.1.on_parts.value on).0) (slots_are t past n run.0)
+slots_are t (Call u home (call.EventCreateParams kind fl most sats nd) a w ∷ past) n run = other_new (makes a n) _ (made (of_terms t) past n) _ refl (λ on. (new_free (of_terms t) past a n run.1.on_parts.value on).0) (slots_are t past n run.0)
 slots_are t (Call u home (call.EdtCreate from pc ps dc ds fl o) a w ∷ past) n run =
     let s = of_terms t in
     let e : Entry = Call u home (call.EdtCreate from pc ps dc ds fl o) a w in
@@ -111,9 +111,7 @@ slots_are t (other ∷ past) n run = slots_are t past n run.0
 -- PAYLOADS. What is set is set of an EDT
 pub depc_edt : (m : Option Made) (k : ℕ) → k < depc_in m → is_edt_made m ≡ true
 depc_edt (Some (MadeEdt f ps n)) k lt = refl
-depc_edt (Some (MadeBlock n c)) k lt = absurd (omega (arith, lt))
-depc_edt (Some (MadeTemplate f pc dc)) k lt = absurd (omega (arith, lt))
-depc_edt None k lt = absurd (omega (arith, lt))
+depc_edt other k lt = absurd (omega (arith, lt))
 
 abbrev IsSetIn : List slot.SlotCall → ℕ → Type 0
 IsSetIn cs k = is_some (slot.payload_of cs k) ≡ true

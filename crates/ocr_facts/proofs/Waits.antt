@@ -183,9 +183,7 @@ acquiring_stage other is = cc is
 
 acquiring_made : (m : Option Made) (t : ℕ) (cs : List edt.EdtCall) (loans : List (ℕ × Kept)) (step : Core → Core) → is_acquiring (on_core (core m t cs loans) step) ≡ true → is_edt_made m ≡ true
 acquiring_made (Some (MadeEdt f ps n)) t cs loans step is = refl
-acquiring_made (Some (MadeBlock n c)) t cs loans step is = cc is
-acquiring_made (Some (MadeTemplate f pc dc)) t cs loans step is = cc is
-acquiring_made None t cs loans step is = cc is
+acquiring_made other t cs loans step is = cc is
 
 chosen_on : {A : Type 0} (b : Bool) (x y : A) → b ≡ true → (if b then x else y) ≡ x
 chosen_on true x y is = refl

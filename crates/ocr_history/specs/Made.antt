@@ -13,12 +13,14 @@ use Rattle.ocr_history.specs.History.{History, Setting}
 use Rattle.ocr_history.specs.Numbers.{placed}
 
 -- what an object is: a block with so many words and the EDT that held it as its creator, 0 where
--- none did, a template of this function with its counts, or an EDT with its function, its parameters
--- and the number of its slots
+-- none did, a template of this function with its counts, an EDT with its function, its parameters
+-- and the number of its slots, or an event of the kind of this number with its flags, a channel with
+-- the most satisfactions that it keeps
 pub data Made : Type 0 where
   MadeBlock : (words creator : ℕ) → Made
   MadeTemplate : (function paramc depc : ℕ) → Made
   MadeEdt : (function : ℕ) → (params : List ℕ) → (depc : ℕ) → Made
+  MadeEvent : (kind flags most : ℕ) → Made
 
 -- an accepted creation with this answer makes this object
 abbrev pub makes : Answer → ℕ → Bool
@@ -54,6 +56,10 @@ made s (Call t home (call.TemplateCreate f pc dc) answer writes ∷ past) g =
     if makes answer g then Some (MadeTemplate f pc dc) else made s past g
 made s (Call t home (call.EdtCreate from pc ps dc ds fl o) answer writes ∷ past) g =
     if makes answer g then edt_from (made s past from) ps dc else made s past g
+made s (Call t home (call.EventCreate k fl) answer writes ∷ past) g =
+    if makes answer g then Some (MadeEvent k fl 0) else made s past g
+made s (Call t home (call.EventCreateParams k fl most sats deps) answer writes ∷ past) g =
+    if makes answer g then Some (MadeEvent k fl most) else made s past g
 made s (e ∷ past) g = made s past g
 
 -- this object is an EDT

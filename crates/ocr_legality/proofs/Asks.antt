@@ -1,5 +1,6 @@
 -- What is told of a call that comes next.
 use Rattle.std.proofs.Common.{◌≡◌, ℕ, ◌+◌, ◌/◌, List, [], ◌∷◌, Bool, true, false, if◌then◌else◌, ◌&&◌, Option, Some, None, refl, sym, ◌∙◌, ap, subst, slice_index}
+use Rattle.ocr_guid.specs.Target.{EventCall}
 use Rattle.ocr_guid.specs.declared.Code.{Code}
 use Rattle.ocr_guid.specs.declared.Code.TheVariants as code
 use Rattle.ocr_guid.specs.Code.{number_of}
@@ -9,11 +10,11 @@ use Rattle.ocr_meaning.specs.declared.call.Call as body
 use Rattle.ocr_meaning.specs.declared.call.Call.TheVariants as call
 use Rattle.ocr_meaning.specs.declared.call.Answer.{Answer}
 use Rattle.ocr_history.specs.History.{History, Setting}
-use Rattle.ocr_history.specs.Made.{Made, MadeBlock, MadeEdt, MadeTemplate, made}
+use Rattle.ocr_history.specs.Made.{Made, MadeBlock, MadeEdt, MadeEvent, MadeTemplate, made}
 use Rattle.ocr_history.specs.Weight.{call_weight}
 use Rattle.ocr_parts.specs.declared.part.Part.{Part}
 use Rattle.ocr_parts.specs.declared.part.Part.TheVariants as part
-use Rattle.ocr_parts.specs.Calls.{edt_calls, loans_of, link_calls, block_calls, is_doomed}
+use Rattle.ocr_parts.specs.Calls.{edt_calls, loans_of, link_calls, block_calls, event_calls}
 use Rattle.ocr_parts.specs.Parts.{Parts, face, core, parts_of}
 use Rattle.ocr_parts.specs.Kinds.{IsBlock, is_running, mode_on}
 use Rattle.ocr_parts.specs.Codes.{code_of}
@@ -35,14 +36,15 @@ pub room_found : (s : Setting) (past : History) (table : Table) (answer : Bool) 
 room_found s past table answer of tested = subst (Whether answer) (room_is s past table of) tested
 
 -- what has no face has no core
-coreless_of : (m : Option Made) (links : _) (blocks : _) (doomed : Bool) (t : ℕ) (calls : _) (loans : _) → face m links blocks doomed ≡ part.Vacant → core m t calls loans ≡ part.Vacant
-coreless_of None links blocks doomed t calls loans is = refl
-coreless_of (Some (MadeBlock n c)) links blocks doomed t calls loans is = cc is
-coreless_of (Some (MadeTemplate f pc dc)) links blocks doomed t calls loans is = cc is
-coreless_of (Some (MadeEdt f ps n)) links blocks doomed t calls loans is = cc is
+coreless_of : (m : Option Made) (links : _) (blocks : _) (events : List EventCall) (t : ℕ) (calls : _) (loans : _) → face m links blocks events ≡ part.Vacant → core m t calls loans ≡ part.Vacant
+coreless_of None links blocks events t calls loans is = refl
+coreless_of (Some (MadeBlock n c)) links blocks events t calls loans is = cc is
+coreless_of (Some (MadeTemplate f pc dc)) links blocks events t calls loans is = cc is
+coreless_of (Some (MadeEdt f ps n)) links blocks events t calls loans is = cc is
+coreless_of (Some (MadeEvent k fl most)) links blocks events t calls loans is = cc is
 
 coreless : (s : Setting) (past : History) (g : ℕ) → (parts_of s past).face g ≡ part.Vacant → (parts_of s past).core g ≡ part.Vacant
-coreless s past g is = coreless_of (made s past g) (link_calls past g) (block_calls s past g) (is_doomed past g) g (edt_calls s past g) (loans_of s past g) is
+coreless s past g is = coreless_of (made s past g) (link_calls past g) (block_calls s past g) (event_calls past g) g (edt_calls s past g) (loans_of s past g) is
 
 -- AN ANSWER
 abbrev said : Code → ℕ → Answer
@@ -71,6 +73,9 @@ answer s past t (call.DbRelease d) k room roomy on = (number_of k, refl)
 answer s past t (call.DbDestroy d) k room roomy on = (number_of k, refl)
 answer s past t (call.TemplateDestroy x) k room roomy on = (number_of k, refl)
 answer s past t (call.AddDependence from x i m) k room roomy on = (number_of k, refl)
+answer s past t (call.EventCreate kind fl) k room roomy on = named s.limit (parts_of s past) k room roomy on
+answer s past t (call.EventCreateParams kind fl most sats nd) k room roomy on = named s.limit (parts_of s past) k room roomy on
+answer s past t (call.EventDestroy x) k room roomy on = (number_of k, refl)
 answer s past t other k room roomy on = absurd on
 
 -- and where there is one
@@ -95,6 +100,9 @@ has_answer limit f t (call.DbRelease d) a room done roomy is on = tt
 has_answer limit f t (call.DbDestroy d) a room done roomy is on = tt
 has_answer limit f t (call.TemplateDestroy x) a room done roomy is on = tt
 has_answer limit f t (call.AddDependence from x i m) a room done roomy is on = tt
+has_answer limit f t (call.EventCreate kind fl) a room done roomy is on = roomy_by limit f a room done roomy is on
+has_answer limit f t (call.EventCreateParams kind fl most sats nd) a room done roomy is on = roomy_by limit f a room done roomy is on
+has_answer limit f t (call.EventDestroy x) a room done roomy is on = tt
 has_answer limit f t other a room done roomy is on = absurd on
 
 weight_by : (c : body.Call) (a : Answer) (count : ℕ) (done : Bool) → is_done a.code ≡ done → weight_with c count a ≡ weighs c done count

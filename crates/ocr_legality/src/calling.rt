@@ -60,6 +60,7 @@ pub(crate) fn is_shared(table: &Table, edt: Guid, block: u64, word: u64) -> bool
         Some(Part::Core(_)) => false,
         Some(Part::Edt(_)) => false,
         Some(Part::Template(_)) => false,
+        Some(Part::Event(_)) => false,
         None => false,
     }
 }
@@ -81,6 +82,7 @@ fn is_loaded(table: &Table, edt: Guid, block: u64, word: u64, value: u64) -> boo
         Some(Part::Core(_)) => false,
         Some(Part::Edt(_)) => false,
         Some(Part::Template(_)) => false,
+        Some(Part::Event(_)) => false,
         None => false,
     }
 }
@@ -113,9 +115,9 @@ fn answers(table: &Table, edt: Guid, call: &Call, answer: &Answer) -> bool
         Call::DbDestroy { .. } => answer.value == answer.code.number(),
         Call::TemplateDestroy { .. } => answer.value == answer.code.number(),
         Call::AddDependence { .. } => answer.value == answer.code.number(),
-        Call::EventCreate { .. } => false,
-        Call::EventCreateParams { .. } => false,
-        Call::EventDestroy { .. } => false,
+        Call::EventCreate { .. } => is_named(table, answer),
+        Call::EventCreateParams { .. } => is_named(table, answer),
+        Call::EventDestroy { .. } => answer.value == answer.code.number(),
         Call::Satisfy { .. } => false,
         Call::Shutdown => false,
         Call::Abort { .. } => false,

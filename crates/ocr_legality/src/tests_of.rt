@@ -30,6 +30,7 @@ pub fn is_running(table: &Table, edt: u64) -> bool
         Some(Part::Edt(_)) => false,
         Some(Part::Block(_)) => false,
         Some(Part::Template(_)) => false,
+        Some(Part::Event(_)) => false,
         None => false,
     }
 }
@@ -50,6 +51,7 @@ pub fn least_held(table: &Table, edt: u64) -> Option<Guid>
         Some(Part::Edt(_)) => None,
         Some(Part::Block(_)) => None,
         Some(Part::Template(_)) => None,
+        Some(Part::Event(_)) => None,
         None => None,
     }
 }
@@ -70,6 +72,7 @@ pub(crate) fn begins(table: &Table, edt: u64) -> bool
         Some(Part::Edt(_)) => false,
         Some(Part::Block(_)) => false,
         Some(Part::Template(_)) => false,
+        Some(Part::Event(_)) => false,
         None => false,
     }
 }
@@ -96,6 +99,7 @@ fn opens(table: &Table, block: u64, mode: Mode) -> bool
         Some(Part::Core(_)) => false,
         Some(Part::Edt(_)) => false,
         Some(Part::Template(_)) => false,
+        Some(Part::Event(_)) => false,
         None => false,
     }
 }
@@ -110,6 +114,7 @@ pub(crate) fn shuts(table: &Table, block: u64, mode: Mode) -> bool
         Some(Part::Core(_)) => false,
         Some(Part::Edt(_)) => false,
         Some(Part::Template(_)) => false,
+        Some(Part::Event(_)) => false,
         None => false,
     }
 }
@@ -124,6 +129,7 @@ pub(crate) fn is_gone(table: &Table, block: u64) -> bool
         Some(Part::Core(_)) => false,
         Some(Part::Edt(_)) => false,
         Some(Part::Template(_)) => false,
+        Some(Part::Event(_)) => false,
         None => false,
     }
 }
@@ -138,6 +144,7 @@ pub(crate) fn is_held(table: &Table, block: u64, edt: Guid) -> bool
         Some(Part::Core(_)) => false,
         Some(Part::Edt(_)) => false,
         Some(Part::Template(_)) => false,
+        Some(Part::Event(_)) => false,
         None => false,
     }
 }
@@ -159,6 +166,7 @@ pub(crate) fn has_no_face(table: &Table, object: u64) -> bool
         Some(Part::Edt(_)) => false,
         Some(Part::Block(_)) => false,
         Some(Part::Template(_)) => false,
+        Some(Part::Event(_)) => false,
         None => true,
     }
 }
@@ -173,6 +181,7 @@ pub(crate) fn has_no_core(table: &Table, edt: u64) -> bool
         Some(Part::Edt(_)) => true,
         Some(Part::Block(_)) => true,
         Some(Part::Template(_)) => true,
+        Some(Part::Event(_)) => true,
         None => true,
     }
 }
@@ -193,6 +202,7 @@ pub(crate) fn mode_at(table: &Table, edt: Guid, block: u64) -> Option<Mode>
         Some(Part::Edt(_)) => None,
         Some(Part::Block(_)) => None,
         Some(Part::Template(_)) => None,
+        Some(Part::Event(_)) => None,
         None => None,
     }
 }

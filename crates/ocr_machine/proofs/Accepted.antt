@@ -12,8 +12,9 @@ use Rattle.ocr_template.specs.declared.Template.{Template}
 use Rattle.ocr_template.specs.Template.{counts_of, count_meant}
 use Rattle.ocr_parts.specs.declared.part.Part.{Part}
 use Rattle.ocr_parts.specs.declared.part.Part.TheVariants as part
-use Rattle.ocr_parts.specs.Codes.{wanted, wanted_sources, is_any, is_missing, is_of_other_kind, is_refused_as_stale, is_its_own, number_code, block_code, counted_code, creation_code, dependence_code, link_code, code_of}
-use Rattle.ocr_parts.specs.Kinds.{IsBlock, is_template, is_destroyed}
+use Rattle.ocr_parts.specs.Codes.{wanted, wanted_sources, is_any, is_missing, is_of_other_kind, is_refused_as_stale, is_its_own, number_code, block_code, counted_code, creation_code, event_code, channel_code, dependence_code, link_code, code_of}
+use Rattle.ocr_parts.specs.Kinds.{IsBlock, is_template, is_event, is_destroyed}
+use Rattle.ocr_any_event.specs.AnyEvent.{is_destroyed as destroyed_event}
 use Rattle.ocr_parts.specs.LegalOn.{IsEnding, IsDooming, IsShared}
 use Rattle.ocr_parts.specs.Parts.{Parts}
 use Rattle.ocr_machine.specs.AtHand.{AtHand, state, HasFace, HasCore, IsAccepted, IsStorable, slots_meant}
@@ -77,6 +78,7 @@ word_storable h t d k v a accepted = block_weaker ((state h).face d) _ (IsStorab
 live : (x : Part) (b : Bool) → (is_destroyed x || b) ≡ false → is_destroyed x ≡ false
 live (part.Block st) b is = not_or st.destroyed b is
 live (part.Template t) b is = not_or t.destroyed b is
+live (part.Event st) b is = not_or (destroyed_event st) b is
 live other b is = refl
 
 not_stale : (t : ℕ) (f : ℕ → Part) (c : body.Call) → code_of t f c ≡ code.Done → is_any (is_refused_as_stale t) f (wanted c) ≡ false
@@ -92,6 +94,32 @@ block_live h t d a accepted = live ((state h).face d) false (not_stale t (state 
 
 pub template_there : (h : AtHand) (t x : ℕ) (a : Answer) → IsAccepted h t (call.TemplateDestroy x) a → is_template ((state h).face x) ≡ true
 template_there h t x a accepted = neither (is_template ((state h).face x)) false (kinds_fit t (state h).face (call.TemplateDestroy x) accepted.code)
+
+pub event_there : (h : AtHand) (t x : ℕ) (a : Answer) → IsAccepted h t (call.EventDestroy x) a → is_event ((state h).face x) ≡ true
+event_there h t x a accepted = neither (is_event ((state h).face x)) false (kinds_fit t (state h).face (call.EventDestroy x) accepted.code)
+
+-- an event that is made is no channel, and a channel keeps some satisfactions
+no_channel : (k fl : ℕ) → event_code k fl ≡ code.Done → k ≡ 5 → 1 ≤ 0
+no_channel k fl is five = grind (arith, common_steps)
+
+pub event_plain : (h : AtHand) (t k fl : ℕ) (a : Answer) → IsAccepted h t (call.EventCreate k fl) a → k ≡ 5 → 1 ≤ 0
+event_plain h t k fl a accepted = no_channel k fl (number_done t (state h).face (call.EventCreate k fl) accepted.code)
+
+pub record AreKept (most : ℕ) : Type 0 where
+  pub some : 1 ≤ most
+  pub few : most ≤ 1024
+
+kept_few : (k fl most sats ds : ℕ) → channel_code k fl most sats ds ≡ code.Done → AreKept most
+kept_few k fl most sats ds is = record { some = grind (arith, common_steps); few = grind (arith, common_steps) }
+
+pub channel_keeps : (h : AtHand) (t k fl most sats ds : ℕ) (a : Answer) → IsAccepted h t (call.EventCreateParams k fl most sats ds) a → AreKept most
+channel_keeps h t k fl most sats ds a accepted = kept_few k fl most sats ds (number_done t (state h).face (call.EventCreateParams k fl most sats ds) accepted.code)
+
+pub event_face : (h : AtHand) (t k fl : ℕ) (a : Answer) → IsAccepted h t (call.EventCreate k fl) a → HasFace h a.value
+event_face h t k fl a accepted = accepted.made.face refl
+
+pub channel_face : (h : AtHand) (t k fl most sats ds : ℕ) (a : Answer) → IsAccepted h t (call.EventCreateParams k fl most sats ds) a → HasFace h a.value
+channel_face h t k fl most sats ds a accepted = accepted.made.face refl
 
 linkable_code : (x : Part) (i m : ℕ) → dependence_code x i m ≡ code.Done → link_code x i ≡ code.Done
 linkable_code x i m is = last_if _ code.Einval _ (λ wrong. cc wrong) is

@@ -179,8 +179,8 @@ named : (limit : ℕ) (f : Parts) (t : ℕ) (c : body.Call) (a : Answer) → IsA
 named limit f t (call.TemplateCreate function pc dc) a is creates = is
 named limit f t (call.DbCreate n fl) a is creates = is
 named limit f t (call.EdtCreate from pc ps dc ds fl o) a is creates = is.named
-named limit f t (call.EventCreate kind fl) a is creates = absurd is
-named limit f t (call.EventCreateParams kind fl m n o) a is creates = absurd is
+named limit f t (call.EventCreate kind fl) a is creates = is
+named limit f t (call.EventCreateParams kind fl m n o) a is creates = is
 named limit f t other a is creates = cc creates
 
 touched_face : (limit : ℕ) (e : Entry) (g : ℕ) → is_within limit g ≡ true → on_face e g ≡ true → is_touched limit e g ≡ true

@@ -3,6 +3,7 @@ use Rattle.std.proofs.Common.{◌≡◌, ℕ, zero, suc, ◌+◌, ◌-◌, ◌<�
 use Rattle.std.proofs.lemmas.Grind.{common_steps}
 use Rattle.std.proofs.lemmas.Bool.{eqb-true}
 use Rattle.std.specs.List.{range_with_len}
+use Rattle.ocr_guid.specs.Target.{EventCall}
 use Rattle.ocr_acquire.specs.Plan as plan
 use Rattle.ocr_acquire.specs.declared.Mode.{Mode}
 use Rattle.ocr_datablock.specs.Block.{BlockCall}
@@ -10,7 +11,7 @@ use Rattle.ocr_edt.specs.Edt as edt
 use Rattle.ocr_history.specs.History as history
 use Rattle.ocr_history.specs.Numbers.{is_in}
 use Rattle.ocr_history.specs.declared.entry.What.TheVariants as what
-use Rattle.ocr_history.specs.Made.{Made, MadeBlock, MadeTemplate, MadeEdt, made, depc_in, is_new}
+use Rattle.ocr_history.specs.Made.{Made, MadeBlock, MadeTemplate, MadeEdt, MadeEvent, made, depc_in, is_new}
 use Rattle.ocr_history.specs.declared.entry.Entry.{Entry}
 use Rattle.ocr_history.specs.declared.entry.Entry.TheVariants.{Call, Deliver, Acquire, Wait, StaleAcquire, Start, Free, End, Stop}
 use Rattle.ocr_slots.specs.Slots.{SlotCall, Setting, mode_of, payload_of, is_set, slots_of, state_of, slot_at}
@@ -66,17 +67,19 @@ slots_from : (links calls : List SlotCall) (k n : ℕ)
 slots_from links calls k zero = refl
 slots_from links calls k (suc n) = ap (λ (rest : List Slot). (record { mode = mode_of links k; payload = payload_of calls k }) ∷ rest) (slots_from links calls (k + 1) n)
 
-face_slots : (m : Option Made) (links : List SlotCall) (blocks : List BlockCall) (doomed : Bool) → slots_in (face m links blocks doomed) ≡ state_of (depc_in m) links
-face_slots None links blocks doomed = refl
-face_slots (Some (MadeBlock n c)) links blocks doomed = refl
-face_slots (Some (MadeTemplate f pc dc)) links blocks doomed = refl
-face_slots (Some (MadeEdt f ps n)) links blocks doomed = refl
+face_slots : (m : Option Made) (links : List SlotCall) (blocks : List BlockCall) (events : List EventCall) → slots_in (face m links blocks events) ≡ state_of (depc_in m) links
+face_slots None links blocks events = refl
+face_slots (Some (MadeBlock n c)) links blocks events = refl
+face_slots (Some (MadeTemplate f pc dc)) links blocks events = refl
+face_slots (Some (MadeEdt f ps n)) links blocks events = refl
+face_slots (Some (MadeEvent k fl most)) links blocks events = refl
 
-past_limit : (m : Option Made) (links : List SlotCall) (blocks : List BlockCall) (doomed : Bool) → face m links blocks doomed ≡ part.Vacant → depc_in m ≡ 0
-past_limit None links blocks doomed is = refl
-past_limit (Some (MadeBlock n c)) links blocks doomed is = cc is
-past_limit (Some (MadeTemplate f pc dc)) links blocks doomed is = refl
-past_limit (Some (MadeEdt f ps n)) links blocks doomed is = cc is
+past_limit : (m : Option Made) (links : List SlotCall) (blocks : List BlockCall) (events : List EventCall) → face m links blocks events ≡ part.Vacant → depc_in m ≡ 0
+past_limit None links blocks events is = refl
+past_limit (Some (MadeBlock n c)) links blocks events is = cc is
+past_limit (Some (MadeTemplate f pc dc)) links blocks events is = refl
+past_limit (Some (MadeEdt f ps n)) links blocks events is = cc is
+past_limit (Some (MadeEvent k fl most)) links blocks events is = refl
 
 pub slots_are : (s : history.Setting) (past : history.History) (table : Table) (t : ℕ) → IsOf s past table → slots_on table t ≡ slots_now s past t
 slots_are s past table t of =
@@ -191,6 +194,7 @@ stale_is : (m : Option Made) (t : ℕ) (calls : List edt.EdtCall) (loans : List 
 stale_is None t calls loans is = cc is
 stale_is (Some (MadeBlock n c)) t calls loans is = cc is
 stale_is (Some (MadeTemplate f pc dc)) t calls loans is = cc is
+stale_is (Some (MadeEvent k fl most)) t calls loans is = cc is
 stale_is (Some (MadeEdt f ps n)) t [] loans is = cc is
 stale_is (Some (MadeEdt f ps n)) t (edt.Start ∷ past) loans is = refl
 stale_is (Some (MadeEdt f ps n)) t (edt.Hold g ∷ past) loans is = refl

@@ -23,6 +23,7 @@ sort_of sort.Held = wants.Held
 sort_of sort.Source = wants.Source
 sort_of sort.Target = wants.Target
 sort_of sort.ATemplate = wants.ATemplate
+sort_of sort.AnEvent = wants.AnEvent
 
 abbrev pub test_of : ℕ → Test → wants.Sort → Part → Bool
 test_of t test.Missing = is_missing

@@ -7,12 +7,13 @@ ghost use Rattle.ocr_slots.specs.Steps.{after_link};
 ghost use Rattle.ocr_parts.specs.Calls.{mode_named};
 ghost use Rattle.ocr_parts.specs.Codes.{link_code};
 ghost use Rattle.ocr_parts.specs.Effects.{with_face, called, doomed_template};
-ghost use Rattle.ocr_parts.specs.Kinds.{IsBlock, with_block, with_links, with_template, is_template};
+ghost use Rattle.ocr_parts.specs.Kinds.{IsBlock, with_block, with_links, with_template, is_template, with_event, is_event};
+ghost use Rattle.ocr_any_event.specs.AnyEvent.{after_destroy};
 ghost use Rattle.ocr_parts.specs.Messages.{sent_by, dep_sets, resumed_by_call};
 ghost use Rattle.ocr_machine.specs.AtHand.{state, Becomes, IsAccepted, IsStorable, HasFewSlots};
 
 use crate::ending::{destroy, end_hold};
-use crate::making::{create_block, create_edt, create_template};
+use crate::making::{create_block, create_edt, create_event, create_template};
 use crate::taken::Taken;
 use ocr_acquire::Mode;
 use ocr_base::NoMemory;
@@ -83,12 +84,25 @@ pub(crate) fn call_step(
             create_edt(alloc, parts, *template, params, *depc, deps, answer.value)?;
             Ok(Vec::new(alloc))
         }
-        Call::EventCreate { .. }
-        | Call::EventCreateParams { .. }
-        | Call::EventDestroy { .. }
-        | Call::Satisfy { .. }
-        | Call::Shutdown
-        | Call::Abort { .. } => unreachable!(),
+        Call::EventCreate { kind, flags } => {
+            create_event(alloc, parts, *kind, *flags, 0, answer.value);
+            Ok(Vec::new(alloc))
+        }
+        Call::EventCreateParams {
+            kind,
+            flags,
+            max_gen,
+            nb_sat: _,
+            nb_deps: _,
+        } => {
+            create_event(alloc, parts, *kind, *flags, *max_gen, answer.value);
+            Ok(Vec::new(alloc))
+        }
+        Call::EventDestroy { event } => {
+            destroy_event(parts, *event);
+            Ok(Vec::new(alloc))
+        }
+        Call::Satisfy { .. } | Call::Shutdown | Call::Abort { .. } => unreachable!(),
     }
 }
 
@@ -115,6 +129,18 @@ fn doom_template(parts: &mut Taken, template: u64)
     let mut made = parts.template(template);
     made.destroyed = true;
     parts.put_face(template, Part::Template(made));
+}
+
+/// The event is destroyed.
+fn destroy_event(parts: &mut Taken, event: u64)
+    requires { is_event ((state parts.old).face event) ≡ true }
+    ensures { Becomes parts.old parts.new
+        (with_face (state parts.old) event
+        (with_event ((state parts.old).face event) after_destroy)) }
+{
+    let mut made = parts.take_event(event);
+    let _code = made.destroy();
+    parts.put_face(event, Part::Event(made));
 }
 
 /// The slot of an EDT is linked.

@@ -1,6 +1,7 @@
 // What the calls do that make objects.
 ghost use Rattle.std.specs.Prelude.{◌≡◌, ◌≤◌, ◌/◌, ℕ, [], true, false, IfOk, length, ◌==◌, if◌then◌else◌};
 ghost use Rattle.ocr_acquire.specs.declared.Mode.TheVariants as mode;
+ghost use Rattle.ocr_any_event.specs.AnyEvent.{state_of as event_state};
 ghost use Rattle.ocr_datablock.specs.Block.{state_of};
 ghost use Rattle.ocr_edt.specs.declared.Edt.TheVariants as phase;
 ghost use Rattle.ocr_history.specs.Made.{creator_of};
@@ -16,6 +17,7 @@ ghost use Rattle.ocr_machine.specs.AtHand.{state, Becomes, HasFace, HasCore, slo
 
 use crate::taken::Taken;
 use ocr_acquire::Mode;
+use ocr_any_event::{CHANNEL, event_of};
 use ocr_base::{NoMemory, Seq};
 use ocr_datablock::Block;
 use ocr_edt::{Edt, Filling};
@@ -122,6 +124,25 @@ pub(crate) fn create_template(
         destroyed: false,
     };
     parts.put_face(template, Part::Template(made));
+}
+
+/// Makes an event of the kind of this number, a channel with the most satisfactions that it keeps.
+pub(crate) fn create_event(
+    alloc: Global,
+    parts: &mut Taken,
+    kind: u64,
+    flags: u64,
+    most: u64,
+    event: u64,
+)
+    requires least { kind ≡ CHANNEL → 1 ≤ most }
+    requires most { most ≤ 1024 }
+    requires face { HasFace parts.old event }
+    ensures { Becomes parts.old parts.new
+        (with_face (state parts.old) event (part.Event (event_state kind flags most []))) }
+{
+    let made = event_of(alloc, kind, flags, most as u32);
+    parts.put_face(event, Part::Event(made));
 }
 
 /// Makes an EDT from a template.

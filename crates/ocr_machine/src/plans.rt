@@ -84,7 +84,8 @@ impl Table {
         }
         match &self.parts[edt as usize] {
             Part::Edt(slots) => Some((slots, &self.sets[edt as usize])),
-            Part::Vacant | Part::Block(_) | Part::Template(_) | Part::Core(_) => None,
+            Part::Vacant | Part::Block(_) | Part::Template(_) => None,
+            Part::Event(_) | Part::Core(_) => None,
         }
     }
 
@@ -127,7 +128,8 @@ impl Table {
         match self.core(edt) {
             Some(Part::Core(core)) => Ok(next_of(core, members.as_slice())),
             Some(Part::Vacant) | Some(Part::Edt(_)) => Ok(None),
-            Some(Part::Block(_)) | Some(Part::Template(_)) | None => Ok(None),
+            Some(Part::Block(_)) | Some(Part::Template(_)) => Ok(None),
+            Some(Part::Event(_)) | None => Ok(None),
         }
     }
 
@@ -222,7 +224,8 @@ impl Table {
         match self.core(edt) {
             Some(Part::Core(core)) => is_stale_in(&core.edt, block),
             Some(Part::Vacant) | Some(Part::Edt(_)) => false,
-            Some(Part::Block(_)) | Some(Part::Template(_)) | None => false,
+            Some(Part::Block(_)) | Some(Part::Template(_)) => false,
+            Some(Part::Event(_)) | None => false,
         }
     }
 
@@ -319,6 +322,7 @@ fn ready_part(part: Part, members: SmallVec<(Guid, Mode), 8>) -> Part
         Part::Edt(slots) => Part::Edt(slots),
         Part::Block(state) => Part::Block(state),
         Part::Template(template) => Part::Template(template),
+        Part::Event(event) => Part::Event(event),
     }
 }
 

@@ -1,10 +1,11 @@
 // The parts that an entry has at hand.
 ghost use Rattle.std.specs.Prelude.{◌≡◌, ◌≤◌, ◌+◌, true, IfSome, IfNone};
-ghost use Rattle.ocr_parts.specs.Kinds.{is_block, is_edt_face, is_template};
+ghost use Rattle.ocr_parts.specs.Kinds.{is_block, is_edt_face, is_event, is_template};
 ghost use Rattle.ocr_parts.specs.Taken.{look, put};
 ghost use Rattle.ocr_parts.specs.declared.part.Part.TheVariants as part;
 ghost use Rattle.ocr_machine.specs.AtHand.{state, with_part, is_core};
 
+use ocr_any_event::AnyEvent;
 use ocr_datablock::Block;
 use ocr_parts::{Core, Part};
 use ocr_slots::Slots;
@@ -103,6 +104,18 @@ impl Taken {
             unreachable!()
         };
         *made
+    }
+
+    /// Takes an event out.
+    pub fn take_event(&mut self, event: u64) -> AnyEvent
+        requires { is_event ((state self.old).face event) ≡ true }
+        ensures was { (state self.old).face event ≡ part.Event result }
+        ensures left { self.new ≡ with_part self.old event part.Vacant }
+    {
+        let Part::Event(made) = replace(&mut self.parts, event, Part::Vacant) else {
+            unreachable!()
+        };
+        made
     }
 
     /// Takes the slots of an EDT out.

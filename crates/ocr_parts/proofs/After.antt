@@ -1,6 +1,7 @@
 -- The parts after a legal entry are what the entry makes of the parts before it.
 use Rattle.std.proofs.Common.{not, ◌≡◌, ℕ, ◌/◌, List, [], ◌∷◌, Bool, true, false, Option, Some, ◌==◌, ◌&&◌, ◌||◌, nat_lt, if◌then◌else◌, refl, sym, ◌∙◌, ap, subst}
 use Rattle.std.proofs.lemmas.Bool.{eqb-true}
+use Rattle.ocr_guid.specs.Target.{EventCall, Destruction}
 use Rattle.ocr_guid.specs.declared.Code.{Code}
 use Rattle.ocr_guid.specs.declared.Code.TheVariants as code
 use Rattle.ocr_acquire.specs.declared.Mode.{Mode}
@@ -19,8 +20,8 @@ use Rattle.ocr_history.specs.declared.entry.Entry.TheVariants.{Call, Acquire, Wa
 use Rattle.ocr_parts.specs.declared.part.Part.{Part}
 use Rattle.ocr_parts.specs.declared.part.Part.TheVariants as part
 use Rattle.ocr_history.specs.History.{History, Setting, own}
-use Rattle.ocr_history.specs.Made.{Made, MadeBlock, MadeTemplate, MadeEdt, made, edt_from, size_in, creator_in, is_edt_made}
-use Rattle.ocr_parts.specs.Calls.{dep_links, link_calls, block_calls, edt_calls, loans_of, contents_of, with_plan, awake, plan_of, next_member, mode_next, mode_named, ask_calls, lend_calls, end_calls, kept_now, doom_calls, is_doomed}
+use Rattle.ocr_history.specs.Made.{Made, MadeBlock, MadeTemplate, MadeEdt, MadeEvent, made, edt_from, size_in, creator_in, is_edt_made}
+use Rattle.ocr_parts.specs.Calls.{dep_links, link_calls, block_calls, edt_calls, loans_of, contents_of, with_plan, awake, plan_of, next_member, mode_next, mode_named, ask_calls, lend_calls, end_calls, kept_now, doom_calls, event_calls}
 use Rattle.ocr_parts.specs.Parts.{Parts, identity_of, face, core, parts_of}
 use Rattle.ocr_parts.specs.Codes.{link_code, dependence_code, code_of, is_any, is_its_own, is_missing, is_of_other_kind, is_refused_as_stale, number_code, wanted}
 use Rattle.ocr_parts.specs.Effects.{with_phase, made_ready, waiting_edt, started_edt, holding_edt, ended_edt, next_on, granted, hold_ended, new_face, new_core, dropping_core, acquiring_core, ended, called, changed, ready_at, readied_on, creating_core, awoken, doomed_template, stale_edt}
@@ -29,34 +30,35 @@ use Rattle.ocr_parts.specs.Legal.{IsRun}
 use Rattle.ocr_parts.specs.Laws.{AfterLaw, kept_lent}
 use Rattle.ocr_parts.proofs.Choices.{at_same, twice}
 use Rattle.ocr_parts.proofs.Phases.{IsFormed, formed, formed_ready, next_is, edt_acquired, edt_stale, edt_waited, edt_started, edt_held, edt_dropped, edt_ended}
-use Rattle.ocr_parts.proofs.Blocks.{block_ended, block_doomed, template_doomed, block_stored, block_granted, block_asked, size_is, words_are, edt_linked}
+use Rattle.ocr_parts.proofs.Blocks.{block_ended, block_doomed, template_doomed, event_destroyed, block_stored, block_granted, block_asked, size_is, words_are, edt_linked}
 use Rattle.ocr_parts.specs.declared.part.Core.{Core}
 use Rattle.ocr_parts.proofs.Lent.{lent_law, ready_core}
 use Rattle.ocr_datablock.specs.Steps.{after_ask, after_release, after_store, after_doom}
 use Rattle.ocr_meaning.specs.Holds.{is_done}
-use Rattle.ocr_parts.specs.Kinds.{IsBlock, core_progress, is_acquiring, is_running, loan_on, mode_on, next_in, on_core, size_on, with_block, with_links, words_on, is_template, with_template}
+use Rattle.ocr_parts.specs.Kinds.{IsBlock, core_progress, is_acquiring, is_running, loan_on, mode_on, next_in, on_core, size_on, with_block, with_links, words_on, is_template, with_template, is_event, with_event, is_destroyed}
+use Rattle.ocr_any_event.specs.AnyEvent.{after_destroy}
 use Rattle.ocr_parts.specs.Loans.{kept_created, kept_in, kept_of, loan_in, without_kept}
 use Rattle.ocr_parts.specs.declared.loans.Kept.{Kept}
 use Rattle.ocr_slots.specs.Steps.{after_link}
 
 -- CHOICES OF LISTS
-chosen_face : (b : Bool) (m n : Option Made) (first links : List slot.SlotCall) (blocks : List block.BlockCall) (doomed : Bool)
-    → face (if b then m else n) (if b then first else links) (if b then [] else blocks) (if b then false else doomed) ≡ (if b then face m first [] false else face n links blocks doomed)
-chosen_face true m n first links blocks doomed = refl
-chosen_face false m n first links blocks doomed = refl
+chosen_face : (b : Bool) (m n : Option Made) (first links : List slot.SlotCall) (blocks : List block.BlockCall) (events : List EventCall)
+    → face (if b then m else n) (if b then first else links) (if b then [] else blocks) (if b then [] else events) ≡ (if b then face m first [] [] else face n links blocks events)
+chosen_face true m n first links blocks events = refl
+chosen_face false m n first links blocks events = refl
 
 chosen_core : (b : Bool) (m n : Option Made) (t : ℕ) (calls : List edt.EdtCall) (loans : List (ℕ × Kept))
     → core (if b then m else n) t (if b then [] else calls) (if b then [] else loans) ≡ (if b then core m t [] [] else core n t calls loans)
 chosen_core true m n t calls loans = refl
 chosen_core false m n t calls loans = refl
 
-blocks_if : (b : Bool) (m : Option Made) (links : List slot.SlotCall) (x y : List block.BlockCall) (doomed : Bool) → face m links (if b then x else y) doomed ≡ (if b then face m links x doomed else face m links y doomed)
-blocks_if true m links x y doomed = refl
-blocks_if false m links x y doomed = refl
+blocks_if : (b : Bool) (m : Option Made) (links : List slot.SlotCall) (x y : List block.BlockCall) (events : List EventCall) → face m links (if b then x else y) events ≡ (if b then face m links x events else face m links y events)
+blocks_if true m links x y events = refl
+blocks_if false m links x y events = refl
 
-links_if : (b : Bool) (m : Option Made) (x y : List slot.SlotCall) (blocks : List block.BlockCall) (doomed : Bool) → face m (if b then x else y) blocks doomed ≡ (if b then face m x blocks doomed else face m y blocks doomed)
-links_if true m x y blocks doomed = refl
-links_if false m x y blocks doomed = refl
+links_if : (b : Bool) (m : Option Made) (x y : List slot.SlotCall) (blocks : List block.BlockCall) (events : List EventCall) → face m (if b then x else y) blocks events ≡ (if b then face m x blocks events else face m y blocks events)
+links_if true m x y blocks events = refl
+links_if false m x y blocks events = refl
 
 core_if : (b : Bool) (m : Option Made) (t : ℕ) (x y : List edt.EdtCall) (p q : List (ℕ × Kept)) → core m t (if b then x else y) (if b then p else q) ≡ (if b then core m t x p else core m t y q)
 core_if true m t x y p q = refl
@@ -67,20 +69,20 @@ calls_if true m t x y p = refl
 calls_if false m t x y p = refl
 
 -- CREATIONS
-edt_face : (m : Option Made) (ps : List ℕ) (dc : ℕ) (ds : List ℕ) (links : List slot.SlotCall) (blocks : List block.BlockCall) (doomed : Bool) → face (edt_from m ps dc) (dep_links 0 ds []) [] false ≡ new_face (face m links blocks doomed) dc ds
-edt_face (Some (MadeTemplate f pc own)) ps dc ds links blocks doomed = refl
-edt_face other ps dc ds links blocks doomed = refl
+edt_face : (m : Option Made) (ps : List ℕ) (dc : ℕ) (ds : List ℕ) (links : List slot.SlotCall) (blocks : List block.BlockCall) (events : List EventCall) → face (edt_from m ps dc) (dep_links 0 ds []) [] [] ≡ new_face (face m links blocks events) dc ds
+edt_face (Some (MadeTemplate f pc own)) ps dc ds links blocks events = refl
+edt_face other ps dc ds links blocks events = refl
 
-edt_core : (m : Option Made) (g : ℕ) (ps : List ℕ) (dc : ℕ) (links : List slot.SlotCall) (blocks : List block.BlockCall) (doomed : Bool) → core (edt_from m ps dc) g [] [] ≡ new_core (face m links blocks doomed) g ps
-edt_core (Some (MadeTemplate f pc own)) g ps dc links blocks doomed = refl
-edt_core other g ps dc links blocks doomed = refl
+edt_core : (m : Option Made) (g : ℕ) (ps : List ℕ) (dc : ℕ) (links : List slot.SlotCall) (blocks : List block.BlockCall) (events : List EventCall) → core (edt_from m ps dc) g [] [] ≡ new_core (face m links blocks events) g ps
+edt_core (Some (MadeTemplate f pc own)) g ps dc links blocks events = refl
+edt_core other g ps dc links blocks events = refl
 
-no_core : (m : Option Made) (t : ℕ) (links : List slot.SlotCall) (blocks : List block.BlockCall) (doomed : Bool) (calls : List edt.EdtCall) (loans : List (ℕ × Kept)) → face m links blocks doomed ≡ part.Vacant → core m t calls loans ≡ part.Vacant
-no_core (Some (MadeEdt f ps n)) t links blocks doomed calls loans is = cc
-no_core other t links blocks doomed calls loans is = refl
+no_core : (m : Option Made) (t : ℕ) (links : List slot.SlotCall) (blocks : List block.BlockCall) (events : List EventCall) (calls : List edt.EdtCall) (loans : List (ℕ × Kept)) → face m links blocks events ≡ part.Vacant → core m t calls loans ≡ part.Vacant
+no_core (Some (MadeEdt f ps n)) t links blocks events calls loans is = cc
+no_core other t links blocks events calls loans is = refl
 
 fresh_core : (s : Setting) (past : History) (a : Answer) → is_done a.code ≡ true → IsNamed s.limit (parts_of s past) a → (parts_of s past).core a.value ≡ part.Vacant
-fresh_core s past a on named = no_core (made s past a.value) a.value (link_calls past a.value) (block_calls s past a.value) (is_doomed past a.value) (edt_calls s past a.value) (loans_of s past a.value) (named.fresh on).vacant
+fresh_core s past a on named = no_core (made s past a.value) a.value (link_calls past a.value) (block_calls s past a.value) (event_calls past a.value) (edt_calls s past a.value) (loans_of s past a.value) (named.fresh on).vacant
 
 pub done_is : (c : Code) → is_done c ≡ true → c ≡ code.Done
 done_is code.Done is = refl
@@ -136,33 +138,45 @@ lent_to s past t d run is =
 
 -- FACES
 gone_face : (s : Setting) (past : History) (d g : ℕ) (ends : List block.BlockCall → List block.BlockCall) (step : block.State → block.State)
-    → face (made s past d) (link_calls past d) (ends (block_calls s past d)) (is_doomed past d) ≡ with_block ((parts_of s past).face d) step
-    → face (made s past g) (link_calls past g) (if d == g then ends (block_calls s past g) else block_calls s past g) (is_doomed past g) ≡ (if d == g then with_block ((parts_of s past).face d) step else (parts_of s past).face g)
+    → face (made s past d) (link_calls past d) (ends (block_calls s past d)) (event_calls past d) ≡ with_block ((parts_of s past).face d) step
+    → face (made s past g) (link_calls past g) (if d == g then ends (block_calls s past g) else block_calls s past g) (event_calls past g) ≡ (if d == g then with_block ((parts_of s past).face d) step else (parts_of s past).face g)
 gone_face s past d g ends step is =
-    blocks_if (d == g) (made s past g) (link_calls past g) (ends (block_calls s past g)) (block_calls s past g) (is_doomed past g)
-    ∙ at_same (λ k. face (made s past k) (link_calls past k) (ends (block_calls s past k)) (is_doomed past k)) (λ k. with_block ((parts_of s past).face k) step) d g ((parts_of s past).face g) is
+    blocks_if (d == g) (made s past g) (link_calls past g) (ends (block_calls s past g)) (block_calls s past g) (event_calls past g)
+    ∙ at_same (λ k. face (made s past k) (link_calls past k) (ends (block_calls s past k)) (event_calls past k)) (λ k. with_block ((parts_of s past).face k) step) d g ((parts_of s past).face g) is
 
 ended_face : (s : Setting) (past : History) (t d : ℕ) (w : List (ℕ × ℕ)) (g : ℕ) → IsRun s past → IsEnding (parts_of s past) t d
-    → face (made s past g) (link_calls past g) (if d == g then end_calls t w (block_calls s past g) else block_calls s past g) (is_doomed past g) ≡ (ended after_release (parts_of s past) t d w).face g
+    → face (made s past g) (link_calls past g) (if d == g then end_calls t w (block_calls s past g) else block_calls s past g) (event_calls past g) ≡ (ended after_release (parts_of s past) t d w).face g
 ended_face s past t d w g run held =
     let loan = loan_on ((parts_of s past).core t) d in
     gone_face s past d g (end_calls t w) (hold_ended after_release t w loan)
-    (block_ended (made s past d) (link_calls past d) (block_calls s past d) (is_doomed past d) t w (mode_on ((parts_of s past).core t) d) loan (lent_to s past t d run) held)
+    (block_ended (made s past d) (link_calls past d) (block_calls s past d) (event_calls past d) t w (mode_on ((parts_of s past).core t) d) loan (lent_to s past t d run) held)
 
 destroyed_face : (s : Setting) (past : History) (t d : ℕ) (w : List (ℕ × ℕ)) (g : ℕ) → IsRun s past → IsDooming (parts_of s past) t d
-    → face (made s past g) (link_calls past g) (if d == g then doom_calls t w (block_calls s past g) else block_calls s past g) (is_doomed past g) ≡ (ended after_doom (parts_of s past) t d w).face g
+    → face (made s past g) (link_calls past g) (if d == g then doom_calls t w (block_calls s past g) else block_calls s past g) (event_calls past g) ≡ (ended after_doom (parts_of s past) t d w).face g
 destroyed_face s past t d w g run held =
     let loan = loan_on ((parts_of s past).core t) d in
     gone_face s past d g (doom_calls t w) (hold_ended after_doom t w loan)
-    (block_doomed (made s past d) (link_calls past d) (block_calls s past d) (is_doomed past d) t w (mode_on ((parts_of s past).core t) d) loan (lent_to s past t d run) held)
+    (block_doomed (made s past d) (link_calls past d) (block_calls s past d) (event_calls past d) t w (mode_on ((parts_of s past).core t) d) loan (lent_to s past t d run) held)
 
-doomed_face : (s : Setting) (past : History) (x g : ℕ) → is_template ((parts_of s past).face x) ≡ true
-    → face (made s past g) (link_calls past g) (block_calls s past g) ((x == g) || is_doomed past g) ≡ (if x == g then with_template ((parts_of s past).face x) doomed_template else (parts_of s past).face g)
-doomed_face s past x g is = elim (x == g) as (λ b. (x == g) ≡ b → face (made s past g) (link_calls past g) (block_calls s past g) (b || is_doomed past g) ≡ (if b then with_template ((parts_of s past).face x) doomed_template else (parts_of s past).face g)) [
-  | true ↦ λ here. subst (λ (k : ℕ). face (made s past k) (link_calls past k) (block_calls s past k) true ≡ with_template ((parts_of s past).face x) doomed_template) (eqb-true x g here)
-      (template_doomed (made s past x) (link_calls past x) (block_calls s past x) (is_doomed past x) is)
-  | false ↦ λ _. refl
-] refl
+-- an object is destroyed by a call
+events_if : (b : Bool) (m : Option Made) (links : List slot.SlotCall) (blocks : List block.BlockCall) (x y : List EventCall) → face m links blocks (if b then x else y) ≡ (if b then face m links blocks x else face m links blocks y)
+events_if true m links blocks x y = refl
+events_if false m links blocks x y = refl
+
+destroyed_at : (s : Setting) (past : History) (x g : ℕ) (step : Part → Part)
+    → face (made s past x) (link_calls past x) (block_calls s past x) (Destruction ∷ event_calls past x) ≡ step ((parts_of s past).face x)
+    → face (made s past g) (link_calls past g) (block_calls s past g) (if x == g then Destruction ∷ event_calls past g else event_calls past g) ≡ (if x == g then step ((parts_of s past).face x) else (parts_of s past).face g)
+destroyed_at s past x g step is =
+    events_if (x == g) (made s past g) (link_calls past g) (block_calls s past g) (Destruction ∷ event_calls past g) (event_calls past g)
+    ∙ at_same (λ k. face (made s past k) (link_calls past k) (block_calls s past k) (Destruction ∷ event_calls past k)) (λ k. step ((parts_of s past).face k)) x g ((parts_of s past).face g) is
+
+-- what a destruction wants is of its kind and live
+live_one : (x : Part) (b : Bool) → (is_destroyed x || b) ≡ false → is_destroyed x ≡ false
+live_one x b is = or_left (is_destroyed x) b is
+  where
+    or_left : (b c : Bool) → (b || c) ≡ false → b ≡ false
+    or_left true c is = cc is
+    or_left false c is = refl
 
 refused_face : (s : Setting) (past : History) (t home : ℕ) (c : body.Call) (a : Answer) (w : List (ℕ × ℕ)) → is_done a.code ≡ false
     → (g : ℕ) → (parts_of s (Call t home c a w ∷ past)).face g ≡ (parts_of s past).face g
@@ -176,29 +190,37 @@ refused_face s past t home (call.TemplateDestroy x) a w off g = rw off refl
 refused_face s past t home (call.AddDependence from x i m) a w off g = rw off refl
 refused_face s past t home (call.EventCreate k fl) a w off g = rw off refl
 refused_face s past t home (call.EventCreateParams k fl gen sat deps) a w off g = rw off refl
+refused_face s past t home (call.EventDestroy x) a w off g = rw off refl
 refused_face s past t home other a w off g = refl
 
 called_face : (s : Setting) (past : History) (t home : ℕ) (c : body.Call) (a : Answer) (w : List (ℕ × ℕ)) → IsRun s past → is_done a.code ≡ true → IsCallOn s.limit (parts_of s past) t home c a w
     → (g : ℕ) → (parts_of s (Call t home c a w ∷ past)).face g ≡ (called t c a w (parts_of s past)).face g
-called_face s past t home (call.TemplateCreate f pc dc) a w run on legal g = rw on (chosen_face (a.value == g) _ (made s past g) _ (link_calls past g) (block_calls s past g) (is_doomed past g))
-called_face s past t home (call.DbCreate n fl) a w run on legal g = rw on (chosen_face (a.value == g) _ (made s past g) _ (link_calls past g) (block_calls s past g) (is_doomed past g))
+called_face s past t home (call.TemplateCreate f pc dc) a w run on legal g = rw on (chosen_face (a.value == g) _ (made s past g) _ (link_calls past g) (block_calls s past g) (event_calls past g))
+called_face s past t home (call.DbCreate n fl) a w run on legal g = rw on (chosen_face (a.value == g) _ (made s past g) _ (link_calls past g) (block_calls s past g) (event_calls past g))
 called_face s past t home (call.EdtCreate from pc ps dc ds fl o) a w run on legal g = rw on
-    (chosen_face (a.value == g) _ (made s past g) _ (link_calls past g) (block_calls s past g) (is_doomed past g)
-    ∙ ap (λ (x : Part). if a.value == g then x else (parts_of s past).face g) (edt_face (made s past from) ps dc ds (link_calls past from) (block_calls s past from) (is_doomed past from)))
+    (chosen_face (a.value == g) _ (made s past g) _ (link_calls past g) (block_calls s past g) (event_calls past g)
+    ∙ ap (λ (x : Part). if a.value == g then x else (parts_of s past).face g) (edt_face (made s past from) ps dc ds (link_calls past from) (block_calls s past from) (event_calls past from)))
 called_face s past t home (call.DbRelease d) a w run on legal g = rw on (ended_face s past t d w g run (legal.value.0 on))
 called_face s past t home (call.DbDestroy d) a w run on legal g = rw on (destroyed_face s past t d w g run (legal.value.0 on))
 called_face s past t home (call.TemplateDestroy x) a w run on legal g = rw on
-    (doomed_face s past x g (not_other (is_template ((parts_of s past).face x)) (of_kind t (parts_of s past).face (call.TemplateDestroy x) (sym legal.code ∙ done_is a.code on))))
+    (destroyed_at s past x g (λ y. with_template y doomed_template)
+    (template_doomed (made s past x) (link_calls past x) (block_calls s past x) (event_calls past x)
+    (not_other (is_template ((parts_of s past).face x)) (of_kind t (parts_of s past).face (call.TemplateDestroy x) (sym legal.code ∙ done_is a.code on)))))
 called_face s past t home (call.Store d k v) a w run on legal g = rw on
     (gone_face s past d g (λ calls. block.Store k v ∷ calls) (λ st. after_store st k v)
-    (block_stored (made s past d) (link_calls past d) (block_calls s past d) (is_doomed past d) t k v _ legal.value.0))
+    (block_stored (made s past d) (link_calls past d) (block_calls s past d) (event_calls past d) t k v _ legal.value.0))
 called_face s past t home (call.AddDependence from x i m) a w run on legal g = rw on
-    (links_if (x == g) (made s past g) (slot.Linking i (mode_named m) ∷ link_calls past g) (link_calls past g) (block_calls s past g) (is_doomed past g)
-    ∙ at_same (λ j. face (made s past j) (slot.Linking i (mode_named m) ∷ link_calls past j) (block_calls s past j) (is_doomed past j)) (λ j. with_links ((parts_of s past).face j) (λ slots. after_link slots i (mode_named m))) x g ((parts_of s past).face g)
-    (edt_linked (made s past x) (link_calls past x) (block_calls s past x) (is_doomed past x) i (mode_named m)
+    (links_if (x == g) (made s past g) (slot.Linking i (mode_named m) ∷ link_calls past g) (link_calls past g) (block_calls s past g) (event_calls past g)
+    ∙ at_same (λ j. face (made s past j) (slot.Linking i (mode_named m) ∷ link_calls past j) (block_calls s past j) (event_calls past j)) (λ j. with_links ((parts_of s past).face j) (λ slots. after_link slots i (mode_named m))) x g ((parts_of s past).face g)
+    (edt_linked (made s past x) (link_calls past x) (block_calls s past x) (event_calls past x) i (mode_named m)
     (linkable ((parts_of s past).face x) i m (accepted t (parts_of s past).face (call.AddDependence from x i m) (sym legal.code ∙ done_is a.code on)))))
-called_face s past t home (call.EventCreate k fl) a w run on legal g = absurd legal.value
-called_face s past t home (call.EventCreateParams k fl gen sat deps) a w run on legal g = absurd legal.value
+called_face s past t home (call.EventCreate k fl) a w run on legal g = rw on (chosen_face (a.value == g) _ (made s past g) _ (link_calls past g) (block_calls s past g) (event_calls past g))
+called_face s past t home (call.EventCreateParams k fl gen sat deps) a w run on legal g = rw on (chosen_face (a.value == g) _ (made s past g) _ (link_calls past g) (block_calls s past g) (event_calls past g))
+called_face s past t home (call.EventDestroy x) a w run on legal g = rw on
+    (destroyed_at s past x g (λ y. with_event y after_destroy)
+    (event_destroyed (made s past x) (link_calls past x) (block_calls s past x) (event_calls past x)
+    (not_other (is_event ((parts_of s past).face x)) (of_kind t (parts_of s past).face (call.EventDestroy x) (sym legal.code ∙ done_is a.code on)))
+    (live_one ((parts_of s past).face x) false (not_stale t (parts_of s past).face (call.EventDestroy x) (sym legal.code ∙ done_is a.code on)))))
 called_face s past t home other a w run on legal g = refl
 
 -- what comes next, as the parts that were made ready tell it
@@ -219,17 +241,17 @@ mode_is s past t x is = ap mode_next (core_next (made s past t) t (plan_of s pas
 acquired_face : (s : Setting) (past : History) (t d g : ℕ) (k : Mode) → mode_next (next_member s past t) ≡ k → IsBlock ((parts_of s past).face d) (IsTaken t k)
     → (parts_of s (Acquire t d ∷ past)).face g ≡ (if d == g then with_block ((parts_of s past).face d) (granted t k) else (parts_of s past).face g)
 acquired_face s past t d g k is taken =
-    ap (λ (m : Mode). face (made s past g) (link_calls past g) (if d == g then lend_calls t m (ask_calls t m (creator_in (made s past g)) (block_calls s past g)) else block_calls s past g) (is_doomed past g)) is
-    ∙ blocks_if (d == g) (made s past g) (link_calls past g) (lend_calls t k (ask_calls t k (creator_in (made s past g)) (block_calls s past g))) (block_calls s past g) (is_doomed past g)
-    ∙ at_same (λ j. face (made s past j) (link_calls past j) (lend_calls t k (ask_calls t k (creator_in (made s past j)) (block_calls s past j))) (is_doomed past j)) (λ j. with_block ((parts_of s past).face j) (granted t k)) d g ((parts_of s past).face g)
-    (block_granted (made s past d) (link_calls past d) (block_calls s past d) (is_doomed past d) t k taken)
+    ap (λ (m : Mode). face (made s past g) (link_calls past g) (if d == g then lend_calls t m (ask_calls t m (creator_in (made s past g)) (block_calls s past g)) else block_calls s past g) (event_calls past g)) is
+    ∙ blocks_if (d == g) (made s past g) (link_calls past g) (lend_calls t k (ask_calls t k (creator_in (made s past g)) (block_calls s past g))) (block_calls s past g) (event_calls past g)
+    ∙ at_same (λ j. face (made s past j) (link_calls past j) (lend_calls t k (ask_calls t k (creator_in (made s past j)) (block_calls s past j))) (event_calls past j)) (λ j. with_block ((parts_of s past).face j) (granted t k)) d g ((parts_of s past).face g)
+    (block_granted (made s past d) (link_calls past d) (block_calls s past d) (event_calls past d) t k taken)
 
 waited_face : (s : Setting) (past : History) (t d g : ℕ) (k : Mode) → mode_next (next_member s past t) ≡ k
     → (parts_of s (Wait t d ∷ past)).face g ≡ (if d == g then with_block ((parts_of s past).face d) (λ st. after_ask st t k) else (parts_of s past).face g)
 waited_face s past t d g k is =
-    ap (λ (m : Mode). face (made s past g) (link_calls past g) (if d == g then block.Ask t m ∷ block_calls s past g else block_calls s past g) (is_doomed past g)) is
+    ap (λ (m : Mode). face (made s past g) (link_calls past g) (if d == g then block.Ask t m ∷ block_calls s past g else block_calls s past g) (event_calls past g)) is
     ∙ gone_face s past d g (λ calls. block.Ask t k ∷ calls) (λ st. after_ask st t k)
-    (block_asked (made s past d) (link_calls past d) (block_calls s past d) (is_doomed past d) t k)
+    (block_asked (made s past d) (link_calls past d) (block_calls s past d) (event_calls past d) t k)
 
 after_face : (s : Setting) (past : History) (e : Entry) → IsRun s past → IsLegalOn s.limit (readied_on s past e (parts_of s past)) e
     → (g : ℕ) → (parts_of s (e ∷ past)).face g ≡ (changed e (readied_on s past e (parts_of s past))).face g
@@ -318,25 +340,31 @@ created_core s past t z fl a u on named running =
           ] refl
     ] refl
 
+-- an object that is made, and has no core
+coreless : (s : Setting) (past : History) (a : Answer) (u : ℕ) (m : Option Made) → is_done a.code ≡ true → IsNamed s.limit (parts_of s past) a
+    → ((t : ℕ) (calls : List edt.EdtCall) (loans : List (ℕ × Kept)) → core m t calls loans ≡ part.Vacant)
+    → core (if a.value == u then m else made s past u) u (if a.value == u then [] else edt_calls s past u) (if a.value == u then [] else loans_of s past u) ≡ (parts_of s past).core u
+coreless s past a u m on named none =
+    chosen_core (a.value == u) m (made s past u) u (edt_calls s past u) (loans_of s past u)
+    ∙ elim (a.value == u) as (λ b. (a.value == u) ≡ b → (if b then core m u [] [] else (parts_of s past).core u) ≡ (parts_of s past).core u) [
+      | true ↦ λ here. none u [] [] ∙ sym (none_there s past a u on named here)
+      | false ↦ λ _. refl
+    ] refl
+
 called_core : (s : Setting) (past : History) (t home : ℕ) (c : body.Call) (a : Answer) (w : List (ℕ × ℕ)) → is_done a.code ≡ true → IsCallOn s.limit (parts_of s past) t home c a w
     → (u : ℕ) → (parts_of s (Call t home c a w ∷ past)).core u ≡ (called t c a w (parts_of s past)).core u
-called_core s past t home (call.TemplateCreate f pc dc) a w on legal u = rw on (
-    chosen_core (a.value == u) (Some (MadeTemplate f pc dc)) (made s past u) u (edt_calls s past u) (loans_of s past u)
-    ∙ elim (a.value == u) as (λ b. (a.value == u) ≡ b → (if b then part.Vacant else (parts_of s past).core u) ≡ (parts_of s past).core u) [
-      | true ↦ λ here. sym (none_there s past a u on legal.value here)
-      | false ↦ λ _. refl
-    ] refl)
+called_core s past t home (call.TemplateCreate f pc dc) a w on legal u = rw on (coreless s past a u (Some (MadeTemplate f pc dc)) on legal.value (λ t calls loans. refl))
+called_core s past t home (call.EventCreate k fl) a w on legal u = rw on (coreless s past a u (Some (MadeEvent k fl 0)) on legal.value (λ t calls loans. refl))
+called_core s past t home (call.EventCreateParams k fl gen sat deps) a w on legal u = rw on (coreless s past a u (Some (MadeEvent k fl gen)) on legal.value (λ t calls loans. refl))
 called_core s past t home (call.EdtCreate from pc ps dc ds fl o) a w on legal u = rw on (
     chosen_core (a.value == u) (edt_from (made s past from) ps dc) (made s past u) u (edt_calls s past u) (loans_of s past u)
     ∙ at_same (λ (k : ℕ). core (edt_from (made s past from) ps dc) k [] []) (λ (k : ℕ). new_core ((parts_of s past).face from) k ps) a.value u ((parts_of s past).core u)
-    (edt_core (made s past from) a.value ps dc (link_calls past from) (block_calls s past from) (is_doomed past from)))
+    (edt_core (made s past from) a.value ps dc (link_calls past from) (block_calls s past from) (event_calls past from)))
 called_core s past t home (call.DbCreate n fl) a w on legal u = rw on (
     chosen_core (a.value == u) (Some (MadeBlock _ _)) (made s past u) u (held_calls ((t == u) && (fl == 0)) a.value (edt_calls s past u)) (held_loans ((t == u) && (fl == 0)) a.value (n / 8) (loans_of s past u))
     ∙ created_core s past t (n / 8) fl a u on legal.value legal.running)
 called_core s past t home (call.DbRelease d) a w on legal u = rw on (dropped_core s past t d u legal.running)
 called_core s past t home (call.DbDestroy d) a w on legal u = rw on (dropped_core s past t d u legal.running)
-called_core s past t home (call.EventCreate k fl) a w on legal u = absurd legal.value
-called_core s past t home (call.EventCreateParams k fl gen sat deps) a w on legal u = absurd legal.value
 called_core s past t home other a w on legal u = refl
 
 core_acquired : (m : Option Made) (t d : ℕ) (k : Mode) (size : ℕ) (words : List ℕ) (members : List (ℕ × Mode)) (calls : List edt.EdtCall) (loans : List (ℕ × Kept)) → IsFormed (with_plan members calls)
@@ -374,8 +402,8 @@ acquired_core : (s : Setting) (past : History) (t d u : ℕ) (k : Mode) → next
     ≡ (if t == u then on_core ((readied_parts s past t).core t) (acquiring_core d k (size_on ((parts_of s past).face d)) (words_on ((parts_of s past).face d))) else (readied_parts s past t).core u)
 acquired_core s past t d u k next is taken =
     let here : Part = (parts_of s past).face d in
-    let words : contents_of s past d ≡ words_on here = sym (words_are (made s past d) (link_calls past d) (block_calls s past d) (is_doomed past d) t k taken) in
-    let size : size_in (made s past d) ≡ size_on here = sym (size_is (made s past d) (link_calls past d) (block_calls s past d) (is_doomed past d)) in
+    let words : contents_of s past d ≡ words_on here = sym (words_are (made s past d) (link_calls past d) (block_calls s past d) (event_calls past d) t k taken) in
+    let size : size_in (made s past d) ≡ size_on here = sym (size_is (made s past d) (link_calls past d) (block_calls s past d) (event_calls past d)) in
     let members : ℕ → List edt.EdtCall = λ j. with_plan (plan_of s past j) (edt_calls s past j) in
     core_if (t == u) (made s past u) u (edt.Acquired d ∷ awake (members u)) (edt_calls s past u) ((d, kept_now s past t d) ∷ loans_of s past u) (loans_of s past u)
     ∙ (λ i. if t == u then core (made s past u) u (edt.Acquired d ∷ awake (members u)) ((d, kept_of (is i) (size i) (words i)) ∷ loans_of s past u) else (parts_of s past).core u)

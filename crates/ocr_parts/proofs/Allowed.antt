@@ -2,6 +2,7 @@
 use Rattle.std.proofs.Common.{◌≡◌, ◌<◌, ◌≤◌, ℕ, ◌+◌, List, [], ◌∷◌, ◌++◌, length, Bool, true, false, Option, Some, None, ◌==◌, ◌&&◌, ◌⊎◌, inl, inr, if◌then◌else◌, refl, sym, ◌∙◌, ap, subst, is_some, arith, rules}
 use Rattle.std.proofs.lemmas.Bool.{eqb-true}
 use Rattle.std.proofs.lemmas.List.{append-nil, append_assoc}
+use Rattle.ocr_guid.specs.Target.{EventCall}
 use Rattle.ocr_acquire.specs.declared.Mode.{Mode}
 use Rattle.ocr_acquire.specs.declared.Mode.TheVariants as mode
 use Rattle.ocr_acquire.specs.Mode.{fits_all, is_exclusive, mode_in}
@@ -17,7 +18,7 @@ use Rattle.ocr_meaning.specs.declared.call.Answer.{Answer}
 use Rattle.ocr_history.specs.declared.entry.Entry.TheVariants.{Call, Acquire, Wait, Free}
 use Rattle.ocr_history.specs.History.{History, Setting}
 use Rattle.ocr_history.specs.Made.{Made, MadeBlock, made, makes, size_in, creator_in}
-use Rattle.ocr_parts.specs.Calls.{is_number, ask_calls, lend_calls, end_calls, block_calls, link_calls, stores_from, argument_words, next_member, mode_next, doom_calls, is_doomed}
+use Rattle.ocr_parts.specs.Calls.{is_number, ask_calls, lend_calls, end_calls, block_calls, link_calls, stores_from, argument_words, next_member, mode_next, doom_calls, event_calls}
 use Rattle.ocr_parts.specs.Parts.{face, parts_of}
 use Rattle.ocr_parts.specs.LegalOn.{IsHeld, IsShared, IsTaken, IsRefused, IsAnswered, IsGranted, IsNewcomer, IsAgreed, IsCallOn}
 use Rattle.ocr_parts.specs.Laws.{AllowedLaw, FreeLaw}
@@ -55,28 +56,28 @@ opened_are s d false other = tt
 not_number : (t : ℕ) (o : Option ℕ) → is_number t o ≡ false → o ≡ Some t → ⊥
 not_number t o off is = let on : is_number t o ≡ true = ap (is_number t) is ∙ search rules in cc (off, on)
 
-end_are : (m : Option Made) (links : List slot.SlotCall) (blocks : List block.BlockCall) (doomed : Bool) (t : ℕ) (w : List (ℕ × ℕ)) (mo : Option Mode) (loan : Option Loan) → IsBlock (face m links blocks doomed) (IsHeld t mo loan)
+end_are : (m : Option Made) (links : List slot.SlotCall) (blocks : List block.BlockCall) (events : List EventCall) (t : ℕ) (w : List (ℕ × ℕ)) (mo : Option Mode) (loan : Option Loan) → IsBlock (face m links blocks events) (IsHeld t mo loan)
     → Are m blocks → Are m (end_calls t w blocks)
-end_are (Some (MadeBlock n c)) links blocks doomed t w mo loan held are =
+end_are (Some (MadeBlock n c)) links blocks events t w mo loan held are =
     elim (is_number t (block.borrower_of blocks)) as (λ b. is_number t (block.borrower_of blocks) ≡ b → AreAllowed n c (block.Release t ∷ (if b then block.TakeBack t w ∷ blocks else blocks))) [
       | true ↦ λ is. ((are, borrower_is t (block.borrower_of blocks) is), (held.holder, λ no. cc no))
       | false ↦ λ off. (are, (held.holder, not_number t (block.borrower_of blocks) off))
     ] refl
-end_are other links blocks doomed t w mo loan held are = absurd held
+end_are other links blocks events t w mo loan held are = absurd held
 
-doom_are : (m : Option Made) (links : List slot.SlotCall) (blocks : List block.BlockCall) (doomed : Bool) (t : ℕ) (w : List (ℕ × ℕ)) (mo : Option Mode) (loan : Option Loan) → IsBlock (face m links blocks doomed) (IsAgreed t mo loan)
-    → is_destroyed (face m links blocks doomed) ≡ false → Are m blocks → Are m (doom_calls t w blocks)
-doom_are (Some (MadeBlock n c)) links blocks doomed t w mo loan held live are =
+doom_are : (m : Option Made) (links : List slot.SlotCall) (blocks : List block.BlockCall) (events : List EventCall) (t : ℕ) (w : List (ℕ × ℕ)) (mo : Option Mode) (loan : Option Loan) → IsBlock (face m links blocks events) (IsAgreed t mo loan)
+    → is_destroyed (face m links blocks events) ≡ false → Are m blocks → Are m (doom_calls t w blocks)
+doom_are (Some (MadeBlock n c)) links blocks events t w mo loan held live are =
     elim (is_number t (block.borrower_of blocks)) as (λ b. is_number t (block.borrower_of blocks) ≡ b → AreAllowed n c (block.Doom t ∷ (if b then block.TakeBack t w ∷ blocks else blocks))) [
       | true ↦ λ is. ((are, borrower_is t (block.borrower_of blocks) is), (live, λ no. cc no))
       | false ↦ λ off. (are, (live, not_number t (block.borrower_of blocks) off))
     ] refl
-doom_are other links blocks doomed t w mo loan held live are = absurd held
+doom_are other links blocks events t w mo loan held live are = absurd held
 
 -- A STORE
-store_are : (m : Option Made) (links : List slot.SlotCall) (blocks : List block.BlockCall) (doomed : Bool) (t k v : ℕ) (mo : Option Mode) → IsBlock (face m links blocks doomed) (IsShared t k mo) → Are m blocks → Are m (block.Store k v ∷ blocks)
-store_are (Some (MadeBlock n c)) links blocks doomed t k v mo held are = (are, (held.exists, held.not_lent))
-store_are other links blocks doomed t k v mo held are = absurd held
+store_are : (m : Option Made) (links : List slot.SlotCall) (blocks : List block.BlockCall) (events : List EventCall) (t k v : ℕ) (mo : Option Mode) → IsBlock (face m links blocks events) (IsShared t k mo) → Are m blocks → Are m (block.Store k v ∷ blocks)
+store_are (Some (MadeBlock n c)) links blocks events t k v mo held are = (are, (held.exists, held.not_lent))
+store_are other links blocks events t k v mo held are = absurd held
 
 -- A BLOCK IS GRANTED
 exclusive_is : (m : Mode) → is_exclusive m ≡ true → m ≡ mode.Ew
@@ -102,8 +103,8 @@ lend_are n c calls t m are held none = elim (is_exclusive m) as (λ b. is_exclus
   | false ↦ λ _. are
 ] refl
 
-taken_are : (made : Option Made) (links : List slot.SlotCall) (blocks : List block.BlockCall) (doomed : Bool) (t : ℕ) (m : Mode) → IsBlock (face made links blocks doomed) (IsTaken t m) → Are made blocks → Are made (lend_calls t m (ask_calls t m (creator_in made) blocks))
-taken_are (Some (MadeBlock n c)) links blocks doomed t m taken are =
+taken_are : (made : Option Made) (links : List slot.SlotCall) (blocks : List block.BlockCall) (events : List EventCall) (t : ℕ) (m : Mode) → IsBlock (face made links blocks events) (IsTaken t m) → Are made blocks → Are made (lend_calls t m (ask_calls t m (creator_in made) blocks))
+taken_are (Some (MadeBlock n c)) links blocks events t m taken are =
     elim (is_some (mode_in t (block.holders_of c blocks))) as (λ b. is_some (mode_in t (block.holders_of c blocks)) ≡ b → AreAllowed n c (lend_calls t m (if b then blocks else block.Ask t m ∷ blocks))) [
       | true ↦ λ here. lend_are n c blocks t m are (held_here t m (block.state_of n c blocks) here taken.fit) taken.not_lent
       | false ↦ λ off.
@@ -111,11 +112,11 @@ taken_are (Some (MadeBlock n c)) links blocks doomed t m taken are =
           let free = free_there t m (block.state_of n c blocks) off taken.fit in
           lend_are n c (block.Ask t m ∷ blocks) t m (are, (none, free.not_waiting, free.some_mode)) (asked_held t m (block.state_of n c blocks) taken none) taken.not_lent
     ] refl
-taken_are other links blocks doomed t m taken are = absurd taken
+taken_are other links blocks events t m taken are = absurd taken
 
-refused_are : (made : Option Made) (links : List slot.SlotCall) (blocks : List block.BlockCall) (doomed : Bool) (t : ℕ) (m : Mode) → IsBlock (face made links blocks doomed) (IsRefused t m) → Are made blocks → Are made (block.Ask t m ∷ blocks)
-refused_are (Some (MadeBlock n c)) links blocks doomed t m refused are = (are, (refused.newcomer.no_holder, refused.newcomer.not_waiting, refused.newcomer.some_mode))
-refused_are other links blocks doomed t m refused are = absurd refused
+refused_are : (made : Option Made) (links : List slot.SlotCall) (blocks : List block.BlockCall) (events : List EventCall) (t : ℕ) (m : Mode) → IsBlock (face made links blocks events) (IsRefused t m) → Are made blocks → Are made (block.Ask t m ∷ blocks)
+refused_are (Some (MadeBlock n c)) links blocks events t m refused are = (are, (refused.newcomer.no_holder, refused.newcomer.not_waiting, refused.newcomer.some_mode))
+refused_are other links blocks events t m refused are = absurd refused
 
 first_of : (a b : Bool) → (a && b) ≡ true → a ≡ true
 first_of true b h = refl
@@ -134,21 +135,21 @@ called_are s past t home (call.DbRelease b) a w d legal are =
     are_if (is_done a.code && (b == d)) (made s past d) (end_calls t w (block_calls s past d)) (block_calls s past d)
     (λ here. let e : b ≡ d = eqb-true b d (second_of (is_done a.code) (b == d) here) in
     subst (λ (n : ℕ). Are (made s past n) (block_calls s past n) → Are (made s past n) (end_calls t w (block_calls s past n))) e
-    (end_are (made s past b) (link_calls past b) (block_calls s past b) (is_doomed past b) t w _ _ (legal.value.0 (first_of (is_done a.code) (b == d) here))) are) are
+    (end_are (made s past b) (link_calls past b) (block_calls s past b) (event_calls past b) t w _ _ (legal.value.0 (first_of (is_done a.code) (b == d) here))) are) are
 called_are s past t home (call.DbDestroy b) a w d legal are =
     are_if (is_done a.code && (b == d)) (made s past d) (doom_calls t w (block_calls s past d)) (block_calls s past d)
     (λ here. let e : b ≡ d = eqb-true b d (second_of (is_done a.code) (b == d) here) in
     let on : is_done a.code ≡ true = first_of (is_done a.code) (b == d) here in
     subst (λ (n : ℕ). Are (made s past n) (block_calls s past n) → Are (made s past n) (doom_calls t w (block_calls s past n))) e
-    (doom_are (made s past b) (link_calls past b) (block_calls s past b) (is_doomed past b) t w _ _ (legal.value.0 on)
+    (doom_are (made s past b) (link_calls past b) (block_calls s past b) (event_calls past b) t w _ _ (legal.value.0 on)
     (no_other (is_destroyed ((parts_of s past).face b)) (not_stale t (parts_of s past).face (call.DbDestroy b) (sym legal.code ∙ done_is a.code on)))) are) are
 called_are s past t home (call.Store b k v) a w d legal are =
     are_if (is_done a.code && (b == d)) (made s past d) (block.Store k v ∷ block_calls s past d) (block_calls s past d)
     (λ here. let e : b ≡ d = eqb-true b d (second_of (is_done a.code) (b == d) here) in
     subst (λ (n : ℕ). Are (made s past n) (block_calls s past n) → Are (made s past n) (block.Store k v ∷ block_calls s past n)) e
-    (store_are (made s past b) (link_calls past b) (block_calls s past b) (is_doomed past b) t k v _ legal.value.0) are) are
-called_are s past t home (call.EventCreate k fl) a w d legal are = absurd legal.value
-called_are s past t home (call.EventCreateParams k fl gen sat deps) a w d legal are = absurd legal.value
+    (store_are (made s past b) (link_calls past b) (block_calls s past b) (event_calls past b) t k v _ legal.value.0) are) are
+called_are s past t home (call.EventCreate k fl) a w d legal are = new_are (makes a d) _ (made s past d) (block_calls s past d) are
+called_are s past t home (call.EventCreateParams k fl gen sat deps) a w d legal are = new_are (makes a d) _ (made s past d) (block_calls s past d) are
 called_are s past t home other a w d legal are = are
 
 pub allowed_law : AllowedLaw
@@ -158,20 +159,20 @@ allowed_law s (Acquire t b ∷ past) run d =
     let m = mode_next (next_member s past t) in
     are_if (b == d) (made s past d) (lend_calls t m (ask_calls t m (creator_in (made s past d)) (block_calls s past d))) (block_calls s past d)
     (λ here. subst (λ (n : ℕ). Are (made s past n) (block_calls s past n) → Are (made s past n) (lend_calls t m (ask_calls t m (creator_in (made s past n)) (block_calls s past n)))) (eqb-true b d here)
-    (taken_are (made s past b) (link_calls past b) (block_calls s past b) (is_doomed past b) t m
+    (taken_are (made s past b) (link_calls past b) (block_calls s past b) (event_calls past b) t m
     (subst (λ (k : Mode). IsBlock ((parts_of s past).face b) (IsTaken t k)) (sym (mode_is s past t _ run.1.on_parts.next)) run.1.on_parts.taken)) (allowed_law s past run.0 d))
     (allowed_law s past run.0 d)
 allowed_law s (Wait t b ∷ past) run d =
     let m = mode_next (next_member s past t) in
     are_if (b == d) (made s past d) (block.Ask t m ∷ block_calls s past d) (block_calls s past d)
     (λ here. subst (λ (n : ℕ). Are (made s past n) (block_calls s past n) → Are (made s past n) (block.Ask t m ∷ block_calls s past n)) (eqb-true b d here)
-    (refused_are (made s past b) (link_calls past b) (block_calls s past b) (is_doomed past b) t m
+    (refused_are (made s past b) (link_calls past b) (block_calls s past b) (event_calls past b) t m
     (subst (λ (k : Mode). IsBlock ((parts_of s past).face b) (IsRefused t k)) (sym (mode_is s past t _ run.1.on_parts.next)) run.1.on_parts.refused)) (allowed_law s past run.0 d))
     (allowed_law s past run.0 d)
 allowed_law s (Free t b w ∷ past) run d =
     are_if (b == d) (made s past d) (end_calls t w (block_calls s past d)) (block_calls s past d)
     (λ here. subst (λ (n : ℕ). Are (made s past n) (block_calls s past n) → Are (made s past n) (end_calls t w (block_calls s past n))) (eqb-true b d here)
-    (end_are (made s past b) (link_calls past b) (block_calls s past b) (is_doomed past b) t w _ _ run.1.on_parts.held) (allowed_law s past run.0 d))
+    (end_are (made s past b) (link_calls past b) (block_calls s past b) (event_calls past b) t w _ _ run.1.on_parts.held) (allowed_law s past run.0 d))
     (allowed_law s past run.0 d)
 allowed_law s (e ∷ past) run d = allowed_law s past run.0 d
 

@@ -2,6 +2,7 @@
 use Rattle.std.proofs.Common.{◌≡◌, ℕ, ◌+◌, ◌/◌, List, [], ◌∷◌, ◌++◌, Bool, true, false, Option, Some, None, ◌==◌, ◌&&◌, if◌then◌else◌, refl, sym, ◌∙◌, ap, subst, rules}
 use Rattle.std.proofs.lemmas.Bool.{eqb-true}
 use Rattle.std.proofs.lemmas.List.{append-nil, append_assoc}
+use Rattle.ocr_guid.specs.Target.{EventCall}
 use Rattle.ocr_acquire.specs.declared.Mode.{Mode}
 use Rattle.ocr_acquire.specs.declared.Mode.TheVariants as mode
 use Rattle.ocr_slots.specs.Slots as slot
@@ -16,7 +17,7 @@ use Rattle.ocr_parts.specs.declared.part.Part.{Part}
 use Rattle.ocr_parts.specs.declared.part.Part.TheVariants as part
 use Rattle.ocr_history.specs.History.{History, Setting, own}
 use Rattle.ocr_history.specs.Made.{Made, MadeBlock, MadeEdt, made, makes, size_in, creator_in, is_edt_made}
-use Rattle.ocr_parts.specs.Calls.{is_number, ask_calls, lend_calls, end_calls, block_calls, stores_from, argument_words, contents_of, loans_of, link_calls, edt_calls, next_member, mode_next, plan_of, doom_calls, is_doomed, return_calls}
+use Rattle.ocr_parts.specs.Calls.{is_number, ask_calls, lend_calls, end_calls, block_calls, stores_from, argument_words, contents_of, loans_of, link_calls, edt_calls, next_member, mode_next, plan_of, doom_calls, event_calls, return_calls}
 use Rattle.ocr_parts.specs.Parts.{face, core, parts_of}
 use Rattle.ocr_parts.specs.Effects.{with_phase, made_ready, ready_at}
 use Rattle.ocr_parts.specs.LegalOn.{IsShared, IsTaken, IsNamed, IsAnswered}
@@ -128,23 +129,23 @@ second_of : (a b : Bool) → (a && b) ≡ true → b ≡ true
 second_of true b h = h
 second_of false b h = cc h
 
-no_edt : (m : Option Made) (links : List slot.SlotCall) (blocks : List block.BlockCall) (doomed : Bool) → face m links blocks doomed ≡ part.Vacant → is_edt_made m ≡ false
-no_edt (Some (MadeEdt f ps n)) links blocks doomed is = cc
-no_edt other links blocks doomed is = refl
+no_edt : (m : Option Made) (links : List slot.SlotCall) (blocks : List block.BlockCall) (events : List EventCall) → face m links blocks events ≡ part.Vacant → is_edt_made m ≡ false
+no_edt (Some (MadeEdt f ps n)) links blocks events is = cc
+no_edt other links blocks events is = refl
 
 fresh_edt : (s : Setting) (past : History) (a : Answer) (t : ℕ) → IsNamed s.limit (parts_of s past) a → makes a t ≡ true → is_edt_made (made s past t) ≡ false
 fresh_edt s past a t named is =
     let e : a.value ≡ t = eqb-true a.value t (second_of (is_done a.code) (a.value == t) is) in
     subst (λ (g : ℕ). is_edt_made (made s past g) ≡ false) e
-    (no_edt (made s past a.value) (link_calls past a.value) (block_calls s past a.value) (is_doomed past a.value) (named.fresh (first_of (is_done a.code) (a.value == t) is)).vacant)
+    (no_edt (made s past a.value) (link_calls past a.value) (block_calls s past a.value) (event_calls past a.value) (named.fresh (first_of (is_done a.code) (a.value == t) is)).vacant)
 
-shared_not_lent : (m : Option Made) (links : List slot.SlotCall) (blocks : List block.BlockCall) (doomed : Bool) (t k : ℕ) (mo : Option Mode) → IsBlock (face m links blocks doomed) (IsShared t k mo) → block.borrower_of blocks ≡ None
-shared_not_lent (Some (MadeBlock n c)) links blocks doomed t k mo h = h.not_lent
-shared_not_lent other links blocks doomed t k mo h = absurd h
+shared_not_lent : (m : Option Made) (links : List slot.SlotCall) (blocks : List block.BlockCall) (events : List EventCall) (t k : ℕ) (mo : Option Mode) → IsBlock (face m links blocks events) (IsShared t k mo) → block.borrower_of blocks ≡ None
+shared_not_lent (Some (MadeBlock n c)) links blocks events t k mo h = h.not_lent
+shared_not_lent other links blocks events t k mo h = absurd h
 
-pub taken_not_lent : (m : Option Made) (links : List slot.SlotCall) (blocks : List block.BlockCall) (doomed : Bool) (t : ℕ) (mo : Mode) → IsBlock (face m links blocks doomed) (IsTaken t mo) → block.borrower_of blocks ≡ None
-taken_not_lent (Some (MadeBlock n c)) links blocks doomed t mo h = h.not_lent
-taken_not_lent other links blocks doomed t mo h = absurd h
+pub taken_not_lent : (m : Option Made) (links : List slot.SlotCall) (blocks : List block.BlockCall) (events : List EventCall) (t : ℕ) (mo : Mode) → IsBlock (face m links blocks events) (IsTaken t mo) → block.borrower_of blocks ≡ None
+taken_not_lent (Some (MadeBlock n c)) links blocks events t mo h = h.not_lent
+taken_not_lent other links blocks events t mo h = absurd h
 
 progress_made : (m : Option Made) (t : ℕ) (calls : List edt.EdtCall) (loans : List (ℕ × Kept)) (members : List (ℕ × Mode)) (x : ℕ × Mode)
     → next_in (core_progress (on_core (core m t calls loans) (with_phase (made_ready members)))) ≡ Some x → is_edt_made m ≡ true
@@ -203,11 +204,13 @@ called_fit s past u home (call.Store b k v) a w d t legal fit is =
     (λ here borrowed.
     let e : b ≡ d = eqb-true b d (second_of (is_done a.code) (b == d) here) in
     let none : block.borrower_of blocks ≡ None = subst (λ (n : ℕ). block.borrower_of (block_calls s past n) ≡ None) e
-    (shared_not_lent (made s past b) (link_calls past b) (block_calls s past b) (is_doomed past b) u k _ legal.0) in
+    (shared_not_lent (made s past b) (link_calls past b) (block_calls s past b) (event_calls past b) u k _ legal.0) in
     cc)
     (λ _ borrowed. fit borrowed) is
-called_fit s past u home (call.EventCreate k fl) a w d t legal fit is = absurd legal
-called_fit s past u home (call.EventCreateParams k fl gen sat deps) a w d t legal fit is = absurd legal
+called_fit s past u home (call.EventCreate k fl) a w d t legal fit is =
+    created_fit (makes a d) (makes a t) (made s past d) (made s past t) _ _ (block_calls s past d) (loans_of s past t) d t (fresh_edt s past a t legal) (λ _. fit) is
+called_fit s past u home (call.EventCreateParams k fl gen sat deps) a w d t legal fit is =
+    created_fit (makes a d) (makes a t) (made s past d) (made s past t) _ _ (block_calls s past d) (loans_of s past t) d t (fresh_edt s past a t legal) (λ _. fit) is
 called_fit s past u home other a w d t legal fit is = fit is
 
 acquired_fit : (s : Setting) (past : History) (u b d t : ℕ) (k : Mode) → IsBlock ((parts_of s past).face b) (IsTaken u k) → ((u == t) ≡ true → is_edt_made (made s past t) ≡ true)
@@ -220,7 +223,7 @@ acquired_fit s past u b d t k taken edt fit is =
     (λ here borrowed.
     let e : b ≡ d = eqb-true b d here in
     let none : block.borrower_of blocks ≡ None = subst (λ (n : ℕ). block.borrower_of (block_calls s past n) ≡ None) e
-    (taken_not_lent (made s past b) (link_calls past b) (block_calls s past b) (is_doomed past b) u k taken) in
+    (taken_not_lent (made s past b) (link_calls past b) (block_calls s past b) (event_calls past b) u k taken) in
     subst (λ (n : ℕ). IsFit (made s past d) (lend_calls u m (ask_calls u m (creator_in (made s past d)) blocks)) (if u == t then (n, kept_of m (size_in (made s past n)) (contents_of s past n)) ∷ loans else loans) (made s past t) d) (sym e)
     (granted_fit (made s past d) (creator_in (made s past d)) blocks loans (made s past t) u d t m none edt borrowed))
     (λ apart borrowed. (loan_past (u == t) (kept_of m (size_in (made s past b)) (contents_of s past b)) b d loans apart ∙ (fit borrowed).0, (fit borrowed).1)) is

@@ -11,3 +11,4 @@ pub mod Phases
 pub mod Settled
 pub mod Starts
 pub mod Within
+pub mod Stored

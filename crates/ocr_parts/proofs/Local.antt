@@ -24,7 +24,8 @@ use Rattle.ocr_acquire.specs.Mode.{mode_in}
 use Rattle.ocr_datablock.specs.Steps.{after_ask, after_release, after_store, after_doom}
 use Rattle.ocr_history.specs.History.{own}
 use Rattle.ocr_meaning.specs.Holds.{is_done}
-use Rattle.ocr_parts.specs.Kinds.{IsBlock, core_progress, holds_of, is_acquiring, loan_on, mode_on, next_in, on_core, size_on, with_block, with_links, words_on, work_of, with_template}
+use Rattle.ocr_parts.specs.Kinds.{IsBlock, core_progress, holds_of, is_acquiring, loan_on, mode_on, next_in, on_core, size_on, with_block, with_links, words_on, work_of, with_template, with_event}
+use Rattle.ocr_any_event.specs.AnyEvent.{after_destroy}
 use Rattle.ocr_parts.specs.Loans.{kept_in, loan_in, settled_loan, settled_loans}
 use Rattle.ocr_parts.specs.declared.loans.Kept.{Kept}
 use Rattle.ocr_slots.specs.Steps.{after_link}
@@ -46,6 +47,9 @@ called_faces t (call.TemplateDestroy x) a w f h alike own true g here = chosen (
 called_faces t (call.Store d k v) a w f h alike own true g here = chosen (d == g) _ _ _ _ (ap (λ (x : Part). with_block x (λ st. after_store st k v)) (alike d (first d _ _))) here
 called_faces t (call.AddDependence from x i m) a w f h alike own true g here =
     chosen (x == g) _ _ _ _ (ap (λ (y : Part). with_links y (λ slots. after_link slots i (mode_named m))) (alike x (first x _ _))) here
+called_faces t (call.EventCreate k fl) a w f h alike own true g here = chosen (a.value == g) _ _ _ _ refl here
+called_faces t (call.EventCreateParams k fl most sats deps) a w f h alike own true g here = chosen (a.value == g) _ _ _ _ refl here
+called_faces t (call.EventDestroy x) a w f h alike own true g here = chosen (x == g) _ _ _ _ (ap (λ (y : Part). with_event y after_destroy) (alike x (first x _ _))) here
 called_faces t (call.TemplateCreate function pc dc) a w f h alike own true g here = chosen (a.value == g) _ _ _ _ refl here
 called_faces t (call.EdtCreate from pc params dc deps flags output) a w f h alike own true g here =
     chosen (a.value == g) _ _ _ _ (ap (λ (x : Part). new_face x dc deps) (alike from (first from _ _))) here
@@ -205,6 +209,9 @@ answered_like limit f h t (call.EdtCreate from pc params dc deps flags output) a
 answered_like limit f h t (call.DbRelease d) a faces cores answered = (λ on. ending_like f h t d (faces d (first d _ _)) (cores t (left t false)) (answered.0 on), answered.1)
 answered_like limit f h t (call.DbDestroy d) a faces cores answered = (λ on. dooming_like f h t d (faces d (first d _ _)) (cores t (left t false)) (answered.0 on), answered.1)
 answered_like limit f h t (call.TemplateDestroy x) a faces cores answered = answered
+answered_like limit f h t (call.EventCreate k fl) a faces cores answered = named_like limit f h a (faces a.value (same a.value)) answered
+answered_like limit f h t (call.EventCreateParams k fl most sats deps) a faces cores answered = named_like limit f h a (faces a.value (same a.value)) answered
+answered_like limit f h t (call.EventDestroy x) a faces cores answered = answered
 answered_like limit f h t (call.AddDependence from x i m) a faces cores answered = answered
 answered_like limit f h t other a faces cores answered = absurd answered
 

@@ -2,6 +2,7 @@
 use Rattle.std.proofs.Common.{◌≡◌, ℕ, ◌≤◌, List, [], ◌∷◌, Bool, true, false, ◌&&◌, ◌==◌, if◌then◌else◌, Option, Some, None, refl, sym, ◌∙◌, ap, subst, arith}
 use Rattle.std.proofs.lemmas.Grind.{common_steps}
 use Rattle.std.proofs.lemmas.Bool.{eqb-true}
+use Rattle.ocr_guid.specs.Target.{EventCall}
 use Rattle.ocr_slots.specs.Slots as slot
 use Rattle.ocr_datablock.specs.Block as block
 use Rattle.ocr_tree.specs.Functions.{number_of_main}
@@ -10,8 +11,8 @@ use Rattle.ocr_meaning.specs.declared.call.Answer.{Answer}
 use Rattle.ocr_history.specs.declared.entry.Entry.TheVariants.{Call}
 use Rattle.ocr_parts.specs.declared.part.Part.TheVariants as part
 use Rattle.ocr_history.specs.History.{History, Setting}
-use Rattle.ocr_history.specs.Made.{Made, MadeBlock, MadeTemplate, MadeEdt, made, makes, opened}
-use Rattle.ocr_parts.specs.Calls.{link_calls, block_calls, edt_calls, loans_of, is_doomed}
+use Rattle.ocr_history.specs.Made.{Made, MadeBlock, MadeTemplate, MadeEdt, MadeEvent, made, makes, opened}
+use Rattle.ocr_parts.specs.Calls.{link_calls, block_calls, edt_calls, loans_of, event_calls}
 use Rattle.ocr_parts.specs.Parts.{parts_of, face, core}
 use Rattle.ocr_parts.specs.LegalOn.{IsNamed}
 use Rattle.ocr_parts.specs.Legal.{IsRun}
@@ -19,11 +20,12 @@ use Rattle.ocr_parts.specs.Laws.{WithinLaw}
 use Rattle.ocr_meaning.specs.Holds.{is_done}
 use Rattle.ocr_parts.specs.Taken.{is_within}
 
-none_made : (m : Option Made) (links : List slot.SlotCall) (blocks : List block.BlockCall) (doomed : Bool) → face m links blocks doomed ≡ part.Vacant → m ≡ None
-none_made None links blocks doomed is = refl
-none_made (Some (MadeBlock n c)) links blocks doomed is = cc is
-none_made (Some (MadeTemplate f pc dc)) links blocks doomed is = cc is
-none_made (Some (MadeEdt f ps n)) links blocks doomed is = cc is
+none_made : (m : Option Made) (links : List slot.SlotCall) (blocks : List block.BlockCall) (events : List EventCall) → face m links blocks events ≡ part.Vacant → m ≡ None
+none_made None links blocks events is = refl
+none_made (Some (MadeBlock n c)) links blocks events is = cc is
+none_made (Some (MadeTemplate f pc dc)) links blocks events is = cc is
+none_made (Some (MadeEdt f ps n)) links blocks events is = cc is
+none_made (Some (MadeEvent k fl most)) links blocks events is = cc is
 
 first_is : (b c : Bool) → (b && c) ≡ true → (b ≡ true) × (c ≡ true)
 first_is true true is = (refl, refl)
@@ -36,7 +38,7 @@ new_free s past a g named is =
     let both = first_is (is_done a.code) (a.value == g) is in
     let fresh = named.fresh both.0 in
     let e : a.value ≡ g = eqb-true a.value g both.1 in (
-      ap (made s past) (sym e) ∙ none_made (made s past a.value) (link_calls past a.value) (block_calls s past a.value) (is_doomed past a.value) fresh.vacant,
+      ap (made s past) (sym e) ∙ none_made (made s past a.value) (link_calls past a.value) (block_calls s past a.value) (event_calls past a.value) fresh.vacant,
       subst (λ (k : ℕ). is_within s.limit k ≡ true) e (inside s.limit a.value fresh.some fresh.within),
     )
   where
@@ -66,10 +68,12 @@ made_out s [] g enough run off = opened_out s g enough off
 made_out s (Call t home (call.DbCreate n fl) a w ∷ past) g enough run off = out_made (makes a g) _ (made s past g) (λ on. out_is s.limit g (new_free s past a g run.1.on_parts.value on).1 off) (made_out s past g enough run.0 off)
 made_out s (Call t home (call.TemplateCreate f pc dc) a w ∷ past) g enough run off = out_made (makes a g) _ (made s past g) (λ on. out_is s.limit g (new_free s past a g run.1.on_parts.value on).1 off) (made_out s past g enough run.0 off)
 made_out s (Call t home (call.EdtCreate from pc ps dc ds fl o) a w ∷ past) g enough run off = out_made (makes a g) _ (made s past g) (λ on. out_is s.limit g (new_free s past a g run.1.on_parts.value.named on).1 off) (made_out s past g enough run.0 off)
+made_out s (Call t home (call.EventCreate k fl) a w ∷ past) g enough run off = out_made (makes a g) _ (made s past g) (λ on. out_is s.limit g (new_free s past a g run.1.on_parts.value on).1 off) (made_out s past g enough run.0 off)
+made_out s (Call t home (call.EventCreateParams k fl most sats deps) a w ∷ past) g enough run off = out_made (makes a g) _ (made s past g) (λ on. out_is s.limit g (new_free s past a g run.1.on_parts.value on).1 off) (made_out s past g enough run.0 off)
 made_out s (other ∷ past) g enough run off = made_out s past g enough run.0 off
 
 pub within_law : WithinLaw
 within_law s past enough run = record {
-  faces = λ g off. ap (λ (m : Option Made). face m (link_calls past g) (block_calls s past g) (is_doomed past g)) (made_out s past g enough run off);
+  faces = λ g off. ap (λ (m : Option Made). face m (link_calls past g) (block_calls s past g) (event_calls past g)) (made_out s past g enough run off);
   cores = λ u off. ap (λ (m : Option Made). core m u (edt_calls s past u) (loans_of s past u)) (made_out s past u enough run off);
 }

@@ -1,6 +1,7 @@
 -- What the entries of a history are to each object: the calls on it since it was made, the newest
 -- first.
-use Rattle.std.specs.Prelude.{◌||◌, ℕ, ◌+◌, ◌/◌, List, [], ◌∷◌, ◌++◌, length, Bool, false, ◌&&◌, not, ◌==◌, if◌then◌else◌, Option, Some, None, is_some, map}
+use Rattle.std.specs.Prelude.{ℕ, ◌+◌, ◌/◌, List, [], ◌∷◌, ◌++◌, length, Bool, false, ◌&&◌, not, ◌==◌, if◌then◌else◌, Option, Some, None, is_some, map}
+use Rattle.ocr_guid.specs.Target.{EventCall, Destruction}
 use Rattle.ocr_acquire.specs.declared.Mode.{Mode}
 use Rattle.ocr_acquire.specs.declared.Mode.TheVariants as mode
 use Rattle.ocr_acquire.specs.Mode.{mode_of, mode_in, is_null, is_exclusive}
@@ -244,16 +245,19 @@ block_calls s (e ∷ past) d = block_calls s past d
 abbrev pub contents_of : Setting → History → ℕ → List ℕ
 contents_of s past d = block.contents (size_in (made s past d)) (block_calls s past d)
 
--- TEMPLATES: whether one was destroyed
-abbrev pub doom_step : body.Call → Answer → ℕ → Bool → Bool
-doom_step (call.TemplateDestroy t) a g before = (is_done a.code && (t == g)) || before
-doom_step other a g before = before
+-- EVENTS, and templates, which are destroyed alike
+abbrev pub event_step : body.Call → Answer → ℕ → List EventCall → List EventCall
+event_step (call.TemplateDestroy t) a g calls =
+    if is_done a.code && (t == g) then Destruction ∷ calls else calls
+event_step (call.EventDestroy e) a g calls =
+    if is_done a.code && (e == g) then Destruction ∷ calls else calls
+event_step other a g calls = calls
 
-abbrev pub is_doomed : History → ℕ → Bool
-is_doomed [] g = false
-is_doomed (Call by home c a w ∷ past) g =
-    if is_new c a g then false else doom_step c a g (is_doomed past g)
-is_doomed (e ∷ past) g = is_doomed past g
+abbrev pub event_calls : History → ℕ → List EventCall
+event_calls [] g = []
+event_calls (Call by home c a w ∷ past) g =
+    if is_new c a g then [] else event_step c a g (event_calls past g)
+event_calls (e ∷ past) g = event_calls past g
 
 -- WHAT AN EDT KEEPS with the blocks that it holds: the length of each, and in EW and CONST the
 -- contents at the acquire

@@ -5,6 +5,8 @@ use Rattle.ocr_guid.specs.declared.Code.{Code}
 use Rattle.ocr_guid.specs.declared.Code.TheVariants as code
 use Rattle.ocr_template.specs.declared.TheConstants.{EDT_PARAM_UNK}
 use Rattle.ocr_template.specs.Template.{counts_of}
+use Rattle.ocr_any_event.specs.declared.TheConstants.{LATCH, CHANNEL}
+use Rattle.ocr_channel_event.specs.declared.TheConstants.{MOST_GENERATIONS}
 use Rattle.ocr_slots.specs.Steps.{on_link}
 use Rattle.ocr_meaning.specs.declared.call.Call as body
 use Rattle.ocr_meaning.specs.declared.call.Call.TheVariants as call
@@ -12,7 +14,7 @@ use Rattle.ocr_base.specs.declared.limits.TheConstants.{MOST_PARAMETERS, MOST_DE
 use Rattle.ocr_parts.specs.declared.part.Part.{Part}
 use Rattle.ocr_parts.specs.declared.part.Part.TheVariants as part
 use Rattle.ocr_parts.specs.Calls.{is_given}
-use Rattle.ocr_parts.specs.Kinds.{is_vacant, is_block, is_template, is_edt_face, is_destroyed, is_held_by}
+use Rattle.ocr_parts.specs.Kinds.{is_vacant, is_block, is_template, is_event, is_edt_face, is_destroyed, is_held_by}
 
 -- WHAT A CALL WANTS: objects by their numbers, and what each is to be. A block that is held already
 -- is wanted by loads and stores.
@@ -23,6 +25,7 @@ pub data Sort : Type 0 where
   Source : Sort
   Target : Sort
   ATemplate : Sort
+  AnEvent : Sort
 
 -- a dependence that names an object: neither UNINITIALIZED_GUID nor NULL_GUID
 abbrev pub is_named : ℕ → Bool
@@ -43,6 +46,7 @@ wanted (call.Load d k) = (d, Held) ∷ []
 wanted (call.Store d k v) = (d, Held) ∷ []
 wanted (call.AddDependence from x i m) = (x, Target) ∷ wanted_source from
 wanted (call.TemplateDestroy t) = (t, ATemplate) ∷ []
+wanted (call.EventDestroy e) = (e, AnEvent) ∷ []
 wanted (call.EdtCreate from pc ps dc ds fl o) = (from, ATemplate) ∷ wanted_sources ds
 wanted other = []
 
@@ -55,6 +59,7 @@ abbrev pub has_kind : Sort → Part → Bool
 has_kind Held x = true
 has_kind Target x = is_edt_face x
 has_kind ATemplate x = is_template x
+has_kind AnEvent x = is_event x
 has_kind other x = is_block x
 
 -- an object is destroyed. One who holds a destroyed block may release it
@@ -92,6 +97,20 @@ is_length n = nat_le 8 n && (nat_le n 524288 && ((n % 8) == 0))
 abbrev pub block_code : ℕ → ℕ → Code
 block_code n fl = if is_length n && nat_le fl 1 then code.Done else code.Einval
 
+-- an event has one of the kinds 1 to 4, and a channel the kind 5; one that keeps a satisfaction or
+-- a link hands out one at a time
+abbrev pub event_code : ℕ → ℕ → Code
+event_code k fl =
+    if (nat_le 1 k && nat_le k LATCH) && nat_le fl 1 then code.Done else code.Einval
+
+abbrev pub is_most : ℕ → Bool
+is_most most = nat_le 1 most && nat_le most MOST_GENERATIONS
+
+abbrev pub channel_code : ℕ → ℕ → ℕ → ℕ → ℕ → Code
+channel_code k fl most sats deps =
+    if ((k == CHANNEL) && nat_le fl 1) && (is_most most && ((sats == 1) && (deps == 1)))
+    then code.Done else code.Einval
+
 abbrev pub release_code : Part → ℕ → Code
 release_code x t = if is_held_by x t then code.Done else code.Eperm
 
@@ -128,6 +147,9 @@ number_code t f (call.DbRelease d) = release_code (f d) t
 number_code t f (call.DbDestroy d) = code.Done
 number_code t f (call.TemplateCreate function pc dc) = template_code pc dc
 number_code t f (call.TemplateDestroy x) = code.Done
+number_code t f (call.EventCreate k fl) = event_code k fl
+number_code t f (call.EventCreateParams k fl most sats deps) = channel_code k fl most sats deps
+number_code t f (call.EventDestroy e) = code.Done
 number_code t f (call.EdtCreate from pc params dc deps flags output) =
     creation_code (f from) pc params dc deps flags
 number_code t f (call.AddDependence from x i m) = dependence_code (f x) i m

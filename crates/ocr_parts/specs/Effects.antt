@@ -10,6 +10,7 @@ use Rattle.ocr_slots.specs.Steps.{after_link}
 use Rattle.ocr_datablock.specs.Block as block
 use Rattle.ocr_datablock.specs.Steps.{after_ask, after_release, after_doom, after_store, after_lend, with_words}
 use Rattle.ocr_datablock.specs.Lent.{Loan}
+use Rattle.ocr_any_event.specs.AnyEvent as event
 use Rattle.ocr_edt.specs.declared.Edt.{Edt}
 use Rattle.ocr_edt.specs.declared.Edt.TheVariants as phase
 use Rattle.ocr_edt.specs.Steps.{after_ready, after_acquired, after_start, after_hold, after_drop_hold}
@@ -29,7 +30,7 @@ use Rattle.ocr_parts.specs.declared.part.Part.TheVariants as part
 use Rattle.ocr_parts.specs.Loans.{without_kept, kept_of, kept_created, settled_loans}
 use Rattle.ocr_parts.specs.Calls.{dep_links, plan_of, mode_named, mode_next}
 use Rattle.ocr_parts.specs.Parts.{Parts, identity_of}
-use Rattle.ocr_parts.specs.Kinds.{with_block, words_on, size_on, is_held_by, with_links, with_template, on_core, core_progress, next_in, loan_on}
+use Rattle.ocr_parts.specs.Kinds.{with_block, words_on, size_on, is_held_by, with_links, with_template, with_event, on_core, core_progress, next_in, loan_on}
 
 -- these parts, but for one
 abbrev pub with_face : Parts → ℕ → Part → Parts
@@ -168,6 +169,12 @@ called t (call.TemplateCreate function pc dc) a w f =
     (part.Template (record { function = function; paramc = pc; depc = dc; destroyed = false }))
 called t (call.TemplateDestroy x) a w f =
     with_face f x (with_template (f.face x) doomed_template)
+called t (call.EventCreate k fl) a w f =
+    with_face f a.value (part.Event (event.state_of k fl 0 []))
+called t (call.EventCreateParams k fl most sats deps) a w f =
+    with_face f a.value (part.Event (event.state_of k fl most []))
+called t (call.EventDestroy e) a w f =
+    with_face f e (with_event (f.face e) event.after_destroy)
 called t (call.EdtCreate from pc params dc deps flags output) a w f =
     with_core (with_face f a.value (new_face (f.face from) dc deps))
     a.value (new_core (f.face from) a.value params)

@@ -7,6 +7,8 @@ use Rattle.ocr_slots.specs.declared.Slot.{Slot}
 use Rattle.ocr_datablock.specs.Block as block
 use Rattle.ocr_datablock.specs.Lent.{Loan}
 use Rattle.ocr_template.specs.declared.Template.{Template}
+use Rattle.ocr_any_event.specs.declared.AnyEvent.{AnyEvent}
+use Rattle.ocr_any_event.specs.AnyEvent as event
 use Rattle.ocr_edt.specs.declared.Edt.{Edt}
 use Rattle.ocr_edt.specs.declared.Edt.TheVariants as phase
 use Rattle.ocr_edt.specs.Phases.{Progress, Work, next_of}
@@ -57,10 +59,20 @@ abbrev pub with_template : Part → (Template → Template) → Part
 with_template (part.Template t) step = part.Template (step t)
 with_template other step = other
 
--- a block or a template that was destroyed
+-- EVENTS
+abbrev pub is_event : Part → Bool
+is_event (part.Event st) = true
+is_event other = false
+
+abbrev pub with_event : Part → (AnyEvent → AnyEvent) → Part
+with_event (part.Event st) step = part.Event (step st)
+with_event other step = other
+
+-- a block, a template or an event that was destroyed
 abbrev pub is_destroyed : Part → Bool
 is_destroyed (part.Block st) = st.destroyed
 is_destroyed (part.Template t) = t.destroyed
+is_destroyed (part.Event st) = event.is_destroyed st
 is_destroyed other = false
 
 -- EDTS: their faces

@@ -94,6 +94,9 @@ IsAnswered limit f t (call.DbDestroy d) a =
     (is_done a.code ≡ true → IsDooming f t d) × (a.value ≡ number_of a.code)
 IsAnswered limit f t (call.TemplateDestroy x) a = a.value ≡ number_of a.code
 IsAnswered limit f t (call.AddDependence from x i m) a = a.value ≡ number_of a.code
+IsAnswered limit f t (call.EventCreate k fl) a = IsNamed limit f a
+IsAnswered limit f t (call.EventCreateParams k fl most sats deps) a = IsNamed limit f a
+IsAnswered limit f t (call.EventDestroy e) a = a.value ≡ number_of a.code
 -- no other call is built
 IsAnswered limit f t other a = ⊥
 

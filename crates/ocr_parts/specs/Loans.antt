@@ -1,6 +1,7 @@
 -- What an EDT keeps with the blocks that it holds.
-use Rattle.std.specs.Prelude.{ℕ, List, [], ◌∷◌, ◌==◌, if◌then◌else◌, Option, Some, None}
+use Rattle.std.specs.Prelude.{◌≡◌, ◌<◌, ℕ, List, [], ◌∷◌, ◌==◌, if◌then◌else◌, length, Option, Some, None}
 use Rattle.ocr_acquire.specs.declared.Mode.{Mode}
+use Rattle.ocr_acquire.specs.declared.Mode.TheVariants.{Ew}
 use Rattle.ocr_datablock.specs.Lent.{Loan, loan_of}
 use Rattle.ocr_meaning.specs.Holds.{is_isolated}
 use Rattle.ocr_parts.specs.declared.loans.Kept.{Kept}
@@ -17,6 +18,24 @@ without_kept d (one ∷ rest) = if one.0 == d then rest else one ∷ without_kep
 abbrev pub loan_in : Option Kept → Option Loan
 loan_in None = None
 loan_in (Some kept) = kept.loan
+
+-- a word of a loan in EW, in which the EDT may store
+abbrev pub IsStorable : Option Loan → ℕ → Type 0
+IsStorable None word = ⊥
+IsStorable (Some loan) word = (word < length loan.began) × (loan.mode ≡ Ew)
+
+-- a step of the loan that is kept with a block
+abbrev pub loan_after : (Loan → Loan) → Option Loan → Option Loan
+loan_after step None = None
+loan_after step (Some loan) = Some (step loan)
+
+abbrev pub kept_after : (Loan → Loan) → Kept → Kept
+kept_after step kept = record { size = kept.size; loan = loan_after step kept.loan }
+
+abbrev pub with_loan : ℕ → (Loan → Loan) → List (ℕ × Kept) → List (ℕ × Kept)
+with_loan d step [] = []
+with_loan d step (one ∷ rest) =
+    if one.0 == d then (one.0, kept_after step one.1) ∷ rest else one ∷ with_loan d step rest
 
 -- in EW and CONST an EDT has the words on loan, as they are
 abbrev pub given_loan : Mode → List ℕ → Option Loan

@@ -1,6 +1,8 @@
 // What an EDT keeps with the blocks that it holds.
-ghost use Rattle.std.specs.Prelude.{◌≡◌, ◌∷◌, [], IfOk, OnErr, Some, None};
-ghost use Rattle.ocr_parts.specs.Loans.{kept_in, without_kept};
+ghost use Rattle.std.specs.Prelude.{◌≡◌, ◌<◌, ◌∷◌, [], length, IfOk, OnErr, OnOk, Some, None, MatchOption};
+ghost use Rattle.ocr_acquire.specs.declared.Mode.TheVariants.{Ew};
+ghost use Rattle.ocr_datablock.specs.Lent.{after_list_writes, after_store};
+ghost use Rattle.ocr_parts.specs.Loans.{IsStorable, kept_after, kept_in, loan_in, with_loan, without_kept};
 
 use ocr_base::NoMemory;
 use ocr_datablock::Lent;
@@ -65,6 +67,80 @@ impl Loans {
         ensures left { self.new ≡ without_kept block self.old }
     {
         take_from(&mut self.items, block)
+    }
+
+    /// Stores a word in the loan that is kept with a block. After an error all is as before.
+    pub fn store(
+        &mut self,
+        alloc: Global,
+        block: Guid,
+        word: u32,
+        value: u64,
+    ) -> Result<(), NoMemory>
+        requires { IsStorable (loan_in (kept_in block self.old)) word }
+        ensures ok { OnOk result (self.new
+            ≡ with_loan block (λ loan. after_store loan word value) self.old) }
+        ensures err { OnErr result (self.new ≡ self.old) }
+    {
+        store_among(alloc, &mut self.items, block, word, value)
+    }
+
+    /// Lists the words that were stored in the loan that is kept with a block, where there is one.
+    pub fn list_writes(&mut self, block: Guid)
+        ensures { self.new ≡ with_loan block after_list_writes self.old }
+    {
+        list_among(&mut self.items, block);
+    }
+}
+
+fn store_among(
+    alloc: Global,
+    items: &mut Vec<(Guid, Kept)>,
+    block: Guid,
+    word: u32,
+    value: u64,
+) -> Result<(), NoMemory>
+    requires { IsStorable (loan_in (kept_in block items.old.items)) word }
+    ensures ok { OnOk result (items.new.items
+        ≡ with_loan block (λ loan. after_store loan word value) items.old.items) }
+    ensures err { OnErr result (items.new.items ≡ items.old.items) }
+{
+    for i in 0..items.len() {
+        if items[i].0 == block {
+            return store_in(alloc, &mut items[i].1, word, value);
+        }
+    }
+    Ok(())
+}
+
+fn store_in(alloc: Global, kept: &mut Kept, word: u32, value: u64) -> Result<(), NoMemory>
+    requires { IsStorable kept.old.loan word }
+    ensures ok { OnOk result (kept.new
+        ≡ kept_after (λ loan. after_store loan word value) kept.old) }
+    ensures err { OnErr result (kept.new ≡ kept.old) }
+{
+    match &mut kept.loan {
+        Some(lent) => lent.store(alloc, word, value),
+        None => Ok(()),
+    }
+}
+
+fn list_among(items: &mut Vec<(Guid, Kept)>, block: Guid)
+    ensures { items.new.items ≡ with_loan block after_list_writes items.old.items }
+{
+    for i in 0..items.len() {
+        if items[i].0 == block {
+            list_in(&mut items[i].1);
+            return;
+        }
+    }
+}
+
+fn list_in(kept: &mut Kept)
+    ensures { kept.new ≡ kept_after after_list_writes kept.old }
+{
+    if let Some(lent) = &mut kept.loan {
+        lent.list_writes();
     }
 }
 

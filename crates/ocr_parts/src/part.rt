@@ -1,5 +1,6 @@
 // The parts of the machine's state.
 use crate::loans::Loans;
+use ocr_any_event::AnyEvent;
 use ocr_base::Seq;
 use ocr_datablock::Block;
 use ocr_edt::Edt;
@@ -27,6 +28,7 @@ pub enum Part {
     Edt(Slots),
     Block(Block),
     Template(Template),
+    Event(AnyEvent),
     /// The core of an EDT.
     Core(Core),
 }

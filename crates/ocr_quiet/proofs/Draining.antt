@@ -9,7 +9,7 @@ use Rattle.ocr_history.specs.declared.entry.Entry.TheVariants.{Call, Deliver, Ac
 use Rattle.ocr_parts.specs.declared.part.Part.{Part}
 use Rattle.ocr_history.specs.History.{History, Setting, is_stopped}
 use Rattle.ocr_history.specs.Made.{is_edt, Made, MadeEdt, made, is_edt_made}
-use Rattle.ocr_parts.specs.Calls.{plan_of, open_slots, link_calls, block_calls, edt_calls, loans_of, mode_next, is_doomed}
+use Rattle.ocr_parts.specs.Calls.{plan_of, open_slots, link_calls, block_calls, edt_calls, loans_of, mode_next, event_calls}
 use Rattle.ocr_history.specs.Edts.{is_started, is_ended, IsRunning}
 use Rattle.ocr_parts.specs.Parts.{Parts, core, parts_of}
 use Rattle.ocr_parts.specs.Kinds.{on_core, progress_in, core_progress, next_in, IsBlock, is_acquiring, is_acquiring_edt}
@@ -188,12 +188,12 @@ not_held other t m once queued = refl
 abbrev Fates : Setting → History → ℕ → Type 0
 Fates s past t = CanWake s past t ⊎ (IsRunning past t ⊎ IsIdle s past t)
 
-queued_idle : (s : Setting) (past : History) (t d : ℕ) (m : Mode) → IsRun s past → IsQueued s past t d m → IsUngranted s past t d m
+pub queued_idle : (s : Setting) (past : History) (t d : ℕ) (m : Mode) → IsRun s past → IsQueued s past t d m → IsUngranted s past t d m
 queued_idle s past t d m run queued = record {
   waits = queued.waits;
   not_held = not_held ((parts_of s past).face d) t m (once s past run d) queued.queued;
   not_gone = off_from (is_gone_on ((parts_of s past).face d)) (λ gone.
-      queue_in ((parts_of s past).face d) t m (gone_face (made s past d) (link_calls past d) (block_calls s past d) (is_doomed past d) gone) queued.queued);
+      queue_in ((parts_of s past).face d) t m (gone_face (made s past d) (link_calls past d) (block_calls s past d) (event_calls past d) gone) queued.queued);
 }
 
 set_fate : (s : Setting) (past : History) (t : ℕ) (xs : List ℕ) → open_slots s past t ≡ xs → IsRun s past → is_stopped past ≡ false → is_edt past t ≡ true → is_started past t ≡ false → Fates s past t

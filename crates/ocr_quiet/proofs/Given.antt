@@ -17,7 +17,9 @@ use Rattle.ocr_history.specs.History.{History, Setting}
 use Rattle.ocr_history.specs.Made.{Made, MadeEdt, made, is_new, opened, creator_of}
 use Rattle.ocr_meaning.specs.Holds.{is_done}
 use Rattle.ocr_parts.specs.Calls.{is_given, plan_of, asks_of, asks_in, slots_now, depc_of, set_step, set_calls, link_calls}
-use Rattle.ocr_parts.specs.Kinds.{is_block, with_block, with_links, on_core, with_template}
+use Rattle.ocr_parts.specs.Kinds.{is_block, with_block, with_links, on_core, with_template, with_event}
+use Rattle.ocr_any_event.specs.declared.AnyEvent.{AnyEvent}
+use Rattle.ocr_any_event.specs.AnyEvent as event
 use Rattle.ocr_parts.specs.Codes.{is_any, code_of, Source, Target, ATemplate, is_of_other_kind, wanted_source, wanted_sources}
 use Rattle.ocr_parts.specs.Parts.{Parts, face, core, parts_of}
 use Rattle.ocr_parts.specs.Effects.{with_phase, made_ready, awoken, acquired_edt, waiting_edt, started_edt, holding_edt, dropped_edt, ended_edt, new_face, new_core, creating_core, holding_core, dropping_core, acquiring_core, called, changed, ready_at, readied_on, stale_edt}
@@ -311,12 +313,19 @@ template_same : (x : Part) (step : Template → Template) → is_block (with_tem
 template_same (part.Template t) step = refl
 template_same other step = refl
 
+event_same : (x : Part) (step : AnyEvent → AnyEvent) → is_block (with_event x step) ≡ is_block x
+event_same (part.Event st) step = refl
+event_same other step = refl
+
 fresh_stays : (limit : ℕ) (f : Parts) (a : Answer) (y : Part) → is_done a.code ≡ true → IsNamed limit f a → StaysBlock limit a.value (f.face a.value) y
 fresh_stays limit f a y on legal = (λ is. let none : is_block (f.face a.value) ≡ false = ap is_block (legal.fresh on).vacant in cc (is, none), λ is. inr (legal.fresh on).within)
 
 called_stays : (limit : ℕ) (f : Parts) (t home : ℕ) (c : body.Call) (a : Answer) (w : List (ℕ × ℕ)) → is_done a.code ≡ true → IsCallOn limit f t home c a w → (g : ℕ) → StaysBlock limit g (f.face g) ((called t c a w f).face g)
 called_stays limit f t home (call.DbCreate n fl) a w on legal g = stays_if limit f.face a.value g (part.Block (block.state_of (n / 8) (creator_of t fl) [])) (fresh_stays limit f a (part.Block (block.state_of (n / 8) (creator_of t fl) [])) on legal.value)
 called_stays limit f t home (call.TemplateCreate function pc dc) a w on legal g = stays_if limit f.face a.value g (part.Template (record { function = function; paramc = pc; depc = dc; destroyed = false })) (fresh_stays limit f a (part.Template (record { function = function; paramc = pc; depc = dc; destroyed = false })) on legal.value)
+called_stays limit f t home (call.EventCreate k fl) a w on legal g = stays_if limit f.face a.value g (part.Event (event.state_of k fl 0 [])) (fresh_stays limit f a (part.Event (event.state_of k fl 0 [])) on legal.value)
+called_stays limit f t home (call.EventCreateParams k fl most sats ds) a w on legal g = stays_if limit f.face a.value g (part.Event (event.state_of k fl most [])) (fresh_stays limit f a (part.Event (event.state_of k fl most [])) on legal.value)
+called_stays limit f t home (call.EventDestroy x) a w on legal g = stays_if limit f.face x g _ (stays limit x (f.face x) _ (event_same (f.face x) _))
 called_stays limit f t home (call.EdtCreate from pc ps dc ds fl o) a w on legal g = stays_if limit f.face a.value g (new_face (f.face from) dc ds) (fresh_stays limit f a (new_face (f.face from) dc ds) on legal.value.named)
 called_stays limit f t home (call.DbRelease d) a w on legal g = stays_if limit f.face d g _ (stays limit d (f.face d) _ (block_same (f.face d) _))
 called_stays limit f t home (call.DbDestroy d) a w on legal g = stays_if limit f.face d g _ (stays limit d (f.face d) _ (block_same (f.face d) _))
@@ -378,6 +387,8 @@ above_one limit f a d m n named above none = elim (is_done a.code) as (λ b. is_
 called_above : (s : Setting) (past : History) (t home : ℕ) (c : body.Call) (a : Answer) (w : List (ℕ × ℕ)) (d : ℕ) → IsCallOn s.limit (parts_of s past) t home c a w → s.limit + 3 ≤ d → made s past d ≡ None → made s (Call t home c a w ∷ past) d ≡ None
 called_above s past t home (call.DbCreate n fl) a w d legal above none = above_one s.limit (parts_of s past) a d _ (made s past d) legal.value above none
 called_above s past t home (call.TemplateCreate f pc dc) a w d legal above none = above_one s.limit (parts_of s past) a d _ (made s past d) legal.value above none
+called_above s past t home (call.EventCreate k fl) a w d legal above none = above_one s.limit (parts_of s past) a d _ (made s past d) legal.value above none
+called_above s past t home (call.EventCreateParams k fl most sats ds) a w d legal above none = above_one s.limit (parts_of s past) a d _ (made s past d) legal.value above none
 called_above s past t home (call.EdtCreate from pc ps dc ds fl o) a w d legal above none = above_one s.limit (parts_of s past) a d _ (made s past d) legal.value.named above none
 called_above s past t home other a w d legal above none = none
 

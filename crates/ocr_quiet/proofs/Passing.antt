@@ -32,7 +32,8 @@ use Rattle.ocr_quiet.specs.Waits.{stands}
 use Rattle.ocr_history.specs.declared.entry.Entry.TheVariants.{StaleAcquire}
 use Rattle.ocr_guid.specs.declared.Code.TheVariants as code
 use Rattle.ocr_parts.specs.Effects.{stale_edt, passed_by}
-use Rattle.ocr_parts.specs.Kinds.{with_template, is_destroyed}
+use Rattle.ocr_parts.specs.Kinds.{with_template, with_event, is_destroyed}
+use Rattle.ocr_any_event.specs.AnyEvent.{after_destroy}
 use Rattle.ocr_parts.specs.Codes.{ABlock, code_of, is_of_other_kind}
 use Rattle.ocr_quiet.proofs.Choices.{or_left, not_off}
 use Rattle.ocr_parts.proofs.After.{not_stale, done_is}
@@ -163,6 +164,10 @@ doomed_same : (x : Part) → (is_gone_on (with_template x doomed_template) ≡ i
 doomed_same (part.Template t) = (refl, refl, refl)
 doomed_same other = (refl, refl, refl)
 
+event_destroyed : (x : Part) → (is_gone_on (with_event x after_destroy) ≡ is_gone_on x) × (standing (with_event x after_destroy) ≡ standing x) × (queue_on (with_event x after_destroy) ≡ queue_on x)
+event_destroyed (part.Event st) = (refl, refl, refl)
+event_destroyed other = (refl, refl, refl)
+
 called_standing : (limit : ℕ) (f : Parts) (t home : ℕ) (c : body.Call) (a : Answer) (w : List (ℕ × ℕ)) → AreStanding f → IsOnce f → is_done a.code ≡ true → IsCallOn limit f t home c a w → AreStanding (called t c a w f)
 called_standing limit f t home (call.DbCreate n fl) a w all once on legal = made_standing f t _ fl a.value all legal.running (legal.value.fresh on).vacant
 called_standing limit f t home (call.DbRelease d) a w all once on legal = ended_standing f t d w all once legal.running (legal.value.0 on)
@@ -173,6 +178,13 @@ called_standing limit f t home (call.AddDependence from x i m) a w all once on l
 called_standing limit f t home (call.TemplateCreate function pc dc) a w all once on legal =
     let vacant = (legal.value.fresh on).vacant in
     faced f a.value _ all (ap is_gone_on (sym vacant)) (ap standing (sym vacant)) (ap queue_on (sym vacant))
+called_standing limit f t home (call.EventCreate k fl) a w all once on legal =
+    let vacant = (legal.value.fresh on).vacant in
+    faced f a.value _ all (ap is_gone_on (sym vacant)) (ap standing (sym vacant)) (ap queue_on (sym vacant))
+called_standing limit f t home (call.EventCreateParams k fl most sats ds) a w all once on legal =
+    let vacant = (legal.value.fresh on).vacant in
+    faced f a.value _ all (ap is_gone_on (sym vacant)) (ap standing (sym vacant)) (ap queue_on (sym vacant))
+called_standing limit f t home (call.EventDestroy x) a w all once on legal = let same = event_destroyed (f.face x) in faced f x _ all same.0 same.1 same.2
 called_standing limit f t home (call.EdtCreate from pc params dc deps flags output) a w all once on legal =
     edt_standing f a.value (f.face from) dc deps params all (legal.value.named.fresh on).vacant (legal.value.no_core on)
 called_standing limit f t home other a w all once on legal = all

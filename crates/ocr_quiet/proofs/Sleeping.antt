@@ -2,6 +2,7 @@
 use Rattle.std.proofs.Common.{◌≡◌, ◌⊎◌, inl, inr, ℕ, zero, suc, ◌+◌, ◌<◌, ◌≤◌, nat_lt, List, [], ◌∷◌, ◌++◌, Bool, true, false, Option, Some, None, ◌==◌, not, refl, sym, ◌∙◌, ap, subst, is_some, arith}
 use Rattle.std.proofs.lemmas.Bool.{eq-eqb}
 use Rattle.std.proofs.lemmas.Grind.{common_steps}
+use Rattle.ocr_guid.specs.Target.{EventCall}
 use Rattle.ocr_acquire.specs.declared.Mode.{Mode}
 use Rattle.ocr_acquire.specs.Mode.{is_null, mode_in}
 use Rattle.ocr_acquire.proofs.Laws.{given_law}
@@ -13,7 +14,7 @@ use Rattle.ocr_history.specs.declared.entry.Entry.TheVariants.{Call, Deliver, Ac
 use Rattle.ocr_parts.specs.declared.part.Part.{Part}
 use Rattle.ocr_history.specs.History.{History, Setting, is_stopped}
 use Rattle.ocr_history.specs.Made.{Made, MadeBlock, MadeEdt, made, is_edt_made, creator_in}
-use Rattle.ocr_parts.specs.Calls.{plan_of, asks_in, slots_now, open_slots, link_calls, block_calls, edt_calls, loans_of, mode_next, next_member, with_plan, is_doomed}
+use Rattle.ocr_parts.specs.Calls.{plan_of, asks_in, slots_now, open_slots, link_calls, block_calls, edt_calls, loans_of, mode_next, next_member, with_plan, event_calls}
 use Rattle.ocr_history.specs.Edts.{is_started, is_ended}
 use Rattle.ocr_parts.specs.Parts.{Parts, face, core, parts_of, identity_of}
 use Rattle.ocr_parts.specs.Kinds.{on_core, progress_in, core_progress, next_in, IsBlock, is_acquiring, is_acquiring_edt, is_block}
@@ -94,11 +95,11 @@ first_above held (one ∷ more) d m is ordered b some =
 abbrev Fate : Part → ℕ → Mode → Type 0
 Fate x t m = IsBlock x (IsTaken t m) ⊎ (IsBlock x (IsRefused t m) ⊎ ((mode_in t (queue_on x) ≡ Some m) ⊎ IsBlock x (λ st. block.is_gone st ≡ true)))
 
-fate : (md : Option Made) (links : List slot.SlotCall) (blocks : List block.BlockCall) (doomed : Bool) (t : ℕ) (m : Mode) → is_block (face md links blocks doomed) ≡ true → is_null m ≡ false
+fate : (md : Option Made) (links : List slot.SlotCall) (blocks : List block.BlockCall) (events : List EventCall) (t : ℕ) (m : Mode) → is_block (face md links blocks events) ≡ true → is_null m ≡ false
     → ((k : Mode) → block.can_grant (block.is_destroyed blocks) (block.line_of (creator_in md) blocks) k ≡ true → block.borrower_of blocks ≡ None)
     → (is_some (mode_in t (block.holders_of (creator_in md) blocks)) ≡ true → block.borrower_of blocks ≡ None)
-    → ((k : Mode) → mode_in t (standing (face md links blocks doomed)) ≡ Some k → k ≡ m) → Fate (face md links blocks doomed) t m
-fate (Some (MadeBlock n c)) links blocks doomed t m is used free awaited own =
+    → ((k : Mode) → mode_in t (standing (face md links blocks events)) ≡ Some k → k ≡ m) → Fate (face md links blocks events) t m
+fate (Some (MadeBlock n c)) links blocks events t m is used free awaited own =
     let holders = block.holders_of c blocks in
     let queue = block.queue_of c blocks in
     elim (mode_in t holders) as (λ o. mode_in t holders ≡ o → Fate (part.Block (block.state_of n c blocks)) t m) [
@@ -118,7 +119,7 @@ fate (Some (MadeBlock n c)) links blocks doomed t m is used free awaited own =
         ] refl
       ] refl
     ] refl
-fate other links blocks doomed t m is used free awaited own = cc is
+fate other links blocks events t m is used free awaited own = cc is
 
 refused_nowhere : (x : Part) (t : ℕ) (m : Mode) → IsBlock x (IsRefused t m) → (is_gone_on x ≡ false) × (mode_in t (standing x) ≡ None)
 refused_nowhere (part.Block st) t m refused = (refused.not_gone, in_back t st.holders st.queue refused.newcomer.no_holder ∙ refused.newcomer.not_waiting)
@@ -171,7 +172,7 @@ next_wakes s past t d m p ready is rest waits first =
     let member : next_member s past t ≡ Some (d, m) = core_next (made s past t) t (plan_of s past t) (edt_calls s past t) (loans_of s past t) (d, m) (ap (λ (x : Part). next_in (core_progress x)) (sym (ready_core s past t)) ∙ next) in
     let own : (k : Mode) → mode_in t (standing (f.face d)) ≡ Some k → k ≡ m = λ k stands. (holding_next y p d m k facts.above first waits (all.holds t d k stands)).1 in
     let its : Fate (f.face d) t m =
-    fate (made s past d) (link_calls past d) (block_calls s past d) (is_doomed past d) t m facts.there facts.used (free_law s past ready.run d).grantable (awaited_law s past ready.run t d m member) own in
+    fate (made s past d) (link_calls past d) (block_calls s past d) (event_calls past d) t m facts.there facts.used (free_law s past ready.run d).grantable (awaited_law s past ready.run t d m member) own in
     elim its [
       | inl taken ↦ inl (
         Acquire t d,
@@ -294,8 +295,8 @@ first_holder : (holders queue : List (ℕ × Mode)) → block.is_empty holders �
 first_holder [] queue is = cc is
 first_holder (one ∷ rest) queue is = let same : (one.0 == one.0) ≡ true = eq-eqb one.0 one.0 refl in (one.0, one.1, rw same refl)
 
-holder_of : (md : Option Made) (links : List slot.SlotCall) (blocks : List block.BlockCall) (doomed : Bool) (one : ℕ × Mode) (rest : List (ℕ × Mode)) → block_steps.StandOnce (standing (face md links blocks doomed)) → queue_on (face md links blocks doomed) ≡ one ∷ rest → HasHolder (face md links blocks doomed)
-holder_of (Some (MadeBlock n c)) links blocks doomed one rest once is =
+holder_of : (md : Option Made) (links : List slot.SlotCall) (blocks : List block.BlockCall) (events : List EventCall) (one : ℕ × Mode) (rest : List (ℕ × Mode)) → block_steps.StandOnce (standing (face md links blocks events)) → queue_on (face md links blocks events) ≡ one ∷ rest → HasHolder (face md links blocks events)
+holder_of (Some (MadeBlock n c)) links blocks events one rest once is =
     let found = first_holder (block.holders_of c blocks) (block.queue_of c blocks) (waiting_law c blocks one rest is).0 in
     record {
       who = found.0;
@@ -303,7 +304,7 @@ holder_of (Some (MadeBlock n c)) links blocks doomed one rest once is =
       stands = in_front found.0 (block.holders_of c blocks) (block.queue_of c blocks) found.1 found.2;
       not_queued = once_back found.0 (block.holders_of c blocks) (block.queue_of c blocks) once (ap (λ (o : Option Mode). is_some o) found.2);
     }
-holder_of other links blocks doomed one rest once is = cc is
+holder_of other links blocks events one rest once is = cc is
 
 -- from the greatest block down
 nobody_from : (s : Setting) (past : History) → IsRun s past → IsQuiet s past → (k d : ℕ) → s.limit + 3 ≤ d + k → queue_on ((parts_of s past).face d) ≡ []
@@ -313,7 +314,7 @@ nobody_from s past run quiet (suc k) d above =
     elim (queue_on (f.face d)) as (λ q. queue_on (f.face d) ≡ q → q ≡ []) [
       | [] ↦ λ _. refl
       | one ∷ rest ↦ λ is. absurd (
-          let holder = holder_of (made s past d) (link_calls past d) (block_calls s past d) (is_doomed past d) one rest (once s past run d) is in
+          let holder = holder_of (made s past d) (link_calls past d) (block_calls s past d) (event_calls past d) one rest (once s past run d) is in
           let u : ℕ = holder.who in
           let all = standing_law s past run in
           let has : IsHolding (f.core u) d holder.mode = all.holds u d holder.mode holder.stands in

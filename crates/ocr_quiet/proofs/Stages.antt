@@ -3,6 +3,7 @@ use Rattle.std.proofs.Common.{◌≡◌, ℕ, ◌+◌, ◌/◌, List, [], ◌∷
 use Rattle.std.proofs.lemmas.Bool.{eqb-true}
 use Rattle.std.proofs.lemmas.List.{append-nil, append_assoc}
 use Rattle.std.specs.List.{filter}
+use Rattle.ocr_guid.specs.Target.{EventCall}
 use Rattle.ocr_acquire.specs.declared.Mode.{Mode}
 use Rattle.ocr_acquire.proofs.Laws.{given_law}
 use Rattle.ocr_acquire.specs.Mode.{mode_in}
@@ -16,7 +17,7 @@ use Rattle.ocr_parts.specs.declared.part.Part.{Part}
 use Rattle.ocr_history.specs.History.{History, Setting}
 use Rattle.ocr_history.specs.Made.{Made, MadeBlock, MadeEdt, made, is_new, opened, size_in, creator_in, depc_in}
 use Rattle.ocr_meaning.specs.Holds.{is_done}
-use Rattle.ocr_parts.specs.Calls.{plan_of, asks_in, slots_now, stores_from, argument_words, set_step, set_calls, open_slots, depc_of, link_calls, block_calls, mode_next, is_doomed}
+use Rattle.ocr_parts.specs.Calls.{plan_of, asks_in, slots_now, stores_from, argument_words, set_step, set_calls, open_slots, depc_of, link_calls, block_calls, mode_next, event_calls}
 use Rattle.ocr_history.specs.Edts.{is_started, is_ended}
 use Rattle.ocr_parts.specs.Parts.{Parts, face, core, parts_of}
 use Rattle.ocr_parts.specs.Effects.{with_phase, made_ready, awoken, acquired_edt, waiting_edt, started_edt, holding_edt, dropped_edt, ended_edt, next_on, creating_core, holding_core, dropping_core, acquiring_core, new_core, called, changed, ready_at, readied_on, stale_edt}
@@ -41,12 +42,12 @@ use Rattle.ocr_parts.specs.declared.part.Part.TheVariants as part
 use Rattle.ocr_history.specs.declared.objects.TheConstants.{ARGUMENTS, MAIN_EDT}
 
 -- NOBODY STANDS TWICE
-once_on : (m : Option Made) (links : List slot.SlotCall) (blocks : List block.BlockCall) (doomed : Bool) → block_steps.AreAllowed (size_in m) (creator_in m) blocks → block_steps.StandOnce (standing (face m links blocks doomed))
-once_on (Some (MadeBlock n c)) links blocks doomed are = once_law n c blocks are
-once_on other links blocks doomed are = tt
+once_on : (m : Option Made) (links : List slot.SlotCall) (blocks : List block.BlockCall) (events : List EventCall) → block_steps.AreAllowed (size_in m) (creator_in m) blocks → block_steps.StandOnce (standing (face m links blocks events))
+once_on (Some (MadeBlock n c)) links blocks events are = once_law n c blocks are
+once_on other links blocks events are = tt
 
 pub once : (s : Setting) (past : History) → IsRun s past → IsOnce (parts_of s past)
-once s past run d = once_on (made s past d) (link_calls past d) (block_calls s past d) (is_doomed past d) (allowed_law s past run d)
+once s past run d = once_on (made s past d) (link_calls past d) (block_calls s past d) (event_calls past d) (allowed_law s past run d)
 
 -- AT A BLOCK THAT IS GONE nobody stands
 nobody_empty : (b : Bool) (xs : List (ℕ × Mode)) → (b && block.is_empty xs) ≡ true → xs ≡ []
@@ -54,30 +55,30 @@ nobody_empty b [] is = refl
 nobody_empty true (one ∷ rest) is = cc is
 nobody_empty false (one ∷ rest) is = cc is
 
-pub gone_face : (md : Option Made) (links : List slot.SlotCall) (blocks : List block.BlockCall) (doomed : Bool) → is_gone_on (face md links blocks doomed) ≡ true → standing (face md links blocks doomed) ≡ []
-gone_face (Some (MadeBlock n c)) links blocks doomed is =
+pub gone_face : (md : Option Made) (links : List slot.SlotCall) (blocks : List block.BlockCall) (events : List EventCall) → is_gone_on (face md links blocks events) ≡ true → standing (face md links blocks events) ≡ []
+gone_face (Some (MadeBlock n c)) links blocks events is =
     let holders : block.holders_of c blocks ≡ [] = nobody_empty (block.is_destroyed blocks) (block.holders_of c blocks) is in
     let queue : block.queue_of c blocks ≡ [] = (gone_law c blocks is).0 in
     ap (λ (h : List (ℕ × Mode)). h ++ block.queue_of c blocks) holders ∙ queue
-gone_face other links blocks doomed is = cc is
+gone_face other links blocks events is = cc is
 
 pub readied_gone : (s : Setting) (past : History) (e : Entry) → IsEmptyGone (readied_on s past e (parts_of s past))
-readied_gone s past (Acquire t b) d = gone_face (made s past d) (link_calls past d) (block_calls s past d) (is_doomed past d)
-readied_gone s past (Wait t b) d = gone_face (made s past d) (link_calls past d) (block_calls s past d) (is_doomed past d)
-readied_gone s past (StaleAcquire t b) d = gone_face (made s past d) (link_calls past d) (block_calls s past d) (is_doomed past d)
-readied_gone s past (Start t) d = gone_face (made s past d) (link_calls past d) (block_calls s past d) (is_doomed past d)
-readied_gone s past other d = gone_face (made s past d) (link_calls past d) (block_calls s past d) (is_doomed past d)
+readied_gone s past (Acquire t b) d = gone_face (made s past d) (link_calls past d) (block_calls s past d) (event_calls past d)
+readied_gone s past (Wait t b) d = gone_face (made s past d) (link_calls past d) (block_calls s past d) (event_calls past d)
+readied_gone s past (StaleAcquire t b) d = gone_face (made s past d) (link_calls past d) (block_calls s past d) (event_calls past d)
+readied_gone s past (Start t) d = gone_face (made s past d) (link_calls past d) (block_calls s past d) (event_calls past d)
+readied_gone s past other d = gone_face (made s past d) (link_calls past d) (block_calls s past d) (event_calls past d)
 
 -- AT THE OPENING nobody holds and nobody waits
 stored_line : (xs : List ℕ) (k : ℕ) (ys : List block.BlockCall) → block.line_of 0 (stores_from k xs ++ ys) ≡ block.line_of 0 ys
 stored_line [] k ys = refl
 stored_line (v ∷ rest) k ys = ap (block.line_of 0) (append_assoc (stores_from (k + 1) rest) (block.Store k v ∷ []) ys) ∙ stored_line rest (k + 1) (block.Store k v ∷ ys)
 
-opened_standing : (s : Setting) (n : ℕ) (b : Bool) (other : Option Made) (links : List slot.SlotCall) → (standing (face other links [] false) ≡ []) → standing (face (if b then Some (MadeBlock n 0) else other) links (if b then stores_from 0 (argument_words s) else []) false) ≡ []
+opened_standing : (s : Setting) (n : ℕ) (b : Bool) (other : Option Made) (links : List slot.SlotCall) → (standing (face other links [] []) ≡ []) → standing (face (if b then Some (MadeBlock n 0) else other) links (if b then stores_from 0 (argument_words s) else []) []) ≡ []
 opened_standing s n true other links none = ap stands (ap (block.line_of 0) (sym (append-nil (stores_from 0 (argument_words s)))) ∙ stored_line (argument_words s) 0 [])
 opened_standing s n false other links none = none
 
-first_standing : (b : Bool) (f n : ℕ) (links : List slot.SlotCall) → standing (face (if b then Some (MadeEdt f [] n) else None) links [] false) ≡ []
+first_standing : (b : Bool) (f n : ℕ) (links : List slot.SlotCall) → standing (face (if b then Some (MadeEdt f [] n) else None) links [] []) ≡ []
 first_standing true f n links = refl
 first_standing false f n links = refl
 
@@ -226,6 +227,8 @@ step_set other t n calls is = is
 pub made_kept : (s : Setting) (past : History) (t home : ℕ) (c : body.Call) (a : Answer) (w : List (ℕ × ℕ)) (u : ℕ) → is_new c a u ≡ false → made s (Call t home c a w ∷ past) u ≡ made s past u
 made_kept s past t home (call.DbCreate n fl) a w u off = rw off refl
 made_kept s past t home (call.TemplateCreate f pc dc) a w u off = rw off refl
+made_kept s past t home (call.EventCreate k fl) a w u off = rw off refl
+made_kept s past t home (call.EventCreateParams k fl most sats ds) a w u off = rw off refl
 made_kept s past t home (call.EdtCreate from pc ps dc ds fl o) a w u off = rw off refl
 made_kept s past t home other a w u off = refl
 

@@ -16,7 +16,7 @@ use Rattle.ocr_stopping.specs.Stopping.{IsFront}
 use Rattle.ocr_edt.specs.Edt as edt
 use Rattle.ocr_parts.specs.declared.loans.Kept.{Kept}
 use Rattle.ocr_history.specs.History.{own}
-use Rattle.ocr_history.specs.Made.{Made, MadeBlock, MadeTemplate, MadeEdt, made, is_edt_made}
+use Rattle.ocr_history.specs.Made.{Made, MadeBlock, MadeTemplate, MadeEvent, MadeEdt, made, is_edt_made}
 use Rattle.ocr_machine.specs.Table.{IsOf}
 use Rattle.ocr_meaning.specs.Body.{Body, says}
 use Rattle.ocr_parts.specs.Bodies.{body_of}
@@ -112,6 +112,7 @@ made_within law edts s past t enough run there = elim (is_within s.limit t) as (
     not_vacant None t calls loans is vacant = cc is
     not_vacant (Some (MadeBlock n c)) t calls loans is vacant = cc is
     not_vacant (Some (MadeTemplate f pc dc)) t calls loans is vacant = cc is
+    not_vacant (Some (MadeEvent k fl most)) t calls loans is vacant = cc is
     not_vacant (Some (MadeEdt f ps n)) t calls loans is vacant = cc vacant
 
 front_told : (b : Body) (t : ℕ) (xs : List Entry) (v : Verdict) → IsVerdict b t xs (length xs) v.at v.told → IsToldAs (says b (own (history_of xs) t)) v.told

@@ -10,7 +10,7 @@ use Rattle.ocr_edt.specs.declared.Edt.{Edt}
 use Rattle.ocr_edt.specs.declared.Edt.TheVariants as phase
 use Rattle.ocr_history.specs.Edts.{is_started, IsRunning}
 use Rattle.ocr_history.specs.History.{History, Setting, history_of, is_stopped, own}
-use Rattle.ocr_history.specs.Made.{Made, MadeBlock, MadeTemplate, MadeEdt, made, is_edt, is_edt_made, function_in, params_in}
+use Rattle.ocr_history.specs.Made.{Made, MadeBlock, MadeTemplate, MadeEvent, MadeEdt, made, is_edt, is_edt_made, function_in, params_in}
 use Rattle.ocr_history.specs.declared.entry.Entry.{Entry}
 use Rattle.ocr_history.specs.declared.entry.Entry.TheVariants.{Call, Deliver, Start, Free, End, Stop}
 use Rattle.ocr_history.specs.declared.entry.Stop.TheVariants as by
@@ -262,6 +262,7 @@ core_edt : (m : Option Made) (t : ℕ) (calls : List edt.EdtCall) (loans : List 
 core_edt None t calls loans is = cc is
 core_edt (Some (MadeBlock n c)) t calls loans is = cc is
 core_edt (Some (MadeTemplate f pc dc)) t calls loans is = cc is
+core_edt (Some (MadeEvent k fl most)) t calls loans is = cc is
 core_edt (Some (MadeEdt f ps n)) t calls loans is = refl
 
 pub running_edt : ToldLaw → EdtsLaw → (s : Setting) (past : History) (t : ℕ) → IsRun s past → IsRunning past t → is_edt past t ≡ true
@@ -353,12 +354,14 @@ made_function : (m : Option Made) (t : ℕ) (calls : List edt.EdtCall) (loans : 
 made_function None t calls loans = refl
 made_function (Some (MadeBlock n c)) t calls loans = refl
 made_function (Some (MadeTemplate f pc dc)) t calls loans = refl
+made_function (Some (MadeEvent k fl most)) t calls loans = refl
 made_function (Some (MadeEdt f ps n)) t calls loans = refl
 
 made_params : (m : Option Made) (t : ℕ) (calls : List edt.EdtCall) (loans : List (ℕ × Kept)) → params_in m ≡ params_of (core m t calls loans)
 made_params None t calls loans = refl
 made_params (Some (MadeBlock n c)) t calls loans = refl
 made_params (Some (MadeTemplate f pc dc)) t calls loans = refl
+made_params (Some (MadeEvent k fl most)) t calls loans = refl
 made_params (Some (MadeEdt f ps n)) t calls loans = refl
 
 pub body_now : (s : Setting) (past : History) (t : ℕ) (c : Core) (deps : List ℕ) → (parts_of s (Start t ∷ past)).core t ≡ part.Core c → deps ≡ depv_of s (Start t ∷ past) t

@@ -20,6 +20,8 @@ AreSizes s past m = (d : ℕ) → size_at m d ≡ size_in (made s past d)
 abbrev pub sized_by : body.Call → ℕ → Option (ℕ × ℕ)
 sized_by (call.DbCreate n fl) g = Some (g, n / 8)
 sized_by (call.TemplateCreate function pc dc) g = Some (g, 0)
+sized_by (call.EventCreate k fl) g = Some (g, 0)
+sized_by (call.EventCreateParams k fl most sats deps) g = Some (g, 0)
 sized_by (call.EdtCreate from pc ps dc ds fl o) g = Some (g, 0)
 sized_by other g = None
 

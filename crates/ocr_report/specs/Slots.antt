@@ -37,6 +37,8 @@ edt_counted other given = None
 abbrev pub counted_by : (ℕ → Option Counted) → body.Call → ℕ → Option (ℕ × Option Counted)
 counted_by f (call.DbCreate n fl) g = Some (g, None)
 counted_by f (call.TemplateCreate function pc dc) g = Some (g, Some (counts.Template dc))
+counted_by f (call.EventCreate k fl) g = Some (g, None)
+counted_by f (call.EventCreateParams k fl most sats deps) g = Some (g, None)
 counted_by f (call.EdtCreate from pc ps dc ds fl o) g = Some (g, edt_counted (f from) dc)
 counted_by f other g = None
 

@@ -19,6 +19,7 @@ fn sized_by(call: &Call, made: u64) -> Option<(u64, u64)>
     match call {
         Call::DbCreate { length, .. } => Some((made, *length / 8)),
         Call::TemplateCreate { .. } | Call::EdtCreate { .. } => Some((made, 0)),
+        Call::EventCreate { .. } | Call::EventCreateParams { .. } => Some((made, 0)),
         _ => None,
     }
 }

@@ -42,6 +42,7 @@ fn counted_by(counts: &Counts, call: &Call, made: u64) -> Option<(u64, Option<Co
 {
     match call {
         Call::DbCreate { .. } => Some((made, None)),
+        Call::EventCreate { .. } | Call::EventCreateParams { .. } => Some((made, None)),
         Call::TemplateCreate { depc, .. } => Some((made, Some(Counted::Template(*depc)))),
         Call::EdtCreate { template, depc, .. } => {
             Some((made, edt_counted(counts.get(template).copied(), *depc)))

@@ -16,7 +16,7 @@ use Rattle.ocr_tree.specs.Runnable.{IsRunnable}
 use Rattle.ocr_meaning.specs.Holds.{Holds}
 use Rattle.ocr_history.specs.declared.entry.Entry.TheVariants.{Acquire, Start}
 use Rattle.ocr_history.specs.History.{History, Setting}
-use Rattle.ocr_history.specs.Made.{Made, MadeBlock, MadeTemplate, MadeEdt, made, opened, is_edt_made}
+use Rattle.ocr_history.specs.Made.{Made, MadeBlock, MadeTemplate, MadeEvent, MadeEdt, made, opened, is_edt_made}
 use Rattle.ocr_parts.specs.declared.loans.Kept.{Kept}
 use Rattle.ocr_parts.specs.declared.part.Part.{Part}
 use Rattle.ocr_parts.specs.Bodies.{hold_of}
@@ -154,6 +154,7 @@ ready_core (Some (MadeEdt f ps n)) t members calls kept there none empty = rw (n
 ready_core None t members calls kept there none empty = cc there
 ready_core (Some (MadeBlock n c)) t members calls kept there none empty = cc there
 ready_core (Some (MadeTemplate f pc dc)) t members calls kept there none empty = cc there
+ready_core (Some (MadeEvent k fl most)) t members calls kept there none empty = cc there
 
 pub other_start : (s : Setting) (past : History) (count t : ℕ) → IsGoing s past count → (t == 2) ≡ false → is_edt_made (made s past t) ≡ true → IsUntouched s past t → open_slots s past t ≡ []
     → IsLegal s past (Start t)
@@ -179,6 +180,7 @@ held_core (Some (MadeEdt f ps n)) t calls kept there is none =
 held_core None t calls kept there is none = cc there
 held_core (Some (MadeBlock n c)) t calls kept there is none = cc there
 held_core (Some (MadeTemplate f pc dc)) t calls kept there is none = cc there
+held_core (Some (MadeEvent k fl most)) t calls kept there is none = cc there
 
 start_over : (s : Setting) (past : History) (t u : ℕ) → IsOver s past u → IsOver s (Start t ∷ past) u
 start_over s past t u (inl ended) = inl ended

@@ -3,7 +3,7 @@ use Rattle.std.proofs.Common.{◌≡◌, ℕ, List, true, false, Option, Some, N
 use Rattle.std.specs.Prelude.{IfSome, IfNone}
 use Rattle.ocr_edt.specs.Edt as edt
 use Rattle.ocr_history.specs.History.{History, Setting}
-use Rattle.ocr_history.specs.Made.{Made, MadeBlock, MadeTemplate, MadeEdt, made, is_edt, is_edt_made, function_in, params_in}
+use Rattle.ocr_history.specs.Made.{Made, MadeBlock, MadeTemplate, MadeEvent, MadeEdt, made, is_edt, is_edt_made, function_in, params_in}
 use Rattle.ocr_machine.specs.declared.table.Table.{Table}
 use Rattle.ocr_machine.specs.Table.{IsOf, core_on}
 use Rattle.ocr_parts.specs.declared.loans.Kept.{Kept}
@@ -24,6 +24,7 @@ core_is : (m : Option Made) (t : ℕ) (calls : List edt.EdtCall) (kept : List (�
 core_is None t calls kept = refl
 core_is (Some (MadeBlock n c)) t calls kept = refl
 core_is (Some (MadeTemplate f pc dc)) t calls kept = refl
+core_is (Some (MadeEvent k fl most)) t calls kept = refl
 core_is (Some (MadeEdt f ps n)) t calls kept = refl
 
 pub edt_told : (s : Setting) (past : History) (t : ℕ) → IsRun s past → is_core ((parts_of s past).core t) ≡ is_edt past t
@@ -47,6 +48,7 @@ core_made (Some (MadeEdt f ps n)) t calls kept c is =
 core_made None t calls kept c is = cc is
 core_made (Some (MadeBlock n k)) t calls kept c is = cc is
 core_made (Some (MadeTemplate f pc dc)) t calls kept c is = cc is
+core_made (Some (MadeEvent k fl most)) t calls kept c is = cc is
 
 pub body_of_core : (s : Setting) (past : History) (t : ℕ) (c : Core) → (parts_of s past).core t ≡ part.Core c → (c.function ≡ function_in (made s past t)) × (c.params ≡ params_in (made s past t))
 body_of_core s past t c is = core_made (made s past t) t (edt_calls s past t) (loans_of s past t) c is

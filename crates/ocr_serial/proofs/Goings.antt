@@ -2,6 +2,7 @@
 use Rattle.std.proofs.Common.{◌≡◌, inl, inr, ℕ, ◌+◌, ◌<◌, ◌≤◌, List, [], ◌∷◌, length, Bool, true, false, ◌&&◌, ◌==◌, if◌then◌else◌, Option, Some, None, is_some, refl, sym, ◌∙◌, ap, subst, arith}
 use Rattle.std.proofs.lemmas.Grind.{common_steps}
 use Rattle.std.proofs.lemmas.Bool.{eqb-true}
+use Rattle.ocr_guid.specs.Target.{EventCall}
 use Rattle.ocr_guid.specs.declared.Code.{Code}
 use Rattle.ocr_guid.specs.declared.Code.TheVariants as code
 use Rattle.ocr_slots.specs.Slots as slot
@@ -18,12 +19,12 @@ use Rattle.ocr_history.specs.declared.entry.Entry.{Entry}
 use Rattle.ocr_history.specs.declared.entry.Entry.TheVariants.{Call, Acquire, Start, Free, End, Stop}
 use Rattle.ocr_history.specs.declared.entry.What.{What}
 use Rattle.ocr_history.specs.History.{History, Setting, own}
-use Rattle.ocr_history.specs.Made.{Made, MadeBlock, MadeTemplate, MadeEdt, made, makes, is_new, edt_from, is_edt, is_edt_made}
+use Rattle.ocr_history.specs.Made.{Made, MadeBlock, MadeTemplate, MadeEvent, MadeEdt, made, makes, is_new, edt_from, is_edt, is_edt_made}
 use Rattle.ocr_parts.specs.declared.loans.Kept.{Kept}
 use Rattle.ocr_parts.specs.declared.part.Part.{Part}
 use Rattle.ocr_parts.specs.declared.part.Part.TheVariants as part
 use Rattle.ocr_parts.specs.Bodies.{says_next}
-use Rattle.ocr_parts.specs.Calls.{set_calls, link_calls, block_calls, edt_calls, loans_of, is_doomed}
+use Rattle.ocr_parts.specs.Calls.{set_calls, link_calls, block_calls, edt_calls, loans_of, event_calls}
 use Rattle.ocr_parts.specs.Codes.{code_of, is_any, is_missing, wanted}
 use Rattle.ocr_parts.specs.Kinds.{is_template, is_running}
 use Rattle.ocr_parts.specs.Legal.{IsLegal, carried, is_stop}
@@ -61,12 +62,13 @@ within_more count n apart = grind (arith, common_steps)
 not_within : (count : ℕ) → is_within count (count + 1) ≡ false
 not_within count = grind (arith, common_steps)
 
-edt_made : (functions : ℕ) (m : Option Made) (links : List slot.SlotCall) (blocks : List block.BlockCall) (doomed : Bool) (ps : List ℕ) (dc : ℕ) → is_template (face m links blocks doomed) ≡ true
+edt_made : (functions : ℕ) (m : Option Made) (links : List slot.SlotCall) (blocks : List block.BlockCall) (events : List EventCall) (ps : List ℕ) (dc : ℕ) → is_template (face m links blocks events) ≡ true
     → IsOfProgram functions m → (is_some (edt_from m ps dc) ≡ true) × IsOfProgram functions (edt_from m ps dc)
-edt_made functions (Some (MadeTemplate f pc n)) links blocks doomed ps dc is of = (refl, of)
-edt_made functions None links blocks doomed ps dc is of = cc is
-edt_made functions (Some (MadeBlock n c)) links blocks doomed ps dc is of = cc is
-edt_made functions (Some (MadeEdt f qs n)) links blocks doomed ps dc is of = cc is
+edt_made functions (Some (MadeTemplate f pc n)) links blocks events ps dc is of = (refl, of)
+edt_made functions None links blocks events ps dc is of = cc is
+edt_made functions (Some (MadeBlock n c)) links blocks events ps dc is of = cc is
+edt_made functions (Some (MadeEdt f qs n)) links blocks events ps dc is of = cc is
+edt_made functions (Some (MadeEvent k fl most)) links blocks events ps dc is of = cc is
 
 -- one more object is made
 abbrev new_made : Bool → Option Made → Option Made → Option Made
@@ -204,7 +206,7 @@ going_call s past count t (call.TemplateCreate f pc dc) a one served built of g 
     }) of g legal
 going_call s past count t (call.EdtCreate from pc ps dc ds fl o) a one served built of g legal =
     let new : is_done a.code ≡ true → (is_some (edt_from (made s past from) ps dc) ≡ true) × IsOfProgram (length s.program) (edt_from (made s past from) ps dc) = λ done.
-    edt_made (length s.program) (made s past from) (link_calls past from) (block_calls s past from) (is_doomed past from) ps dc
+    edt_made (length s.program) (made s past from) (link_calls past from) (block_calls s past from) (event_calls past from) ps dc
     (template_named t (parts_of s past).face from pc ps dc ds fl o (sym legal.on_parts.code ∙ done_code a.code done)) (g.functions from) in
     going_new s past count t (call.EdtCreate from pc ps dc ds fl o) a one (edt_from (made s past from) ps dc) (record {
       creation = refl;
@@ -217,9 +219,9 @@ going_call s past count t (call.EdtCreate from pc ps dc ds fl o) a one served bu
 going_call s past count t other a one served built of g legal = absurd built
 
 -- THE ANSWER is one that the call may have
-none_face : (m : Option Made) (links : List slot.SlotCall) (blocks : List block.BlockCall) (doomed : Bool) → is_some m ≡ false → face m links blocks doomed ≡ part.Vacant
-none_face None links blocks doomed is = refl
-none_face (Some x) links blocks doomed is = cc is
+none_face : (m : Option Made) (links : List slot.SlotCall) (blocks : List block.BlockCall) (events : List EventCall) → is_some m ≡ false → face m links blocks events ≡ part.Vacant
+none_face None links blocks events is = refl
+none_face (Some x) links blocks events is = cc is
 
 none_core : (m : Option Made) (t : ℕ) (calls : List edt.EdtCall) (kept : List (ℕ × Kept)) → is_some m ≡ false → core m t calls kept ≡ part.Vacant
 none_core None t calls kept is = refl
@@ -234,7 +236,7 @@ named s past count c a one creation of g = record {
       record {
         some = omega (arith, is.1);
         within = omega (arith, is.1, room);
-        vacant = rw is.1 (none_face (made s past (count + 1)) (link_calls past (count + 1)) (block_calls s past (count + 1)) (is_doomed past (count + 1)) (g.dense (count + 1) ∙ not_within count));
+        vacant = rw is.1 (none_face (made s past (count + 1)) (link_calls past (count + 1)) (block_calls s past (count + 1)) (event_calls past (count + 1)) (g.dense (count + 1) ∙ not_within count));
       };
   refused = λ off. (value_refused s.limit count c a one of creation off).1;
 }

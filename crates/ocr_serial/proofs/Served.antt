@@ -21,7 +21,7 @@ use Rattle.ocr_body.specs.Serving.{StoppedBy, by_closing, by_memory, by_body}
 use Rattle.ocr_history.specs.declared.entry.Entry.TheVariants.{Call}
 use Rattle.ocr_history.specs.declared.entry.Stop.TheVariants as by
 use Rattle.ocr_history.specs.History.{History, Setting, own}
-use Rattle.ocr_history.specs.Made.{Made, MadeBlock, MadeTemplate, MadeEdt, made, is_edt_made, function_in, params_in}
+use Rattle.ocr_history.specs.Made.{Made, MadeBlock, MadeTemplate, MadeEvent, MadeEdt, made, is_edt_made, function_in, params_in}
 use Rattle.ocr_history.specs.Weight.{weight}
 use Rattle.ocr_parts.specs.Bodies.{says_next, body_of, first_holds}
 use Rattle.ocr_parts.specs.Calls.{payloads_of, depv_of, depv_in, value_of_slot, slots_now, slot_now, depc_of, edt_calls}
@@ -153,6 +153,7 @@ function_there functions (Some (MadeEdt f ps n)) there of = of
 function_there functions None there of = cc there
 function_there functions (Some (MadeBlock n c)) there of = cc there
 function_there functions (Some (MadeTemplate f pc dc)) there of = cc there
+function_there functions (Some (MadeEvent k fl most)) there of = cc there
 
 pub body_exists : (s : Setting) (past : History) (count t f : ℕ) → IsGoing s past count → IsServing s past t → f ≡ function_in (made s past t) → (0 < f) × (f ≤ length s.program)
 body_exists s past count t f g serving is =

@@ -10,7 +10,7 @@ use Rattle.ocr_meaning.specs.Behaviour.{Ends}
 use Rattle.ocr_meaning.specs.Holds.{Holds}
 use Rattle.ocr_history.specs.declared.entry.Entry.TheVariants.{Free, End}
 use Rattle.ocr_history.specs.History.{History, Setting, is_stopped}
-use Rattle.ocr_history.specs.Made.{Made, MadeBlock, MadeTemplate, MadeEdt, made, is_edt, is_edt_made}
+use Rattle.ocr_history.specs.Made.{Made, MadeBlock, MadeTemplate, MadeEvent, MadeEdt, made, is_edt, is_edt_made}
 use Rattle.ocr_history.specs.Edts.{is_ended}
 use Rattle.ocr_parts.specs.declared.loans.Kept.{Kept}
 use Rattle.ocr_parts.specs.Bodies.{says_next}
@@ -33,6 +33,7 @@ core_runs (Some (MadeEdt f ps n)) t calls kept there is = rw is (refl, refl)
 core_runs None t calls kept there is = cc there
 core_runs (Some (MadeBlock n c)) t calls kept there is = cc there
 core_runs (Some (MadeTemplate f pc dc)) t calls kept there is = cc there
+core_runs (Some (MadeEvent k fl most)) t calls kept there is = cc there
 
 runs_of : (s : Setting) (past : History) (t : ℕ) → IsBegun s past t → is_running ((parts_of s past).core t) ≡ true
 runs_of s past t (main_one two is) = subst (λ (k : ℕ). is_running ((parts_of s past).core k) ≡ true) (sym two) (rw (is.edt_made, is.calls) refl)

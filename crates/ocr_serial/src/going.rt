@@ -256,7 +256,8 @@ fn core_in(part: &Part) -> Option<&Core>
 {
     match part {
         Part::Core(core) => Some(core),
-        Part::Vacant | Part::Edt(_) | Part::Block(_) | Part::Template(_) => None,
+        Part::Vacant | Part::Edt(_) | Part::Block(_) => None,
+        Part::Template(_) | Part::Event(_) => None,
     }
 }
 

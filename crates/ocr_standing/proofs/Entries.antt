@@ -35,7 +35,8 @@ use Rattle.ocr_quiet.specs.Waits.{held_in, rest_in, held_on, rest_on, IsOrdered,
 use Rattle.ocr_quiet.proofs.Standing.{in_front, push_own}
 use Rattle.ocr_quiet.proofs.Waiting.{advances}
 use Rattle.ocr_standing.specs.Held.{IsLoanKept, IsKeptWith, IsHeldSo, loans_on, AreKeptOnce, AreHeld}
-use Rattle.ocr_standing.proofs.Holding.{if_block, if_any, HoldsElse, IsKeeping, moved_held, faced_held, cored_held, step_stays, linked_stays, vacant_stays, vacant_none, none_kept, doomed_stays}
+use Rattle.ocr_standing.proofs.Holding.{if_block, if_any, HoldsElse, IsKeeping, moved_held, faced_held, cored_held, step_stays, linked_stays, vacant_stays, vacant_none, none_kept, doomed_stays, evented_stays}
+use Rattle.ocr_any_event.specs.AnyEvent as event
 use Rattle.ocr_edt.specs.declared.Identity.{Identity}
 use Rattle.ocr_edt.specs.Steps.{with_next}
 
@@ -421,6 +422,13 @@ called_held limit f t home (call.AddDependence from x i m) a w all never on lega
 called_held limit f t home (call.TemplateCreate function pc dc) a w all never on legal =
     let x : Part = part.Template (record { function = function; paramc = pc; depc = dc; destroyed = false }) in
     faced_held f a.value x all (λ u m l is. vacant_stays u (f.face a.value) x m l (legal.value.fresh on).vacant is)
+called_held limit f t home (call.EventCreate k fl) a w all never on legal =
+    let x : Part = part.Event (event.state_of k fl 0 []) in
+    faced_held f a.value x all (λ u m l is. vacant_stays u (f.face a.value) x m l (legal.value.fresh on).vacant is)
+called_held limit f t home (call.EventCreateParams k fl most sats nd) a w all never on legal =
+    let x : Part = part.Event (event.state_of k fl most []) in
+    faced_held f a.value x all (λ u m l is. vacant_stays u (f.face a.value) x m l (legal.value.fresh on).vacant is)
+called_held limit f t home (call.EventDestroy x) a w all never on legal = faced_held f x _ all (λ u n l is. evented_stays u (f.face x) _ n l is)
 called_held limit f t home (call.EdtCreate from pc params dc deps flags output) a w all never on legal = edt_made_held f a.value (f.face from) dc deps params all (legal.value.named.fresh on).vacant (legal.value.no_core on)
 called_held limit f t home other a w all never on legal = all
 

@@ -2,15 +2,16 @@
 use Rattle.std.proofs.Common.{◌≡◌, ℕ, zero, suc, ◌+◌, ◌<◌, List, [], ◌∷◌, not, Option, Some, None, refl, sym, ◌∙◌, ap, arith, length, map, Bool}
 use Rattle.std.specs.Prelude.{slice_index_or}
 use Rattle.std.specs.List.{filter, range_with_len}
+use Rattle.ocr_guid.specs.Target.{EventCall}
 use Rattle.ocr_acquire.specs.Plan as plan
 use Rattle.ocr_slots.specs.declared.Slot.{Slot}
 use Rattle.ocr_slots.specs.Slots as slot
 use Rattle.ocr_datablock.specs.Block as block
 use Rattle.ocr_history.specs.History.{History}
-use Rattle.ocr_history.specs.Made.{Made, MadeBlock, MadeTemplate, MadeEdt, made, depc_in}
+use Rattle.ocr_history.specs.Made.{Made, MadeBlock, MadeTemplate, MadeEdt, MadeEvent, made, depc_in}
 use Rattle.ocr_parts.specs.declared.part.Part.{Part}
 use Rattle.ocr_parts.specs.declared.part.Part.TheVariants as part
-use Rattle.ocr_parts.specs.Calls.{is_doomed, set_calls, link_calls, block_calls, payload_or_null, asks_in}
+use Rattle.ocr_parts.specs.Calls.{event_calls, set_calls, link_calls, block_calls, payload_or_null, asks_in}
 use Rattle.ocr_parts.specs.Parts.{face}
 use Rattle.ocr_standing.specs.Kept.{FilledLaw, AreSet, filled}
 
@@ -19,11 +20,12 @@ slots_on (part.Edt slots) = slots
 slots_on other = []
 
 -- the face of an EDT has its slots as they are linked
-face_slots : (m : Option Made) (links : List slot.SlotCall) (blocks : List block.BlockCall) (doomed : Bool) (slots : List Slot) → face m links blocks doomed ≡ part.Edt slots → slot.state_of (depc_in m) links ≡ slots
-face_slots None links blocks doomed slots is = cc is
-face_slots (Some (MadeBlock n c)) links blocks doomed slots is = cc is
-face_slots (Some (MadeTemplate f pc dc)) links blocks doomed slots is = cc is
-face_slots (Some (MadeEdt f ps n)) links blocks doomed slots is = ap slots_on is
+face_slots : (m : Option Made) (links : List slot.SlotCall) (blocks : List block.BlockCall) (events : List EventCall) (slots : List Slot) → face m links blocks events ≡ part.Edt slots → slot.state_of (depc_in m) links ≡ slots
+face_slots None links blocks events slots is = cc is
+face_slots (Some (MadeBlock n c)) links blocks events slots is = cc is
+face_slots (Some (MadeTemplate f pc dc)) links blocks events slots is = cc is
+face_slots (Some (MadeEdt f ps n)) links blocks events slots is = ap slots_on is
+face_slots (Some (MadeEvent k fl most)) links blocks events slots is = cc is
 
 module _ (links sets : List slot.SlotCall) where
   -- over the slots from a first one on
@@ -75,7 +77,7 @@ pub filled_law : FilledLaw
 filled_law s past t slots depv is len set =
     let n = depc_in (made s past t) in
     let links = link_calls past t in let sets = set_calls past t in
-    let state = face_slots (made s past t) links (block_calls s past t) (is_doomed past t) slots is in
+    let state = face_slots (made s past t) links (block_calls s past t) (event_calls past t) slots is in
     let count : length depv ≡ n = len ∙ (ap (λ (l : List Slot). length l) (sym state) ∙ many links sets n 0) in
     let from = set_from past t depv set in
     record {

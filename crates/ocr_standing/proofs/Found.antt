@@ -1,6 +1,7 @@
 -- What an EDT finds in a block that it acquires in EW or CONST.
 use Rattle.std.proofs.Common.{◌≡◌, ℕ, ◌/◌, List, [], ◌∷◌, Bool, true, false, Option, Some, None, ◌==◌, ◌&&◌, if◌then◌else◌, refl, sym, ◌∙◌, ap, subst}
 use Rattle.std.proofs.lemmas.Bool.{eqb-true, eq-eqb}
+use Rattle.ocr_guid.specs.Target.{EventCall}
 use Rattle.ocr_acquire.specs.declared.Mode.{Mode}
 use Rattle.ocr_acquire.specs.declared.Mode.TheVariants as mode
 use Rattle.ocr_acquire.specs.Mode.{is_exclusive, mode_in}
@@ -20,7 +21,7 @@ use Rattle.ocr_parts.specs.declared.loans.Kept.{Kept}
 use Rattle.ocr_parts.specs.declared.part.Part.{Part}
 use Rattle.ocr_parts.specs.declared.part.Part.TheVariants as part
 use Rattle.ocr_parts.specs.Loans.{kept_in, without_kept, loan_in, given_loan, kept_created}
-use Rattle.ocr_parts.specs.Calls.{is_holding, is_number, next_mode, ask_calls, lend_calls, grant_calls, return_calls, end_calls, doom_calls, block_step, block_calls, contents_of, kept_now, loan_step, loans_of, edt_calls, link_calls, is_doomed}
+use Rattle.ocr_parts.specs.Calls.{is_holding, is_number, next_mode, ask_calls, lend_calls, grant_calls, return_calls, end_calls, doom_calls, block_step, block_calls, contents_of, kept_now, loan_step, loans_of, edt_calls, link_calls, event_calls}
 use Rattle.ocr_parts.specs.Parts.{face, core, parts_of}
 use Rattle.ocr_parts.specs.Kinds.{IsBlock, is_running, kept_on}
 use Rattle.ocr_parts.specs.LegalOn.{IsAnswered, IsShared}
@@ -138,16 +139,16 @@ record IsLent (md : Option Made) (blocks : List block.BlockCall) (t : ℕ) : Typ
   there : md ≡ None → ⊥
   lent : block.borrower_of blocks ≡ Some t
 
-lent_block : (md : Option Made) (links : List slot.SlotCall) (blocks : List block.BlockCall) (doomed : Bool) (t : ℕ) (kept : Kept) → IsBlock (face md links blocks doomed) (IsKeptWith t mode.Ew kept) → IsLent md blocks t
-lent_block (Some (MadeBlock n c)) links blocks doomed t kept is = record { there = λ none. cc none; lent = borrower_is t (block.borrower_of blocks) (lent_loan t kept.loan (block.state_of n c blocks) is.loan) }
-lent_block other links blocks doomed t kept is = absurd is
+lent_block : (md : Option Made) (links : List slot.SlotCall) (blocks : List block.BlockCall) (events : List EventCall) (t : ℕ) (kept : Kept) → IsBlock (face md links blocks events) (IsKeptWith t mode.Ew kept) → IsLent md blocks t
+lent_block (Some (MadeBlock n c)) links blocks events t kept is = record { there = λ none. cc none; lent = borrower_is t (block.borrower_of blocks) (lent_loan t kept.loan (block.state_of n c blocks) is.loan) }
+lent_block other links blocks events t kept is = absurd is
 
 made_there : (s : Setting) (past : History) (t : ℕ) (c : body.Call) (a : Answer) (u : ℕ) → IsAnswered s.limit (parts_of s past) t c a → (made s past u ≡ None → ⊥) → is_new c a u ≡ false
 made_there s past t (call.DbCreate n fl) a u legal there = off_from (makes a u) (λ on. there (new_free s past a u legal on))
 made_there s past t (call.TemplateCreate f pc dc) a u legal there = off_from (makes a u) (λ on. there (new_free s past a u legal on))
+made_there s past t (call.EventCreate kind fl) a u legal there = off_from (makes a u) (λ on. there (new_free s past a u legal on))
+made_there s past t (call.EventCreateParams kind fl most sats nd) a u legal there = off_from (makes a u) (λ on. there (new_free s past a u legal on))
 made_there s past t (call.EdtCreate from pc ps dc ds fl o) a u legal there = off_from (makes a u) (λ on. there (new_free s past a u legal.named on))
-made_there s past t (call.EventCreate kind fl) a u legal there = absurd legal
-made_there s past t (call.EventCreateParams kind fl mg ns nd) a u legal there = absurd legal
 made_there s past t other a u legal there = refl
 
 not_back : (by t : ℕ) (o : Option ℕ) → o ≡ Some t → (by == t) ≡ false → is_number by o ≡ false
@@ -164,9 +165,9 @@ doomed_if : (n by : ℕ) (w : List (ℕ × ℕ)) (calls : List block.BlockCall) 
 doomed_if n by w calls true off = returned_same n by w calls off
 doomed_if n by w calls false off = refl
 
-not_lent : (md : Option Made) (links : List slot.SlotCall) (blocks : List block.BlockCall) (doomed : Bool) (t k : ℕ) (o : Option Mode) → IsBlock (face md links blocks doomed) (IsShared t k o) → block.borrower_of blocks ≡ None
-not_lent (Some (MadeBlock n c)) links blocks doomed t k o is = is.not_lent
-not_lent other links blocks doomed t k o is = absurd is
+not_lent : (md : Option Made) (links : List slot.SlotCall) (blocks : List block.BlockCall) (events : List EventCall) (t k : ℕ) (o : Option Mode) → IsBlock (face md links blocks events) (IsShared t k o) → block.borrower_of blocks ≡ None
+not_lent (Some (MadeBlock n c)) links blocks events t k o is = is.not_lent
+not_lent other links blocks events t k o is = absurd is
 
 step_same : (s : Setting) (past : History) (by : ℕ) (c : body.Call) (a : Answer) (w : List (ℕ × ℕ)) (t d n : ℕ) → IsAnswered s.limit (parts_of s past) by c a → block.borrower_of (block_calls s past d) ≡ Some t → (by == t) ≡ false
     → block.contents n (block_step by c a w d (block_calls s past d)) ≡ block.contents n (block_calls s past d)
@@ -175,7 +176,7 @@ step_same s past by (call.DbDestroy b) a w t d n legal lent apart = doomed_if n 
 step_same s past by (call.Store b k v) a w t d n legal lent apart = elim (is_done a.code && (b == d)) as (λ c. (is_done a.code && (b == d)) ≡ c → block.contents n (if c then block.Store k v ∷ block_calls s past d else block_calls s past d) ≡ block.contents n (block_calls s past d)) [
   | true ↦ λ on. absurd (
       let here : b ≡ d = eqb-true b d (both_true (is_done a.code) (b == d) on).1 in
-      let none : block.borrower_of (block_calls s past d) ≡ None = subst (λ (g : ℕ). block.borrower_of (block_calls s past g) ≡ None) here (not_lent (made s past b) (link_calls past b) (block_calls s past b) (is_doomed past b) by k _ legal.0) in
+      let none : block.borrower_of (block_calls s past d) ≡ None = subst (λ (g : ℕ). block.borrower_of (block_calls s past g) ≡ None) here (not_lent (made s past b) (link_calls past b) (block_calls s past b) (event_calls past b) by k _ legal.0) in
       cc (lent, none))
   | false ↦ λ _. refl
 ] refl
@@ -195,7 +196,7 @@ asked_same n t m calls false = refl
 pub unchanged_law : UnchangedLaw
 unchanged_law s past e t d run legal held apart =
     let with_it = kept_with s past t d mode.Ew run held in
-    let is = lent_block (made s past d) (link_calls past d) (block_calls s past d) (is_doomed past d) t with_it.0 with_it.2 in
+    let is = lent_block (made s past d) (link_calls past d) (block_calls s past d) (event_calls past d) t with_it.0 with_it.2 in
     by_entry e legal apart is.there is.lent
   where
     by_entry : (e : Entry) → IsLegal s past e → is_own e t ≡ false → (made s past d ≡ None → ⊥) → block.borrower_of (block_calls s past d) ≡ Some t → contents_of s (e ∷ past) d ≡ contents_of s past d

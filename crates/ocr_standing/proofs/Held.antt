@@ -1,6 +1,7 @@
 -- What the EDTs of a run hold, and that a running EDT may give back what it holds.
 use Rattle.std.proofs.Common.{◌≡◌, inl, inr, ℕ, List, [], ◌∷◌, true, false, Option, Some, None, ◌==◌, ◌&&◌, if◌then◌else◌, refl, sym, ◌∙◌, ap, subst, is_some, length, arith, Bool}
 use Rattle.std.proofs.lemmas.Bool.{eqb-true}
+use Rattle.ocr_guid.specs.Target.{EventCall}
 use Rattle.ocr_acquire.specs.declared.Mode.{Mode}
 use Rattle.ocr_acquire.specs.Mode.{is_exclusive, mode_in}
 use Rattle.ocr_slots.specs.Slots as slot
@@ -19,7 +20,7 @@ use Rattle.ocr_history.specs.Made.{Made, MadeBlock, MadeEdt, made, opened}
 use Rattle.ocr_parts.specs.declared.loans.Kept.{Kept}
 use Rattle.ocr_parts.specs.declared.part.Part.{Part}
 use Rattle.ocr_parts.specs.declared.part.Part.TheVariants as part
-use Rattle.ocr_parts.specs.Calls.{plan_of, link_calls, block_calls, edt_calls, loans_of, is_doomed}
+use Rattle.ocr_parts.specs.Calls.{plan_of, link_calls, block_calls, edt_calls, loans_of, event_calls}
 use Rattle.ocr_parts.specs.Parts.{Parts, face, core, parts_of}
 use Rattle.ocr_parts.specs.Kinds.{IsBlock, is_held_by, on_core, work_in, work_of, is_running, holds_of, mode_on, kept_on, loan_on}
 use Rattle.ocr_parts.specs.Effects.{with_phase, made_ready, ready_at, readied_on}
@@ -47,6 +48,8 @@ pub zero_law : (s : Setting) (past : History) → IsRun s past → made s past 0
 zero_law s [] run = refl
 zero_law s (Call t home (call.DbCreate n fl) a w ∷ past) run = zero_if s.limit (parts_of s past) a _ (made s past 0) run.1.on_parts.value (zero_law s past run.0)
 zero_law s (Call t home (call.TemplateCreate f pc dc) a w ∷ past) run = zero_if s.limit (parts_of s past) a _ (made s past 0) run.1.on_parts.value (zero_law s past run.0)
+zero_law s (Call t home (call.EventCreate kind fl) a w ∷ past) run = zero_if s.limit (parts_of s past) a _ (made s past 0) run.1.on_parts.value (zero_law s past run.0)
+zero_law s (Call t home (call.EventCreateParams kind fl most sats nd) a w ∷ past) run = zero_if s.limit (parts_of s past) a _ (made s past 0) run.1.on_parts.value (zero_law s past run.0)
 zero_law s (Call t home (call.EdtCreate from pc ps dc ds fl o) a w ∷ past) run = zero_if s.limit (parts_of s past) a _ (made s past 0) run.1.on_parts.value.named (zero_law s past run.0)
 zero_law s (e ∷ past) run = zero_law s past run.0
 
@@ -67,16 +70,16 @@ never_runs : (s : Setting) (past : History) (e : Entry) → IsRun s past → is_
 never_runs s past e run = ap is_running (readied_zero s past e (ap (λ (m : Option Made). core m 0 (edt_calls s past 0) (loans_of s past 0)) (zero_law s past run)))
 
 -- THE WORDS of a block are there
-whole_face : (m : Option Made) (links : List slot.SlotCall) (blocks : List block.BlockCall) (doomed : Bool) → IsWhole (face m links blocks doomed)
-whole_face (Some (MadeBlock n c)) links blocks doomed = λ none. let words = words_law n c blocks in ap (λ (l : List ℕ). length l) (words.0 none) ∙ words.1
-whole_face other links blocks doomed = tt
+whole_face : (m : Option Made) (links : List slot.SlotCall) (blocks : List block.BlockCall) (events : List EventCall) → IsWhole (face m links blocks events)
+whole_face (Some (MadeBlock n c)) links blocks events = λ none. let words = words_law n c blocks in ap (λ (l : List ℕ). length l) (words.0 none) ∙ words.1
+whole_face other links blocks events = tt
 
 readied_whole : (s : Setting) (past : History) (e : Entry) (d : ℕ) → IsWhole ((readied_on s past e (parts_of s past)).face d)
-readied_whole s past (Acquire t b) d = whole_face (made s past d) (link_calls past d) (block_calls s past d) (is_doomed past d)
-readied_whole s past (Wait t b) d = whole_face (made s past d) (link_calls past d) (block_calls s past d) (is_doomed past d)
-readied_whole s past (StaleAcquire t b) d = whole_face (made s past d) (link_calls past d) (block_calls s past d) (is_doomed past d)
-readied_whole s past (Start t) d = whole_face (made s past d) (link_calls past d) (block_calls s past d) (is_doomed past d)
-readied_whole s past other d = whole_face (made s past d) (link_calls past d) (block_calls s past d) (is_doomed past d)
+readied_whole s past (Acquire t b) d = whole_face (made s past d) (link_calls past d) (block_calls s past d) (event_calls past d)
+readied_whole s past (Wait t b) d = whole_face (made s past d) (link_calls past d) (block_calls s past d) (event_calls past d)
+readied_whole s past (StaleAcquire t b) d = whole_face (made s past d) (link_calls past d) (block_calls s past d) (event_calls past d)
+readied_whole s past (Start t) d = whole_face (made s past d) (link_calls past d) (block_calls s past d) (event_calls past d)
+readied_whole s past other d = whole_face (made s past d) (link_calls past d) (block_calls s past d) (event_calls past d)
 
 -- AFTER EACH RUN
 new_held : (m : Option Made) (t e : ℕ) → (mode_in e (held_on (core m t [] [])) ≡ None) × (kept_on (core m t [] []) e ≡ None)

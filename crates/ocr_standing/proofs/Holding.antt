@@ -12,7 +12,8 @@ use Rattle.ocr_parts.specs.declared.part.Part.{Part}
 use Rattle.ocr_parts.specs.declared.part.Part.TheVariants as part
 use Rattle.ocr_parts.specs.Calls.{is_number}
 use Rattle.ocr_parts.specs.Parts.{Parts}
-use Rattle.ocr_parts.specs.Kinds.{IsBlock, with_block, with_links, kept_on, with_template}
+use Rattle.ocr_parts.specs.Kinds.{IsBlock, with_block, with_links, kept_on, with_template, with_event}
+use Rattle.ocr_any_event.specs.declared.AnyEvent.{AnyEvent}
 use Rattle.ocr_parts.specs.Effects.{with_face, with_core, doomed_template}
 use Rattle.ocr_quiet.specs.Waits.{held_on}
 use Rattle.ocr_standing.specs.Held.{IsLoanKept, IsKeptWith, IsHeldSo, loans_on, AreKeptOnce, AreHeld}
@@ -117,6 +118,13 @@ template_stays u other m k is = absurd is
 
 pub doomed_stays : (u : ℕ) (x : Part) (m : Option Mode) (k : Option Kept) → IsHeldSo u x m k → IsHeldSo u (with_template x doomed_template) m k
 doomed_stays u x m k is = so_stays u x (with_template x doomed_template) m k (template_stays u x) is
+
+event_stays : (u : ℕ) (x : Part) (step : AnyEvent → AnyEvent) (m : Mode) (k : Kept) → IsBlock x (IsKeptWith u m k) → IsBlock (with_event x step) (IsKeptWith u m k)
+event_stays u (part.Block st) step m k is = is
+event_stays u other step m k is = absurd is
+
+pub evented_stays : (u : ℕ) (x : Part) (step : AnyEvent → AnyEvent) (m : Option Mode) (k : Option Kept) → IsHeldSo u x m k → IsHeldSo u (with_event x step) m k
+evented_stays u x step m k is = so_stays u x (with_event x step) m k (event_stays u x step) is
 
 -- of what is not there nobody holds anything
 pub vacant_stays : (u : ℕ) (x y : Part) (m : Option Mode) (k : Option Kept) → x ≡ part.Vacant → IsHeldSo u x m k → IsHeldSo u y m k

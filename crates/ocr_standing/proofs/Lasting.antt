@@ -33,6 +33,8 @@ keeps_made false x y m free is = is
 pub made_law : MadeLaw
 made_law s past (Call t home (call.DbCreate n fl) a w) g m legal is = keeps_made (makes a g) _ (made s past g) m (new_free s past a g legal.on_parts.value) is
 made_law s past (Call t home (call.TemplateCreate f pc dc) a w) g m legal is = keeps_made (makes a g) _ (made s past g) m (new_free s past a g legal.on_parts.value) is
+made_law s past (Call t home (call.EventCreate kind fl) a w) g m legal is = keeps_made (makes a g) _ (made s past g) m (new_free s past a g legal.on_parts.value) is
+made_law s past (Call t home (call.EventCreateParams kind fl most sats nd) a w) g m legal is = keeps_made (makes a g) _ (made s past g) m (new_free s past a g legal.on_parts.value) is
 made_law s past (Call t home (call.EdtCreate from pc ps dc ds fl o) a w) g m legal is = keeps_made (makes a g) _ (made s past g) m (new_free s past a g legal.on_parts.value.named) is
 made_law s past other g m legal is = is
 
@@ -44,9 +46,9 @@ edt_some (Some m) none is = cc none
 pub made_old : (s : Setting) (past : History) (t : ℕ) (c : body.Call) (a : Answer) (u : ℕ) → IsAnswered s.limit (parts_of s past) t c a → is_edt_made (made s past u) ≡ true → is_new c a u ≡ false
 made_old s past t (call.DbCreate n fl) a u legal is = off_from (makes a u) (λ on. edt_some (made s past u) (new_free s past a u legal on) is)
 made_old s past t (call.TemplateCreate f pc dc) a u legal is = off_from (makes a u) (λ on. edt_some (made s past u) (new_free s past a u legal on) is)
+made_old s past t (call.EventCreate kind fl) a u legal is = off_from (makes a u) (λ on. edt_some (made s past u) (new_free s past a u legal on) is)
+made_old s past t (call.EventCreateParams kind fl most sats nd) a u legal is = off_from (makes a u) (λ on. edt_some (made s past u) (new_free s past a u legal on) is)
 made_old s past t (call.EdtCreate from pc ps dc ds fl o) a u legal is = off_from (makes a u) (λ on. edt_some (made s past u) (new_free s past a u legal.named on) is)
-made_old s past t (call.EventCreate kind fl) a u legal is = absurd legal
-made_old s past t (call.EventCreateParams kind fl mg ns nd) a u legal is = absurd legal
 made_old s past t other a u legal is = refl
 
 -- WHERE ALL SLOTS ARE SET

@@ -3,6 +3,7 @@ use Rattle.std.proofs.Common.{◌≡◌, ℕ, zero, suc, ◌+◌, ◌<◌, ◌�
 use Rattle.std.specs.Prelude.{slice_index_or}
 use Rattle.std.proofs.lemmas.Grind.{common_steps}
 use Rattle.std.proofs.lemmas.Bool.{eqb-true, ltb-true}
+use Rattle.ocr_guid.specs.Target.{EventCall, was_destroyed}
 use mathlib.Core.Option.{some, some-injective, some-ne-none}
 use lib.ListN.{get_elem?}
 use Rattle.ocr_guid.specs.declared.Code.{Code}
@@ -17,7 +18,7 @@ use Rattle.ocr_history.specs.declared.entry.What.{What}
 use Rattle.ocr_history.specs.History.{History, Setting}
 use Rattle.ocr_history.specs.Made.{Made, MadeTemplate, MadeEdt, made, makes, opened, edt_from, depc_in}
 use Rattle.ocr_meaning.specs.Holds.{is_done}
-use Rattle.ocr_parts.specs.Calls.{mode_named, is_given, with_dep, dep_links, link_calls, set_step, set_calls, block_calls, depc_of, is_doomed}
+use Rattle.ocr_parts.specs.Calls.{mode_named, is_given, with_dep, dep_links, link_calls, set_step, set_calls, block_calls, depc_of, event_calls}
 use Rattle.ocr_parts.specs.Codes.{link_code, counted_code, creation_code}
 use Rattle.ocr_parts.specs.Messages.{sends, dep_sets, delivered, pending}
 use Rattle.ocr_parts.specs.Parts.{parts_of, face}
@@ -262,17 +263,17 @@ if_eperm : (b : Bool) → (if b then code.Eperm else code.Done) ≡ code.Done �
 if_eperm true is = cc is
 if_eperm false is = refl
 
-linkable_slot : (m : Option Made) (links : List slot.SlotCall) (blocks : List block.BlockCall) (doomed : Bool) (i : ℕ) → link_code (face m links blocks doomed) i ≡ code.Done → (nat_lt i (depc_in m) ≡ true) × (slot.is_linked links i ≡ false)
-linkable_slot (Some (MadeEdt f ps n)) links blocks doomed i is =
+linkable_slot : (m : Option Made) (links : List slot.SlotCall) (blocks : List block.BlockCall) (events : List EventCall) (i : ℕ) → link_code (face m links blocks events) i ≡ code.Done → (nat_lt i (depc_in m) ≡ true) × (slot.is_linked links i ≡ false)
+linkable_slot (Some (MadeEdt f ps n)) links blocks events i is =
     let found = if_einval (nat_lt i n) _ (sym (answer_law n links i) ∙ is) in
     (found.0, if_eperm (slot.is_linked links i) found.1)
-linkable_slot other links blocks doomed i is = cc is
+linkable_slot other links blocks events i is = cc is
 
 -- the slot that an accepted dependence links
 pub dependence_slot : (s : Setting) (past : History) (u home from x i m : ℕ) (a : Answer) (w : List (ℕ × ℕ)) → is_done a.code ≡ true → IsCallOn s.limit (parts_of s past) u home (call.AddDependence from x i m) a w
     → (nat_lt i (depc_of s past x) ≡ true) × (slot.is_linked (link_calls past x) i ≡ false)
 dependence_slot s past u home from x i m a w on legal =
-    linkable_slot (made s past x) (link_calls past x) (block_calls s past x) (is_doomed past x) i
+    linkable_slot (made s past x) (link_calls past x) (block_calls s past x) (event_calls past x) i
     (linkable ((parts_of s past).face x) i m (accepted u (parts_of s past).face (call.AddDependence from x i m) (sym legal.code ∙ done_is a.code on)))
 
 length_fits : (k n : ℕ) → ((k == 0) || (k == n)) ≡ true → k ≤ n
@@ -290,15 +291,15 @@ counted_fits t pc dc params deps flags is = elim (is_refused t.paramc pc _ || is
       length_fits (length deps) (count_meant t.depc dc) second.0
 ] is
 
-template_fits : (m : Option Made) (links : List slot.SlotCall) (blocks : List block.BlockCall) (doomed : Bool) (pc dc : ℕ) (params deps : List ℕ) (flags : ℕ) → creation_code (face m links blocks doomed) pc params dc deps flags ≡ code.Done → length deps ≤ depc_in (edt_from m params dc)
-template_fits (Some (MadeTemplate f own_pc own)) links blocks doomed pc dc params deps flags is = counted_fits (record { function = f; paramc = own_pc; depc = own; destroyed = doomed }) pc dc params deps flags is
-template_fits other links blocks doomed pc dc params deps flags is = cc is
+template_fits : (m : Option Made) (links : List slot.SlotCall) (blocks : List block.BlockCall) (events : List EventCall) (pc dc : ℕ) (params deps : List ℕ) (flags : ℕ) → creation_code (face m links blocks events) pc params dc deps flags ≡ code.Done → length deps ≤ depc_in (edt_from m params dc)
+template_fits (Some (MadeTemplate f own_pc own)) links blocks events pc dc params deps flags is = counted_fits (record { function = f; paramc = own_pc; depc = own; destroyed = was_destroyed events }) pc dc params deps flags is
+template_fits other links blocks events pc dc params deps flags is = cc is
 
 -- the dependences of an accepted creation are no more than its slots
 created_fits : (s : Setting) (past : History) (u home from pc dc fl : ℕ) (ps ds : List ℕ) (o : Bool) (a : Answer) (w : List (ℕ × ℕ)) → is_done a.code ≡ true → IsCallOn s.limit (parts_of s past) u home (call.EdtCreate from pc ps dc ds fl o) a w
     → length ds ≤ depc_in (edt_from (made s past from) ps dc)
 created_fits s past u home from pc dc fl ps ds o a w on legal =
-    template_fits (made s past from) (link_calls past from) (block_calls s past from) (is_doomed past from) pc dc ps ds fl
+    template_fits (made s past from) (link_calls past from) (block_calls s past from) (event_calls past from) pc dc ps ds fl
     (accepted u (parts_of s past).face (call.EdtCreate from pc ps dc ds fl o) (sym legal.code ∙ done_is a.code on))
 
 -- the slots that a list of dependences links
@@ -334,6 +335,8 @@ linked_below s [] t k run is = opened_below s t k (t == MAIN_EDT) refl is
     opened_below s t k false e is = cc is
 linked_below s (Call u home (call.DbCreate n fl) a w ∷ past) t k run is = links_if (makes a t) [] (link_calls past t) _ (made s past t) k (λ _ never. cc never) (linked_below s past t k run.0) is
 linked_below s (Call u home (call.TemplateCreate f pc dc) a w ∷ past) t k run is = links_if (makes a t) [] (link_calls past t) _ (made s past t) k (λ _ never. cc never) (linked_below s past t k run.0) is
+linked_below s (Call u home (call.EventCreate kind fl) a w ∷ past) t k run is = links_if (makes a t) [] (link_calls past t) _ (made s past t) k (λ _ never. cc never) (linked_below s past t k run.0) is
+linked_below s (Call u home (call.EventCreateParams kind fl most sats nd) a w ∷ past) t k run is = links_if (makes a t) [] (link_calls past t) _ (made s past t) k (λ _ never. cc never) (linked_below s past t k run.0) is
 linked_below s (Call u home (call.EdtCreate from pc ps dc ds fl o) a w ∷ past) t k run is =
     links_if (makes a t) (dep_links 0 ds []) (link_calls past t) (edt_from (made s past from) ps dc) (made s past t) k
     (λ on linked. let fits = created_fits s past u home from pc dc fl ps ds o a w (both_true (is_done a.code) (a.value == t) on).0 run.1.on_parts in deps_below 0 _ k ds [] (omega (arith, fits)) (λ never. cc never) linked)
@@ -348,8 +351,6 @@ linked_below s (Call u home (call.AddDependence from x i m) a w ∷ past) t k ru
       ]
   | false ↦ λ _ is. linked_below s past t k run.0 is
 ] refl is
-linked_below s (Call u home (call.EventCreate kind fl) a w ∷ past) t k run is = absurd run.1.on_parts.value
-linked_below s (Call u home (call.EventCreateParams kind fl mg ns nd) a w ∷ past) t k run is = absurd run.1.on_parts.value
 linked_below s (Call u home other a w ∷ past) t k run is = linked_below s past t k run.0 is
 linked_below s (other ∷ past) t k run is = linked_below s past t k run.0 is
 
@@ -430,6 +431,16 @@ is_once s (Call u home (call.TemplateCreate f pc dc) a w ∷ past) t k run =
     let no = no_more s past e t k refl (nothing (is_done a.code) t k) in
     let r = new_once (makes a t) k 0 (waiting s past t k) [] (link_calls past t) (set_calls past t) (λ on. fresh_once s past t k run.0 (new_free s past a t run.1.on_parts.value on) before) (λ _. omega arith) (λ _. refl) before in
     omega (arith, no, r)
+is_once s (Call u home (call.EventCreate kind fl) a w ∷ past) t k run =
+    let e = Call u home (call.EventCreate kind fl) a w in let before = is_once s past t k run.0 in
+    let no = no_more s past e t k refl (nothing (is_done a.code) t k) in
+    let r = new_once (makes a t) k 0 (waiting s past t k) [] (link_calls past t) (set_calls past t) (λ on. fresh_once s past t k run.0 (new_free s past a t run.1.on_parts.value on) before) (λ _. omega arith) (λ _. refl) before in
+    omega (arith, no, r)
+is_once s (Call u home (call.EventCreateParams kind fl most sats nd) a w ∷ past) t k run =
+    let e = Call u home (call.EventCreateParams kind fl most sats nd) a w in let before = is_once s past t k run.0 in
+    let no = no_more s past e t k refl (nothing (is_done a.code) t k) in
+    let r = new_once (makes a t) k 0 (waiting s past t k) [] (link_calls past t) (set_calls past t) (λ on. fresh_once s past t k run.0 (new_free s past a t run.1.on_parts.value on) before) (λ _. omega arith) (λ _. refl) before in
+    omega (arith, no, r)
 is_once s (Call u home (call.EdtCreate from pc ps dc ds fl o) a w ∷ past) t k run =
     let e = Call u home (call.EdtCreate from pc ps dc ds fl o) a w in let before = is_once s past t k run.0 in
     let ad = added s past e t k refl in
@@ -446,8 +457,6 @@ is_once s (Call u home (call.AddDependence from x i m) a w ∷ past) t k run =
       | false ↦ λ _. omega (arith, before)
     ] refl in
     omega (arith, ad, r)
-is_once s (Call u home (call.EventCreate kind fl) a w ∷ past) t k run = absurd run.1.on_parts.value
-is_once s (Call u home (call.EventCreateParams kind fl mg ns nd) a w ∷ past) t k run = absurd run.1.on_parts.value
 is_once s (Call u home other a w ∷ past) t k run =
     let before = is_once s past t k run.0 in
     let no = no_more s past (Call u home other a w) t k refl (nothing (is_done a.code) t k) in omega (arith, no, before)

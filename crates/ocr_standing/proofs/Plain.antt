@@ -17,7 +17,7 @@ use Rattle.ocr_history.specs.Made.{Made, MadeBlock, MadeEdt, made, creator_in, i
 use Rattle.ocr_parts.specs.declared.loans.Kept.{Kept}
 use Rattle.ocr_parts.specs.declared.part.Part.{Part}
 use Rattle.ocr_parts.specs.declared.part.Part.TheVariants as part
-use Rattle.ocr_parts.specs.Calls.{asks_in, slots_now, plan_of, with_plan, edt_calls, loans_of, link_calls, block_calls, is_doomed, mode_next, next_member, open_slots}
+use Rattle.ocr_parts.specs.Calls.{asks_in, slots_now, plan_of, with_plan, edt_calls, loans_of, link_calls, block_calls, event_calls, mode_next, next_member, open_slots}
 use Rattle.ocr_parts.specs.Parts.{Parts, face, core, identity_of, parts_of}
 use Rattle.ocr_parts.specs.Kinds.{IsBlock, is_block, on_core, progress_in, core_progress, next_in, is_acquiring, is_acquiring_edt}
 use Rattle.ocr_parts.specs.Effects.{with_phase, made_ready, ready_at, next_on, next_mode_on}
@@ -40,6 +40,7 @@ use Rattle.ocr_standing.specs.Plain.{next_planned, NextLaw, IsReady, IsReadyFor,
 use Rattle.ocr_standing.proofs.Own.{goes_on, not_started}
 use Rattle.ocr_standing.proofs.Planned.{planned_law, ready_is}
 use Rattle.std.specs.List.{filter}
+use Rattle.ocr_guid.specs.Target.{EventCall}
 
 -- WHAT COMES NEXT, by the calls of the EDT and by its core
 phase_rest : (i : Identity) (one : edt.EdtCall) (rest : List edt.EdtCall) (p : Progress) → progress_in (edt.edt_of i (one ∷ rest)) ≡ Some p → p.rest ≡ edt.undone_of (one ∷ rest)
@@ -106,16 +107,16 @@ empty_queue d t [] x is = refl
 empty_queue true t (one ∷ rest) x is = cc is
 empty_queue false t (one ∷ rest) x is = cc is
 
-available : (md : Option Made) (links : List slot.SlotCall) (blocks : List block.BlockCall) (doomed : Bool) (t : ℕ) (m : Mode) → is_null m ≡ false
+available : (md : Option Made) (links : List slot.SlotCall) (blocks : List block.BlockCall) (events : List EventCall) (t : ℕ) (m : Mode) → is_null m ≡ false
     → ((k : Mode) → block.can_grant (block.is_destroyed blocks) (block.line_of (creator_in md) blocks) k ≡ true → block.borrower_of blocks ≡ None)
     → (is_some (mode_in t (block.holders_of (creator_in md) blocks)) ≡ true → block.borrower_of blocks ≡ None)
-    → ((k : Mode) → mode_in t (standing (face md links blocks doomed)) ≡ Some k → k ≡ m)
-    → IsAvailable (face md links blocks doomed) t m → IsBlock (face md links blocks doomed) (IsTaken t m)
-available (Some (MadeBlock n c)) links blocks doomed t m used free awaited own (inl held) =
+    → ((k : Mode) → mode_in t (standing (face md links blocks events)) ≡ Some k → k ≡ m)
+    → IsAvailable (face md links blocks events) t m → IsBlock (face md links blocks events) (IsTaken t m)
+available (Some (MadeBlock n c)) links blocks events t m used free awaited own (inl held) =
     let found = some_mode (mode_in t (block.holders_of c blocks)) held in
     let same : found.0 ≡ m = own found.0 (in_front t (block.holders_of c blocks) (block.queue_of c blocks) found.0 found.1) in
     record { fit = inl (found.1 ∙ ap (λ (j : Mode). Some j) same); not_lent = awaited held }
-available (Some (MadeBlock n c)) links blocks doomed t m used free awaited own (inr can) = elim (mode_in t (block.holders_of c blocks)) as (λ o. mode_in t (block.holders_of c blocks) ≡ o → IsTaken t m (block.state_of n c blocks)) [
+available (Some (MadeBlock n c)) links blocks events t m used free awaited own (inr can) = elim (mode_in t (block.holders_of c blocks)) as (λ o. mode_in t (block.holders_of c blocks) ≡ o → IsTaken t m (block.state_of n c blocks)) [
   | Some k ↦ λ held.
       let same : k ≡ m = own k (in_front t (block.holders_of c blocks) (block.queue_of c blocks) k held) in
       record { fit = inl (held ∙ ap (λ (j : Mode). Some j) same); not_lent = free m can }
@@ -124,7 +125,7 @@ available (Some (MadeBlock n c)) links blocks doomed t m used free awaited own (
     not_lent = free m can;
   }
 ] refl
-available other links blocks doomed t m used free awaited own avail = elim avail [ inl is ↦ cc is | inr is ↦ cc is ]
+available other links blocks events t m used free awaited own avail = elim avail [ inl is ↦ cc is | inr is ↦ cc is ]
 
 none_front : (t : ℕ) (xs ys : List (ℕ × Mode)) → mode_in t (xs ++ ys) ≡ None → mode_in t xs ≡ None
 none_front t xs ys is = elim (mode_in t xs) as (λ o. mode_in t xs ≡ o → o ≡ None) [
@@ -206,7 +207,7 @@ acquiring_idle other is = cc is
 pub acquire_on : (s : Setting) (past : History) (t d : ℕ) (m : Mode) → IsRun s past → IsNow s past t d m (ready_at t (plan_of s past t) (parts_of s past)) → IsAvailable ((parts_of s past).face d) t m → IsOnParts s past (Acquire t d)
 acquire_on s past t d m run is avail =
     let f : Parts = ready_at t (plan_of s past t) (parts_of s past) in
-    let taken : IsBlock (f.face d) (IsTaken t m) = available (made s past d) (link_calls past d) (block_calls s past d) (is_doomed past d) t m is.facts.used (free_law s past run d).grantable (awaited_law s past run t d m is.member) is.own avail in
+    let taken : IsBlock (f.face d) (IsTaken t m) = available (made s past d) (link_calls past d) (block_calls s past d) (event_calls past d) t m is.facts.used (free_law s past run d).grantable (awaited_law s past run t d m is.member) is.own avail in
     record { next = is.next ∙ ap (λ (k : Mode). Some (d, k)) is.mode; taken = subst (λ (k : Mode). IsBlock (f.face d) (IsTaken t k)) is.mode taken }
 
 pub wait_on : (s : Setting) (past : History) (t d : ℕ) (m : Mode) → IsRun s past → IsNow s past t d m (ready_at t (plan_of s past t) (parts_of s past)) → is_acquiring ((ready_at t (plan_of s past t) (parts_of s past)).core t) ≡ true
@@ -230,7 +231,7 @@ acquire_from : (s : Setting) (past : History) (t d : ℕ) (m : Mode) → IsRun s
 acquire_from s past t d m run ready avail =
     let f : Parts = ready_at t (plan_of s past t) (parts_of s past) in
     let is = now s past t d m run ready in
-    let taken : IsBlock (f.face d) (IsTaken t m) = available (made s past d) (link_calls past d) (block_calls s past d) (is_doomed past d) t m is.facts.used (free_law s past run d).grantable (awaited_law s past run t d m is.member) is.own avail in
+    let taken : IsBlock (f.face d) (IsTaken t m) = available (made s past d) (link_calls past d) (block_calls s past d) (event_calls past d) t m is.facts.used (free_law s past run d).grantable (awaited_law s past run t d m is.member) is.own avail in
     record {
       open_run = ready.ready.open_run;
       on_parts = record { next = is.next ∙ ap (λ (k : Mode). Some (d, k)) is.mode; taken = subst (λ (k : Mode). IsBlock (f.face d) (IsTaken t k)) is.mode taken };

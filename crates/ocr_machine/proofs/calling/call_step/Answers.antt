@@ -1,4 +1,4 @@
-use Rattle.ocr_machine.proofs.Accepted.{deps_given, deps_few, block_dooms, block_live, template_there}
+use Rattle.ocr_machine.proofs.Accepted.{deps_given, deps_few, block_dooms, block_live, template_there, event_there}
 use Rattle.ocr_machine.proofs.calling.call_step.Goals as goal
 
 pub create_edt-requires-clause-deps : goal.create_edt-requires-clause-deps
@@ -24,3 +24,9 @@ doom_template-requires c = template_there _ _ _ _ (rw c.in-TemplateDestroy.is at
 
 pub returns-in-TemplateDestroy-clause-parts : goal.returns-in-TemplateDestroy-clause-parts
 returns-in-TemplateDestroy-clause-parts c = rw c.in-TemplateDestroy.is c.doom_template.ensures
+
+pub destroy_event-requires : goal.destroy_event-requires
+destroy_event-requires c = event_there _ _ _ _ (rw c.in-EventDestroy.is at c.requires)
+
+pub returns-in-EventDestroy-clause-parts : goal.returns-in-EventDestroy-clause-parts
+returns-in-EventDestroy-clause-parts c = rw c.in-EventDestroy.is c.destroy_event.ensures
