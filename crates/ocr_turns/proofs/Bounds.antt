@@ -8,9 +8,9 @@ use lib.ListN.{get_elem?}
 use Rattle.atomic_table.specs.Table.{State}
 use Rattle.atomic_table.proofs.Lists.{set_here}
 use Rattle.ocr_mail.specs.Mail.{tally}
-use Rattle.ocr_turns.specs.Meaning.{Meaning, Ended}
+use Rattle.ocr_turns.specs.Meaning.{Meaning, Open, Ended}
 use Rattle.ocr_turns.specs.Rule.{weighed, Fits, Over, Seated, Kept, mail}
-use Rattle.ocr_turns.specs.Steps.{Sees, SeesEnd}
+use Rattle.ocr_turns.specs.Steps.{Sees, SeesOpen, SeesEnd}
 use Rattle.ocr_turns.specs.Sums.{total, one_at, sum_of, below}
 use Rattle.ocr_turns.specs.declared.view.View.{View}
 use Rattle.ocr_turns.specs.declared.view.Terms.{Terms}
@@ -113,9 +113,12 @@ module _ {G E P N F : Type 0} (m : Meaning G E P N F) (t : Terms G) where
       pub sees : 0 < v.root + v.seat → Sees m v
       sees is_out t' terms unclosed = subst (λ q. (K : List E) × Fits m q K v) (same_terms t t' (sym ((k.seated id v at).terms is_out) ∙ terms)) (J, fits unclosed)
 
+      pub sees_open : 0 < v.root + v.seat → Open m.stops J → SeesOpen m v
+      sees_open is_out op t' terms unclosed = subst (λ q. (K : List E) × Fits m q K v × Open m.stops K) (same_terms t t' (sym ((k.seated id v at).terms is_out) ∙ terms)) (J, fits unclosed, op)
+
       pub sees_end : 0 < v.root + v.seat → Ended m.stops J → SeesEnd m v
       sees_end is_out ended t' terms = subst (λ q. (K : List E) × Over m q K v) (same_terms t t' (sym ((k.seated id v at).terms is_out) ∙ terms))
-          (J, record { run = k.ledger.run; log = (k.seated id v at).log; joined = (k.seated id v at).joined; ended = ended })
+          (J, record { run = k.ledger.run; log = (k.seated id v at).log; joined = (k.seated id v at).joined; ended = ended; sole = lone })
 
 -- the seat that stepped has its new view
 pub stepped_at : {V : Type 0} (vs : List V) (id : ℕ) (v w : V) → get_elem? vs id ≡ some v → get_elem? (slice_set vs id w) id ≡ some w

@@ -19,7 +19,7 @@ use Rattle.ocr_turns.specs.Steps.{Deed, deed, limit_of, logged, ended_by, shut_b
 use Rattle.ocr_turns.specs.Sums.{made_sum, up_to, total, weigh, one_at, sum_of, below, weigh_all, load_of, replace_all, less_all, is_free}
 use Rattle.ocr_turns.specs.declared.view.View.{View}
 use Rattle.ocr_turns.specs.declared.view.Terms.{Terms}
-use Rattle.ocr_turns.proofs.Bounds.{short, shut_most, fits, sees, sees_end, stepped_at}
+use Rattle.ocr_turns.proofs.Bounds.{short, shut_most, fits, sees, sees_open, sees_end, stepped_at}
 use Rattle.ocr_turns.proofs.Histories.{run_more, open_more, log_later, log_more, rises_more, sent_later, sent_more, mail_more, own_same, own_both, ran, no_start}
 use Rattle.ocr_turns.proofs.Numbered.{keys_replace_all, weigh_keys, at_replace_all}
 use Rattle.ocr_turns.proofs.Same.{keeps_at, after, total_same, ledger_same, numbers_same, numbers_more, places_same, roster_same, owed_same, seated_each}
@@ -137,7 +137,7 @@ module _ {G E P N F : Type 0} (m : Meaning G E P N F) (t : Terms G) where
         (λ h. let len = h.0 in let lim = short m t J s k in let sh = k.share in
         let ws : slice_set s.words 0 (slice_index s.words 0) ≡ s.words = set-get_or s.words 0 0 in
         let vs : slice_set s.views id v ≡ s.views = set_again s.views id v at in
-        (v, (record { history = J; kept = subst (Kept m t J) (λ i. record { words = sym ws i; homes = s.homes; views = sym vs i }) k; counted = subst (Counted m t (reverse J)) (λ i. record { words = sym ws i; homes = s.homes; views = sym vs i }) cnt }, (refl, inl (omega arith, refl, sees m t J s k id v at is_out)))))
+        (v, (record { history = J; kept = subst (Kept m t J) (λ i. record { words = sym ws i; homes = s.homes; views = sym vs i }) k; counted = subst (Counted m t (reverse J)) (λ i. record { words = sym ws i; homes = s.homes; views = sym vs i }) cnt }, (refl, inl (omega arith, refl, sees_open m t J s k id v at is_out h.1)))))
         (λ h. let past = h.0 in
         let same : (slice_index s.words 0 + 0) % 18446744073709551616 ≡ slice_index s.words 0 = omega arith in
         (shut_by v (slice_index s.words 0), (record { history = J; kept = subst (λ (x : ℕ). Kept m t J (after s (slice_set s.words 0 x) s.homes id (shut_by v (slice_index s.words 0)))) same (refused 0 (omega arith) past h.1); counted = counted_shut (slice_index s.words 0) (slice_index s.words 0) }, (refl, inr (past, refl, told_end 0 (omega arith) past h.1)))))

@@ -8,7 +8,7 @@ use Rattle.ocr_turns.specs.Counting.{Found, tied_to}
 use Rattle.ocr_turns.specs.Owing.{listed, times}
 use Rattle.ocr_turns.specs.Meaning.{Meaning, Run, Open, Ended}
 use Rattle.ocr_turns.specs.Rule.{Fits, PartsOf, FactsOf, RunsIn, LogOf, LogsOf, AllRise, OPEN}
-use Rattle.ocr_turns.specs.Steps.{Deed, deed, Sees, SeesEnd, logged, ended_by, shut_by, with_drawn, filled_by, with_part, without_part, limit_of}
+use Rattle.ocr_turns.specs.Steps.{Deed, deed, Sees, SeesOpen, SeesEnd, logged, ended_by, shut_by, with_drawn, filled_by, with_part, without_part, limit_of}
 use Rattle.ocr_turns.specs.Sums.{weigh, weigh_all, below, one_at, sum_of, made_sum, up_to, keys, find, replace, replace_all, remove_at, as_some, HasAll, Rises}
 use Rattle.ocr_turns.specs.declared.answers.Committed.{Committed}
 use Rattle.ocr_turns.specs.declared.answers.Committed.TheVariants as committed
@@ -140,7 +140,7 @@ module _ {G E P N F : Type 0} where
 
   abbrev pub LookTells : Meaning G E P N F → Option ℕ → Known G E P N F → Known G E P N F → Type 0
   LookTells m None old new = (old.view.closed ≡ None) × SameHand old new × (new.view ≡ old.view)
-      × Sees m new.view
+      × SeesOpen m new.view
   LookTells m (Some n) old new = ClosedBy m n old new
 
   abbrev pub TakeTells : Meaning G E P N F → Taken → Known G E P N F → Known G E P N F → ℕ → Type 0

@@ -3,7 +3,7 @@ use Rattle.std.specs.Prelude.{◌≡◌, ◌≢◌, ℕ, Bool, ◌+◌, ◌-◌,
 use Rattle.std.specs.Option.{option_or}
 use Rattle.atomic_table.specs.Table.{Me, Step, rest}
 use Rattle.ocr_mail.specs.Mail.{named, without}
-use Rattle.ocr_turns.specs.Meaning.{Meaning}
+use Rattle.ocr_turns.specs.Meaning.{Meaning, Open}
 use Rattle.ocr_turns.specs.Rule.{Fits, Over, OPEN}
 use Rattle.ocr_turns.specs.Sums.{less_all, remove_at, replace_all}
 use Rattle.ocr_turns.specs.Counting.{TURNS, debts_by, leaves}
@@ -188,6 +188,11 @@ module _ {G E P N F : Type 0} where
   abbrev pub Sees : Meaning G E P N F → View G E P N F → Type 0
   Sees m w = (t : Terms G) → w.terms ≡ Some t → w.closed ≡ None → (J : List E) × Fits m t J w
 
+  -- some history so far is one that the view fits, and it has not ended
+  abbrev pub SeesOpen : Meaning G E P N F → View G E P N F → Type 0
+  SeesOpen m w = (t : Terms G) → w.terms ≡ Some t → w.closed ≡ None → (J : List E) × Fits m t J w
+      × Open m.stops J
+
   -- the history has ended
   abbrev pub SeesEnd : Meaning G E P N F → View G E P N F → Type 0
   SeesEnd m w = (t : Terms G) → w.terms ≡ Some t → (J : List E) × Over m t J w
@@ -212,7 +217,7 @@ module _ {G E P N F : Type 0} where
 
   abbrev pub looks : Meaning G E P N F → Me (Option P) (View G E P N F) → ℕ → Me (Option P)
       (View G E P N F) → Type 0
-  looks mg m n w = tries mg m.0 (Sees mg w.0) m n w
+  looks mg m n w = tries mg m.0 (SeesOpen mg w.0) m n w
 
   abbrev pub draws_from : Meaning G E P N F → Me (Option P) (View G E P N F) → ℕ → Me (Option P)
       (View G E P N F) → Type 0

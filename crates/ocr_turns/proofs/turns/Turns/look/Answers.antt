@@ -2,7 +2,7 @@ use Rattle.std.proofs.Common.{sym, ap, ◌∙◌, arith, ⊎_elim, ◌≡◌, �
 use Rattle.atomic_table.specs.Table.{keeps}
 use Rattle.ocr_turns.proofs.Commits.{look_at}
 use Rattle.ocr_turns.specs.Rule.{OPEN}
-use Rattle.ocr_turns.specs.Steps.{Sees}
+use Rattle.ocr_turns.specs.Steps.{SeesOpen}
 use Rattle.ocr_turns.proofs.Clerks.{out_of, shut_true, tried_open, tried_shut, true_same}
 use Rattle.ocr_turns.proofs.turns.Turns.look.Goals as goal
 
@@ -34,7 +34,7 @@ returns g c =
     let is = c.clerk.view_is in let old = c.load-found.ensures in
     let new = c.load-found.new.seat.me.0 in
     let same : new ≡ c.args.clerk.now.view = ⊎_elim (λ h. h.1 ∙ ap (λ x. x.view) is) (λ h. let past = h.0 in absurd (omega (arith, c.if-found-ge-ENDED.false))) old.2.1 in
-    let seen : Sees g.M.Machine.meaning new = ⊎_elim (λ h. h.2) (λ h. let past = h.0 in absurd (omega (arith, c.if-found-ge-ENDED.false))) old.2.1 in (
+    let seen : SeesOpen g.M.Machine.meaning new = ⊎_elim (λ h. h.2) (λ h. let past = h.0 in absurd (omega (arith, c.if-found-ge-ENDED.false))) old.2.1 in (
       sym (ap (λ x. x.view.closed) is) ∙ (sym c.clerk.invariant.closed_is ∙ c.in_default.is),
       (old.0 ∙ ap (λ x. x.table) is, ap (λ x. x.parts) is, (ap (λ x. x.room) is, ap (λ x. x.spare) is, ap (λ x. x.space) is)),
       same,
