@@ -1,5 +1,5 @@
 -- What an entry of a worker asks, and what it leaves.
-use Rattle.std.specs.Prelude.{◌≡◌, ◌+◌, ◌<◌, ◌≤◌, ℕ, List, [], false, MatchOption}
+use Rattle.std.specs.Prelude.{◌≡◌, ◌+◌, ◌<◌, ◌≤◌, ◌^◌, ℕ, List, [], false, length, MatchOption}
 use Rattle.ocr_acquire.specs.declared.Mode.{Mode}
 use Rattle.ocr_facts.specs.Clerks.{IsStep, MayEnter, OcrTerms, OcrView}
 use Rattle.ocr_facts.specs.Ocr.{makes, meaning, touches}
@@ -32,12 +32,11 @@ pub record Hand : Type 0 where
   pub members : List (ℕ × Mode)
   pub parts : List (ℕ × Part)
 
--- The clerk may enter the entry: it knows what it has to know of it, and these parts, the EDT made
--- ready, are those of the entry's places.
-pub record CanEnter (t : OcrTerms) (v : OcrView) (e : Entry) (h : Hand) (ps : List (ℕ × Part))
+-- The clerk has what the entry asks but for the share: it knows what it has to know of it, and
+-- these parts, the EDT made ready, are those of the entry's places.
+pub record CanMake (t : OcrTerms) (v : OcrView) (e : Entry) (h : Hand) (ps : List (ℕ × Part))
     : Type 0 where
   pub goes : is_stop e ≡ false
-  pub light : v.weight + weight_of e ≤ t.share
   pub owes : Has (delivered e) v.owed
   pub drawn : HasAll (makes e) v.drawn
   pub claims : Claims meaning t v (deed meaning t.limit v e h.parts [])
@@ -46,6 +45,12 @@ pub record CanEnter (t : OcrTerms) (v : OcrView) (e : Entry) (h : Hand) (ps : Li
   pub same_keys : keys ps ≡ keys h.parts
   pub places : (p : ℕ) → (weigh (one_at p) h.parts ≡ touches t.limit e p)
       × (weigh (one_at p) h.parts ≤ weigh (one_at p) v.parts)
+
+-- and the clerk's log may weigh so much more
+pub record CanEnter (t : OcrTerms) (v : OcrView) (e : Entry) (h : Hand) (ps : List (ℕ × Part))
+    : Type 0 where
+  pub can : CanMake t v e h ps
+  pub light : v.weight + weight_of e ≤ t.share
 
 -- the entry is in the log, or the run has ended
 abbrev pub Logged : Committed → OcrKnown → OcrKnown → OcrDeed → Type 0
@@ -62,3 +67,11 @@ pub record Entered (limit : ℕ) (r : Committed) (old new : OcrKnown) (e : Entry
   pub sent : List What
   pub step : IsStep limit e h.members h.parts later sent
   pub told : Logged r old new (deed meaning limit old.view e later sent)
+
+-- what a change has to be for a commit of the entry, and the room that this needs
+pub record IsPrepared (t : OcrTerms) (c : OcrKnown) (e : Entry) (h : Hand) (later : List (ℕ × Part))
+    (sent : List What) : Type 0 where
+  pub step : IsStep t.limit e h.members h.parts later sent
+  pub room : 2 ≤ c.room
+  pub space : length sent ≤ c.space
+  pub few : length sent < 2 ^ 32

@@ -1,6 +1,6 @@
 // The OCR machine, as a table of turns runs it.
 ghost use Rattle.ocr_facts.specs.Ocr.{meaning};
-ghost use Rattle.ocr_worker.specs.Laws as laws;
+ghost use Rattle.ocr_clerks.specs.Laws as laws;
 
 use ocr_base::NoMemory;
 use ocr_facts::{Fact, Setting};

@@ -1,5 +1,5 @@
 -- An entry of a worker.
-use Rattle.std.proofs.Common.{◌≡◌, ℕ, ◌+◌, ◌≤◌, Bool, true, false, ◌==◌, ◌||◌, if◌then◌else◌, List, [], ◌∷◌, length, Option, Ok, Err, refl, ap, sym, ◌∙◌, subst, arith}
+use Rattle.std.proofs.Common.{◌≡◌, ℕ, ◌+◌, ◌-◌, ◌≤◌, Bool, true, false, ◌==◌, ◌||◌, if◌then◌else◌, List, [], ◌∷◌, length, Option, Ok, Err, refl, ap, sym, ◌∙◌, subst, arith}
 use Rattle.std.specs.Prelude.{not, MatchOption}
 use Rattle.std.proofs.lemmas.Grind.{common_steps}
 use Rattle.ocr_guid.specs.declared.Code.{Code}
@@ -12,23 +12,28 @@ use Rattle.ocr_meaning.specs.declared.call.Call as body
 use Rattle.ocr_meaning.specs.declared.call.Call.TheVariants as call
 use Rattle.ocr_meaning.specs.declared.call.Answer.{Answer}
 use Rattle.ocr_history.specs.declared.entry.Entry.{Entry}
-use Rattle.ocr_history.specs.declared.entry.Entry.TheVariants.{Call}
+use Rattle.ocr_history.specs.declared.entry.Entry.TheVariants.{Call, Acquire, Wait, StaleAcquire, Start}
 use Rattle.ocr_history.specs.declared.entry.What.{What}
+use Rattle.ocr_history.specs.Weight.{weight_of}
 use Rattle.ocr_history.specs.declared.entry.What.TheVariants as what
 use Rattle.ocr_parts.specs.declared.part.Part.{Part}
 use Rattle.ocr_parts.specs.declared.part.Part.TheVariants as part
 use Rattle.ocr_parts.specs.Calls.{is_given}
 use Rattle.ocr_parts.specs.Codes.{counted_code, creation_code}
-use Rattle.ocr_parts.specs.Effects.{changed}
+use Rattle.ocr_parts.specs.Effects.{changed, readied, settled, settled_parts}
 use Rattle.ocr_parts.specs.Footprint.{Covers}
 use Rattle.ocr_parts.specs.LegalOn.{IsCallOn, IsLegalOn}
-use Rattle.ocr_parts.specs.Messages.{dep_sets, sends, sent_by}
+use Rattle.ocr_parts.specs.Messages.{dep_sets, resumes, sends, sent_by}
 use Rattle.ocr_parts.specs.Parts.{Parts}
-use Rattle.ocr_parts.specs.Taken.{has, keys, parts_in}
+use Rattle.ocr_parts.specs.Taken.{ArePartsOf, IsWithin, as_core, as_face, core_in, face_in, has, is_within, keys, look, parts_in, place_of, seen}
 use Rattle.ocr_parts.proofs.After.{accepted, done_is}
 use Rattle.ocr_facts.specs.Clerks.{IsStep, OcrTerms, OcrView}
 use Rattle.ocr_facts.specs.Ocr.{meaning}
-use Rattle.ocr_facts.proofs.Entered.{entry_law}
+use Rattle.ocr_facts.proofs.Entered.{entry_law, settled_resumes}
+use Rattle.ocr_facts.specs.Ocr.{wakes}
+use Rattle.ocr_standing.proofs.Kept.{alike_kept}
+use Rattle.ocr_parts.proofs.Local.{effect_law}
+use Rattle.ocr_acquire.specs.declared.Mode.{Mode}
 use Rattle.ocr_turns.proofs.Numbered.{weigh_keys}
 use Rattle.ocr_turns.specs.Contract.{CommitTells, MayCommit}
 use Rattle.ocr_turns.specs.Steps.{SeesEnd, deed, logged, shut_by}
@@ -36,14 +41,15 @@ use Rattle.ocr_turns.specs.Sums.{as_some, one_at, replace_all}
 use Rattle.ocr_turns.specs.Sums as sums
 use Rattle.ocr_turns.specs.declared.answers.Committed.{Committed}
 use Rattle.ocr_turns.specs.declared.answers.Committed.TheVariants as committed
-use Rattle.ocr_worker.specs.Entering.{CanEnter, Entered, Hand, Logged, OcrKnown}
+use Rattle.ocr_clerks.specs.Entering.{CanMake, Entered, Hand, Logged, OcrKnown}
+use Rattle.ocr_clerks.specs.Work.{EntersAs}
 
 -- both ways to list the numbers
-keys_are : (ps : List (ℕ × Part)) → keys ps ≡ sums.keys ps
+pub keys_are : (ps : List (ℕ × Part)) → keys ps ≡ sums.keys ps
 keys_are [] = refl
 keys_are (p ∷ rest) = ap (λ (ns : List ℕ). p.0 ∷ ns) (keys_are rest)
 
-turns_keys : (ps qs : List (ℕ × Part)) → keys ps ≡ keys qs → sums.keys ps ≡ sums.keys qs
+pub turns_keys : (ps qs : List (ℕ × Part)) → keys ps ≡ keys qs → sums.keys ps ≡ sums.keys qs
 turns_keys ps qs same = sym (keys_are ps) ∙ (same ∙ keys_are qs)
 
 has_same : (ps qs : List (ℕ × Part)) (n : ℕ) → keys ps ≡ keys qs → has ps n ≡ has qs n
@@ -113,7 +119,7 @@ few_sends limit f (Call u home c a w) legal = elim (is_done a.code) as (λ b. is
 few_sends limit f other legal = omega arith
 
 -- THE STEP was made on the parts that the caller lifted
-pub step_is : (t : OcrTerms) (limit : ℕ) (v : OcrView) (e : Entry) (h : Hand) (ps later : List (ℕ × Part)) (sent : List What) → limit ≡ t.limit → CanEnter t v e h ps
+pub step_is : (t : OcrTerms) (limit : ℕ) (v : OcrView) (e : Entry) (h : Hand) (ps later : List (ℕ × Part)) (sent : List What) → limit ≡ t.limit → CanMake t v e h ps
     → parts_in limit later ≡ changed e (parts_in limit ps) → keys later ≡ keys ps → sent ≡ sends e (parts_in limit ps) → IsStep t.limit e h.members h.parts later sent
 step_is t limit v e h ps later sent lim can is keyed sends_are = record {
   parts = subst (λ (n : ℕ). parts_in n later ≡ changed e (parts_in n ps)) lim is ∙ ap (changed e) can.ready;
@@ -121,21 +127,20 @@ step_is t limit v e h ps later sent lim can is keyed sends_are = record {
   sends_are = subst (λ (n : ℕ). sent ≡ sends e (parts_in n ps)) lim sends_are ∙ ap (sends e) can.ready;
 }
 
-pub may_commit : (t : OcrTerms) (limit : ℕ) (v v1 : OcrView) (e : Entry) (h : Hand) (ps later : List (ℕ × Part)) (sent : List What) → limit ≡ t.limit → v1 ≡ v → CanEnter t v e h ps
-    → parts_in limit later ≡ changed e (parts_in limit ps) → keys later ≡ keys ps → sent ≡ sends e (parts_in limit ps) → MayCommit meaning t v1 e later sent
-may_commit t limit v v1 e h ps later sent lim same can is keyed sends_are =
-    let step = step_is t limit v e h ps later sent lim can is keyed sends_are in
-    subst (λ (w : OcrView). MayCommit meaning t w e later sent) (sym same) (record {
+pub may_commit : (t : OcrTerms) (v w : OcrView) (e : Entry) (h : Hand) (ps later : List (ℕ × Part)) (sent : List What) → w ≡ v → CanMake t v e h ps → v.weight + weight_of e ≤ t.share → IsStep t.limit e h.members h.parts later sent
+    → MayCommit meaning t w e later sent
+may_commit t v w e h ps later sent same can light step =
+    subst (λ (x : OcrView). MayCommit meaning t x e later sent) (sym same) (record {
       goes = can.goes;
-      share = can.light;
+      share = light;
       owes = can.owes;
       drawn = can.drawn;
-      keeps = λ p. let w = weigh_keys (one_at p) later h.parts (turns_keys later h.parts (keyed ∙ can.same_keys)) in let r = can.places p in let a = r.0 in let b = r.1 in (w ∙ a, omega (arith, w, b));
+      keeps = λ p. let w = weigh_keys (one_at p) later h.parts (turns_keys later h.parts step.same_keys) in let r = can.places p in let a = r.0 in let b = r.1 in (w ∙ a, omega (arith, w, b));
       claims = record { starts = can.claims.starts; waits = can.claims.waits; resumes = can.claims.resumes };
       legal = entry_law t v e h.members h.parts later sent can.goes can.may step;
     })
 
-pub logged_as : (t : OcrTerms) (r : Committed) (old old1 new : OcrKnown) (e : Entry) (later : List (ℕ × Part)) (sent : List What) → old1.view ≡ old.view → old1.parts ≡ old.parts
+logged_as : (t : OcrTerms) (r : Committed) (old old1 new : OcrKnown) (e : Entry) (later : List (ℕ × Part)) (sent : List What) → old1.view ≡ old.view → old1.parts ≡ old.parts
     → CommitTells meaning r old1 new (deed meaning t.limit old1.view e later sent) → Logged r old new (deed meaning t.limit old.view e later sent)
 logged_as t (committed.At n) old old1 new e later sent view parts tells = (
   tells.1,
@@ -149,20 +154,68 @@ logged_as t (committed.Closed n) old old1 new e later sent view parts tells = (
   subst (λ (x : OcrView). MatchOption x.closed ((new.view ≡ shut_by x n) × SeesEnd meaning new.view) (λ w. (w ≡ n) × (new.view ≡ x))) view tells.2,
 )
 
-pub entered_as : (t : OcrTerms) (limit : ℕ) (r : Committed) (old old1 new : OcrKnown) (e : Entry) (h : Hand) (ps later : List (ℕ × Part)) (sent : List What) → limit ≡ t.limit → old1.view ≡ old.view → old1.parts ≡ old.parts → CanEnter t old.view e h ps
-    → parts_in limit later ≡ changed e (parts_in limit ps) → keys later ≡ keys ps → sent ≡ sends e (parts_in limit ps)
-    → CommitTells meaning r old1 new (deed meaning t.limit old1.view e later sent) → Entered limit r old new e h
-entered_as t limit r old old1 new e h ps later sent lim view parts can is keyed sends_are tells =
+pub entered_as : (t : OcrTerms) (limit : ℕ) (r : Committed) (old old1 new : OcrKnown) (e : Entry) (h : Hand) (later : List (ℕ × Part)) (sent : List What) → limit ≡ t.limit → old1.view ≡ old.view → old1.parts ≡ old.parts
+    → IsStep t.limit e h.members h.parts later sent → CommitTells meaning r old1 new (deed meaning t.limit old1.view e later sent) → Entered limit r old new e h
+entered_as t limit r old old1 new e h later sent lim view parts step tells =
     subst (λ (n : ℕ). Entered n r old new e h) (sym lim) (record {
       later = later;
       sent = sent;
-      step = step_is t limit old.view e h ps later sent lim can is keyed sends_are;
+      step = step;
       told = logged_as t r old old1 new e later sent view parts tells;
     })
 
+pub enters_as : (t : OcrTerms) (n : ℕ) (old old1 new : OcrKnown) (e : Entry) (h : Hand) (later : List (ℕ × Part)) (sent : List What) → old1.view ≡ old.view → old1.parts ≡ old.parts
+    → IsStep t.limit e h.members h.parts later sent → CommitTells meaning (committed.At n) old1 new (deed meaning t.limit old1.view e later sent) → EntersAs t old new e h
+enters_as t n old old1 new e h later sent view parts step tells = record {
+  number = n;
+  later = later;
+  sent = sent;
+  step = step;
+  view = tells.3 ∙ ap (λ (x : OcrView). logged x n (deed meaning t.limit x e later sent)) view;
+  hand = tells.4 ∙ ap (λ (ps : List (ℕ × Option Part)). replace_all (as_some later) ps) parts;
+  sees = tells.7;
+}
+
 -- what the step asks of the parts
-pub other_covers : (t : OcrTerms) (limit : ℕ) (v : OcrView) (e : Entry) (h : Hand) (ps : List (ℕ × Part)) → limit ≡ t.limit → CanEnter t v e h ps → Covers limit e ps
+pub other_covers : (t : OcrTerms) (limit : ℕ) (v : OcrView) (e : Entry) (h : Hand) (ps : List (ℕ × Part)) → limit ≡ t.limit → CanMake t v e h ps → Covers limit e ps
 other_covers t limit v e h ps lim can = subst (λ (n : ℕ). Covers n e ps) (sym lim) (covers_same t.limit e ps h.parts can.same_keys can.may.covers)
 
-pub hand_legal : (t : OcrTerms) (limit : ℕ) (v : OcrView) (e : Entry) (h : Hand) (ps : List (ℕ × Part)) → limit ≡ t.limit → CanEnter t v e h ps → IsLegalOn limit (parts_in limit ps) e
+pub hand_legal : (t : OcrTerms) (limit : ℕ) (v : OcrView) (e : Entry) (h : Hand) (ps : List (ℕ × Part)) → limit ≡ t.limit → CanMake t v e h ps → IsLegalOn limit (parts_in limit ps) e
 hand_legal t limit v e h ps lim can = subst (λ (n : ℕ). IsLegalOn n (parts_in n ps) e) (sym lim) (subst (λ (f : Parts). IsLegalOn t.limit f e) (sym can.ready) can.may.on_hand)
+
+-- WHO GOES ON by the entry is told by what the clerk keeps
+readied_resumes : (ms : List (ℕ × Mode)) (e : Entry) (f : Parts) → resumes e (readied ms e f) ≡ resumes e f
+readied_resumes ms (Acquire t d) f = refl
+readied_resumes ms (Wait t d) f = refl
+readied_resumes ms (StaleAcquire t d) f = refl
+readied_resumes ms (Start t) f = refl
+readied_resumes ms other f = refl
+
+look_place : (limit : ℕ) (ps : List (ℕ × Part)) (n : ℕ) → place_of limit (settled_parts (parts_in limit ps)) n ≡ seen limit n (look ps n)
+look_place limit ps n = elim (is_within limit n) as (λ b. is_within limit n ≡ b
+    → (if b then face_in limit ps n else if is_within limit (n - limit) then settled (core_in limit ps (n - limit)) else part.Vacant) ≡ (if b then as_face (look ps n) else if is_within limit (n - limit) then settled (as_core (look ps n)) else part.Vacant)) [
+      | true ↦ λ on. rw on refl
+      | false ↦ λ off. elim (is_within limit (n - limit)) as (λ b. is_within limit (n - limit) ≡ b → (if b then settled (core_in limit ps (n - limit)) else part.Vacant) ≡ (if b then settled (as_core (look ps n)) else part.Vacant)) [
+        | true ↦ λ on. let same : limit + (n - limit) ≡ n = back limit n on in rw on (ap (λ (k : ℕ). settled (as_core (look ps k))) same)
+        | false ↦ λ _. refl
+      ] refl
+    ] refl
+  where
+    back : (limit n : ℕ) → is_within limit (n - limit) ≡ true → limit + (n - limit) ≡ n
+    back limit n on = let some : 1 ≤ n - limit = grind (arith, on, common_steps) in omega (arith, some)
+
+in_within : (limit : ℕ) (ps : List (ℕ × Part)) → IsWithin limit (settled_parts (parts_in limit ps))
+in_within limit ps = record { faces = λ g off. rw off refl; cores = λ u off. rw off refl }
+
+pub resumed_is : (t : OcrTerms) (limit : ℕ) (v : OcrView) (e : Entry) (h : Hand) (ps : List (ℕ × Part)) (rs : List ℕ) → limit ≡ t.limit → CanMake t v e h ps → rs ≡ resumes e (parts_in limit ps) → rs ≡ wakes t.limit e v.parts
+resumed_is t limit v e h ps rs lim can is =
+    let may = can.may in
+    let f = settled_parts (parts_in t.limit v.parts) in
+    let are : ArePartsOf t.limit f h.parts = λ n here. look_place t.limit v.parts n ∙ sym (may.at_hand.alike n here) in
+    let alike = alike_kept t.limit e f h.parts (in_within t.limit v.parts) may.covers are in
+    subst (λ (n : ℕ). rs ≡ resumes e (parts_in n ps)) lim is
+    ∙ (ap (resumes e) can.ready
+    ∙ (readied_resumes h.members e (parts_in t.limit h.parts)
+    ∙ (sym (settled_resumes e (parts_in t.limit h.parts))
+    ∙ (sym (effect_law e f (settled_parts (parts_in t.limit h.parts)) alike).2
+    ∙ settled_resumes e (parts_in t.limit v.parts)))))

@@ -1,0 +1,167 @@
+-- A worker may end the run.
+use Rattle.std.proofs.Common.{◌≡◌, ◌⊎◌, ⊎_elim, inl, inr, ℕ, ◌+◌, ◌≤◌, ◌<◌, List, [], ◌∷◌, ◌++◌, length, reverse, Option, Some, None, is_some, true, false, refl, ap, sym, ◌∙◌, subst, arith}
+use Rattle.std.specs.Prelude.{MatchOption}
+use Rattle.std.proofs.lemmas.List.{append-nil}
+use Rattle.ocr_code.specs.Checked.{checked_tree}
+use Rattle.ocr_code.specs.declared.checked.Checked.{Checked}
+use Rattle.ocr_tree.specs.Runnable.{IsRunnable}
+use Rattle.ocr_history.specs.declared.entry.Entry.{Entry}
+use Rattle.ocr_history.specs.declared.entry.Entry.TheVariants as an
+use Rattle.ocr_history.specs.declared.entry.Stop as run
+use Rattle.ocr_history.specs.declared.entry.Stop.TheVariants as by
+use Rattle.ocr_history.specs.Weight.{weight_of}
+use Rattle.ocr_parts.specs.declared.part.Part.{Part}
+use Rattle.ocr_parts.specs.Legal.{IsStop, IsWeighed, is_stop}
+use Rattle.ocr_standing.specs.Kept.{AreKept}
+use Rattle.ocr_standing.proofs.Kept.{kept_law}
+use Rattle.ocr_parts.specs.Parts.{parts_of}
+use Rattle.ocr_parts.specs.Taken.{ArePartsOf}
+use Rattle.ocr_facts.specs.Clerks.{Knows, MayEnter, OcrTerms, OcrView, of_terms}
+use Rattle.ocr_facts.specs.Ocr.{meaning}
+use Rattle.ocr_facts.proofs.Entered.{fitting_parts, goes_on}
+use Rattle.ocr_facts.proofs.Runs.{run_is}
+use Rattle.ocr_turns.specs.Contract.{DrawTells, MayClose, SameHand}
+use Rattle.ocr_turns.specs.Rule.{Fits}
+use Rattle.ocr_turns.specs.Steps.{Sees, filled_by, with_drawn}
+use Rattle.ocr_turns.specs.Sums.{load_of}
+use Rattle.ocr_turns.specs.declared.answers.Drawn.TheVariants as drawn
+use Rattle.ocr_clerks.specs.Entering.{CanMake, Hand, OcrKnown}
+use Rattle.ocr_clerks.specs.Work.{AtWork, IsOwnStop, MayStopSo, OcrTable, Stays, stop_in}
+use Rattle.ocr_clerks.proofs.Going.{stays_by}
+
+pub may_close : (table : OcrTable) (p : Checked) (c : OcrKnown) (why : run.Stop) → AtWork table p c → Knows table.1 c.view (λ J. MayStopSo (of_terms table.1) (reverse J) why) → MayClose meaning table.1 c.view (an.Stop why)
+may_close table p c why work knows = record {
+  stops = refl;
+  legal = λ J open_run fits. let so = knows J open_run fits in record {
+    legal = record {
+      open_run = goes_on J open_run;
+      on_parts = tt;
+      on_facts = tt;
+      said = so.said;
+      stopping = so.cause;
+    };
+    runnable = subst (λ (q : Checked). IsRunnable (checked_tree q)) (sym work.program_is) work.runnable;
+  };
+}
+
+pub memory_stops : (t : OcrTerms) (v : OcrView) → Knows t v (λ J. MayStopSo (of_terms t) (reverse J) by.Memory)
+memory_stops t v = λ J open_run fits. record { said = tt; cause = tt }
+
+-- an entry that the clerk could make could come
+weighed : (t : OcrTerms) (v : OcrView) (e : Entry) (h : Hand) (ps : List (ℕ × Part)) → CanMake t v e h ps → Knows t v (λ J. IsWeighed (of_terms t) (reverse J) e (weight_of e))
+weighed t v e h ps can = λ J open_run fits.
+    let s = of_terms t in let past = reverse J in let may = can.may in
+    let kept : ArePartsOf t.limit (parts_of s past) v.parts = fitting_parts t J v fits in
+    let at_hand : ArePartsOf t.limit (parts_of s past) h.parts = λ n here. kept n (may.at_hand.there n here) ∙ sym (may.at_hand.alike n here) in
+    let are : AreKept s past e h.parts h.members = record { enough = fits.limits; run = run_is t.setting.value t.limit J fits.run; covers = may.covers; parts = at_hand; plan = may.plans J open_run fits } in
+    record {
+      weighs = refl;
+      no_stop = can.goes;
+      on_parts = kept_law s past e h.parts h.members are may.on_hand;
+      on_facts = may.set J open_run fits;
+      said = may.says J open_run fits;
+    }
+
+pub heavy_stops : (t : OcrTerms) (v : OcrView) (e : Entry) (worker weight : ℕ) → (h : Hand) × (ps : List (ℕ × Part)) × CanMake t v e h ps → weight ≡ weight_of e → Knows t v (λ J. MayStopSo (of_terms t) (reverse J) (by.Events worker weight))
+heavy_stops t v e worker weight can is = λ J open_run fits. record {
+  said = tt;
+  cause = (e, subst (λ (k : ℕ). IsWeighed (of_terms t) (reverse J) e k) (sym is) (weighed t v e can.0 can.1 can.2 J open_run fits));
+}
+
+-- NO NUMBER IS LEFT
+full_fits : (t : OcrTerms) (J : List Entry) (v : OcrView) (n : ℕ) → Fits meaning t J (filled_by v n) → Fits meaning t J v
+full_fits t J v n fits = record {
+  limits = fits.limits;
+  run = fits.run;
+  log = fits.log;
+  joined = fits.joined;
+  distinct = fits.distinct;
+  unmade = fits.unmade;
+  own = fits.own;
+  owed = fits.owed;
+  sent = fits.sent;
+  parts = fits.parts;
+  facts = fits.facts;
+  sole = fits.sole;
+  alone = fits.alone;
+}
+
+full_view : (old new : OcrView) (n : ℕ) (limit : ℕ) (o : Option ℕ) → o ≡ old.full → MatchOption old.full (Unit {0}) (λ _. is_some old.reached ≡ true) → MatchOption o (new ≡ filled_by old n) (λ w. (w ≡ n) × (new ≡ old))
+    → ((t : OcrTerms) (J : List Entry) → Fits meaning t J new → Fits meaning t J old) × (is_some new.reached ≡ true)
+full_view old new n limit None at was is = (λ t J fits. full_fits t J old n (subst (λ (v : OcrView). Fits meaning t J v) is fits), ap (λ (v : OcrView). is_some v.reached) is)
+full_view old new n limit (Some w) at was is = (
+  λ t J fits. subst (λ (v : OcrView). Fits meaning t J v) is.1 fits,
+  ap (λ (v : OcrView). is_some v.reached) is.1 ∙ subst (λ (o : Option ℕ). MatchOption o (Unit {0}) (λ _. is_some old.reached ≡ true)) (sym at) was,
+)
+
+pub full_stops : (t : OcrTerms) (old new : OcrView) (n : ℕ) → MatchOption old.full (Unit {0}) (λ _. is_some old.reached ≡ true) → MatchOption old.full (new ≡ filled_by old n) (λ w. (w ≡ n) × (new ≡ old))
+    → Knows t old (λ J. IsStop (of_terms t) (reverse J) by.Objects) → Knows t new (λ J. MayStopSo (of_terms t) (reverse J) by.Objects)
+full_stops t old new n was is knows = λ J open_run fits.
+    let r = full_view old new n 0 old.full refl was is in record { said = tt; cause = knows J open_run (r.0 t J fits) }
+
+pub full_reached : (old new : OcrView) (n : ℕ) → MatchOption old.full (Unit {0}) (λ _. is_some old.reached ≡ true) → MatchOption old.full (new ≡ filled_by old n) (λ w. (w ≡ n) × (new ≡ old)) → is_some new.reached ≡ true
+full_reached old new n was is = (full_view old new n 0 old.full refl was is).1
+
+-- what stays of the clerk then
+full_told : (old new : OcrKnown) (n limit : ℕ) (o : Option ℕ) → o ≡ old.view.full → MatchOption o (new.view ≡ filled_by old.view n) (λ w. (w ≡ n) × (new.view ≡ old.view)) → (new.view ≡ filled_by old.view n) ⊎ (new.view ≡ old.view)
+full_told old new n limit None at is = inl is
+full_told old new n limit (Some w) at is = inr is.1
+
+pub full_stays : (limit : ℕ) (old new : OcrKnown) (n : ℕ) → DrawTells meaning limit (drawn.Full n) old new → Stays old new
+full_stays limit old new n tells = ⊎_elim
+    (λ is. stays_by old new (filled_by old.view n) tells.1.0 is refl refl refl refl refl ([], sym (append-nil old.view.log)))
+    (λ is. stays_by old new old.view tells.1.0 is refl refl refl refl refl ([], sym (append-nil old.view.log)))
+    (full_told old new n limit old.view.full refl tells.2)
+
+pub full_drawn : (old new : OcrView) (n : ℕ) → MatchOption old.full (new ≡ filled_by old n) (λ w. (w ≡ n) × (new ≡ old)) → new.drawn ≡ old.drawn
+full_drawn old new n is = by_case old.full is
+  where
+    by_case : (o : Option ℕ) → MatchOption o (new ≡ filled_by old n) (λ w. (w ≡ n) × (new ≡ old)) → new.drawn ≡ old.drawn
+    by_case None is = ap (λ (v : OcrView). v.drawn) is
+    by_case (Some w) is = ap (λ (v : OcrView). v.drawn) is.1
+
+some_full : (o r : Option ℕ) → is_some r ≡ true → MatchOption o (Unit {0}) (λ _. is_some r ≡ true)
+some_full None r on = tt
+some_full (Some w) r on = on
+
+pub full_work : (table : OcrTable) (p : Checked) (limit : ℕ) (old new : OcrKnown) (n : ℕ) → AtWork table p old → DrawTells meaning limit (drawn.Full n) old new → AtWork table p new
+full_work table p limit old new n work tells =
+    let on = full_reached old.view new.view n work.full tells.2 in
+    let both : (new.view.closed ≡ old.view.closed) × (new.view.log ≡ old.view.log) × (new.view.terms ≡ old.view.terms) × (new.view.weight ≡ old.view.weight) × (new.view.drawn ≡ old.view.drawn) = ⊎_elim
+    (λ is. (ap (λ (v : OcrView). v.closed) is, ap (λ (v : OcrView). v.log) is, ap (λ (v : OcrView). v.terms) is, ap (λ (v : OcrView). v.weight) is, ap (λ (v : OcrView). v.drawn) is))
+    (λ is. (ap (λ (v : OcrView). v.closed) is, ap (λ (v : OcrView). v.log) is, ap (λ (v : OcrView). v.terms) is, ap (λ (v : OcrView). v.weight) is, ap (λ (v : OcrView). v.drawn) is))
+    (full_told old new n limit old.view.full refl tells.2) in
+    record {
+      of_table = (tells.1.0 ∙ work.of_table.0, both.2 ∙ work.of_table.1);
+      limits = work.limits;
+      program_is = work.program_is;
+      runnable = work.runnable;
+      is_open = both.0 ∙ work.is_open;
+      unstopped = ap (λ (l : List (ℕ × Entry)). stop_in l) both.1 ∙ work.unstopped;
+      room = let a = tells.1.2.0 in let b = work.room in omega (arith, a, b);
+      spare = let a = tells.1.2.1 in let b = work.spare in let l = ap (λ (ps : List (ℕ × Option Part)). length ps) tells.1.1 in omega (arith, a, b, l);
+      weighs = both.3 ∙ (work.weighs ∙ ap (λ (l : List (ℕ × Entry)). load_of weight_of l) (sym both.1));
+      light = let a = both.3 in let b = work.light in omega (arith, a, b);
+      few = let a = ap (λ (ns : List ℕ). length ns) both.4 in let b = work.few in omega (arith, a, b);
+      full = some_full new.view.full new.view.reached on;
+    }
+
+-- A NUMBER was drawn
+pub drawn_stays : (old new : OcrKnown) (n : ℕ) → new.table ≡ old.table → new.view ≡ with_drawn old.view n → Stays old new
+drawn_stays old new n table is = stays_by old new (with_drawn old.view n) table is refl refl refl refl refl ([], sym (append-nil old.view.log))
+
+pub drawn_work : (table : OcrTable) (p : Checked) (old new : OcrKnown) (n : ℕ) → AtWork table p old → old.view.drawn ≡ [] → SameHand old new → new.view ≡ with_drawn old.view n → AtWork table p new
+drawn_work table p old new n work none hand is = record {
+  of_table = (hand.0 ∙ work.of_table.0, ap (λ (v : OcrView). v.terms) is ∙ work.of_table.1);
+  limits = work.limits;
+  program_is = work.program_is;
+  runnable = work.runnable;
+  is_open = ap (λ (v : OcrView). v.closed) is ∙ work.is_open;
+  unstopped = ap (λ (v : OcrView). stop_in v.log) is ∙ work.unstopped;
+  room = let a = hand.2.0 in let b = work.room in omega (arith, a, b);
+  spare = let a = hand.2.1 in let b = work.spare in let l = ap (λ (ps : List (ℕ × Option Part)). length ps) hand.1 in omega (arith, a, b, l);
+  weighs = ap (λ (v : OcrView). v.weight) is ∙ (work.weighs ∙ ap (λ (v : OcrView). load_of weight_of v.log) (sym is));
+  light = let a = ap (λ (v : OcrView). v.weight) is in let b = work.light in omega (arith, a, b);
+  few = let a = ap (λ (v : OcrView). length v.drawn) is ∙ ap (λ (ns : List ℕ). length (ns ++ n ∷ [])) none in omega (arith, a);
+  full = subst (λ (v : OcrView). MatchOption v.full (Unit {0}) (λ _. is_some v.reached ≡ true)) (sym is) work.full;
+}

@@ -1,0 +1,9 @@
+use Rattle.ocr_clerks.specs.Work.{AtWork}
+use Rattle.ocr_clerks.proofs.Gives.{GaveFaces}
+use Rattle.ocr_clerks.proofs.giving.give_faces.Given as goal
+
+abbrev pub invariant-loop-place : goal.invariant-loop-place
+invariant-loop-place l = record {
+  work : AtWork l.turns l.program l.clerk;
+  so : GaveFaces l.fn.clerk l.clerk l.place-index;
+}

@@ -1,0 +1,69 @@
+// A worker ends the run.
+ghost use Rattle.std.specs.Prelude.{◌≡◌, ◌<◌, ◌+◌, ℕ, List, reverse};
+ghost use Rattle.ocr_facts.specs.Clerks.{Knows, of_terms};
+ghost use Rattle.ocr_history.specs.Weight.{weight_of};
+ghost use Rattle.ocr_parts.specs.declared.part.Part.{Part};
+ghost use Rattle.ocr_clerks.specs.Entering.{CanMake, Hand};
+ghost use Rattle.ocr_clerks.specs.Work.{AtWork, IsGone, IsOwnStop, MayStopSo, Stays};
+
+use crate::gate::Gate;
+use crate::job::Job;
+use crate::ocr::Ocr;
+use crate::over::Over;
+use ocr_history::{Entry, Stop};
+use ocr_turns::{Clerk, Committed};
+use std::sync::Wait;
+
+/// Ends the run by a Stop that is legal now, behind the gate.
+pub fn close<R: Wait + Sync, G: Gate>(
+    job: &Job<R, G>,
+    worker: u32,
+    clerk: &mut Clerk<Ocr>,
+    why: Stop,
+) -> Over
+    requires work { AtWork job.now.turns.now job.now.program.now clerk.old }
+    requires may { Knows job.now.turns.now.1 clerk.old.view
+        (λ J. MayStopSo (of_terms job.now.turns.now.1) (reverse J) why) }
+    requires own { IsOwnStop job.now.turns.now.1 worker clerk.old.view why }
+    ensures stays { Stays clerk.old clerk.new }
+    ensures gone { IsGone job.now.turns.now worker clerk.new }
+{
+    job.gate.pass(job.rt, worker, clerk);
+    match job.turns.close(clerk, Entry::Stop(why)) {
+        Committed::At(number) => Over(number),
+        Committed::Closed(word) => Over(word),
+    }
+}
+
+/// Ends the run for want of memory.
+pub fn close_memory<R: Wait + Sync, G: Gate>(
+    job: &Job<R, G>,
+    worker: u32,
+    clerk: &mut Clerk<Ocr>,
+) -> Over
+    requires work { AtWork job.now.turns.now job.now.program.now clerk.old }
+    ensures stays { Stays clerk.old clerk.new }
+    ensures gone { IsGone job.now.turns.now worker clerk.new }
+{
+    close(job, worker, clerk, Stop::Memory)
+}
+
+/// Ends the run where the clerk could make this entry, of this weight, and its share has no room for
+/// it.
+pub fn close_heavy<R: Wait + Sync, G: Gate>(
+    job: &Job<R, G>,
+    worker: u32,
+    clerk: &mut Clerk<Ocr>,
+    entry: &Entry,
+    weight: u64,
+) -> Over
+    requires work { AtWork job.now.turns.now job.now.program.now clerk.old }
+    requires can { (h : Hand) × (ps : List (ℕ × Part))
+        × CanMake job.now.turns.now.1 clerk.old.view entry.now h ps }
+    requires weight { weight ≡ weight_of entry.now }
+    requires heavy { job.now.turns.now.1.share < clerk.old.view.weight + weight }
+    ensures stays { Stays clerk.old clerk.new }
+    ensures gone { IsGone job.now.turns.now worker clerk.new }
+{
+    close(job, worker, clerk, Stop::Events { worker, weight })
+}

@@ -1,0 +1,83 @@
+// An entry that does not end the run.
+ghost use Rattle.std.specs.Prelude.{◌≡◌, ◌≤◌, IfOk, OnErr, OnOk};
+ghost use Rattle.ocr_turns.specs.Contract.{IsOf};
+ghost use Rattle.ocr_facts.specs.Ocr.{wakes};
+ghost use Rattle.ocr_clerks.specs.Entering.{CanEnter, CanMake, Entered, Hand};
+ghost use Rattle.ocr_clerks.specs.Work.{AtWork, EntersAs, IsGone, Stays};
+
+use crate::closing::{close_heavy, close_memory};
+use crate::gate::Gate;
+use crate::job::Job;
+use crate::ocr::Ocr;
+use crate::over::Over;
+use crate::preparing::prepare;
+use ocr_base::NoMemory;
+use ocr_guid::Guid;
+use ocr_history::Entry;
+use ocr_machine::weight;
+use ocr_parts::Part;
+use ocr_turns::{Clerk, Committed, Turns};
+use std::alloc::Global;
+use std::sync::Wait;
+
+/// Enters an entry that is no Stop and that is legal on these parts, which the clerk lifted. They
+/// come back changed once the entry is in the log. It passes no gate. For want of memory nothing is
+/// entered, and the parts are lost.
+pub fn enter(
+    alloc: Global,
+    turns: &Turns<Ocr>,
+    limit: u64,
+    clerk: &mut Clerk<Ocr>,
+    entry: Entry,
+    parts: Vec<(u64, Part)>,
+) -> Result<Committed, NoMemory>
+    ghost h: { Hand }
+    requires table { IsOf turns.now clerk.old }
+    requires limit { (limit ≡ turns.now.1.limit) × (limit ≤ 65536) }
+    requires can { CanEnter turns.now.1 clerk.old.view entry h parts.items }
+    ensures table { clerk.new.table ≡ clerk.old.table }
+    ensures room { OnErr result (clerk.old.room ≤ clerk.new.room) }
+    ensures spare { clerk.new.spare ≡ clerk.old.spare }
+    ensures entered { IfOk result (λ r. Entered limit r clerk.old clerk.new entry h) }
+    ensures same { OnErr result ((clerk.new.view ≡ clerk.old.view)
+        × (clerk.new.parts ≡ clerk.old.parts)) }
+{
+    let prepared = prepare(alloc, turns, limit, clerk, &entry, parts)?;
+    Ok(turns.commit(clerk, entry, prepared.change))
+}
+
+/// Enters an entry, as `enter` does, behind the gate. Where the clerk's log would weigh more than its
+/// share then, or memory is refused, the run is ended in its place. Gives the EDTs that the entry
+/// resumes.
+pub fn enter_at_work<R: Wait + Sync, G: Gate>(
+    alloc: Global,
+    job: &Job<R, G>,
+    worker: u32,
+    clerk: &mut Clerk<Ocr>,
+    entry: Entry,
+    parts: Vec<(u64, Part)>,
+) -> Result<Vec<Guid>, Over>
+    ghost h: { Hand }
+    requires work { AtWork job.now.turns.now job.now.program.now clerk.old }
+    requires can { CanMake job.now.turns.now.1 clerk.old.view entry h parts.items }
+    ensures stays { Stays clerk.old clerk.new }
+    ensures work { OnOk result (AtWork job.now.turns.now job.now.program.now clerk.new) }
+    ensures entered { OnOk result (EntersAs job.now.turns.now.1 clerk.old clerk.new entry h) }
+    ensures resumed { IfOk result (λ r. r.items
+        ≡ wakes job.now.turns.now.1.limit entry clerk.old.view.parts) }
+    ensures gone { OnErr result (IsGone job.now.turns.now worker clerk.new) }
+{
+    let weight = weight(&entry);
+    if weight > job.turns.share() - clerk.weight() {
+        return Err(close_heavy(job, worker, clerk, &entry, weight));
+    }
+    let limit = job.turns.limit();
+    let Ok(prepared) = prepare(alloc, job.turns, limit, clerk, &entry, parts) else {
+        return Err(close_memory(job, worker, clerk));
+    };
+    job.gate.pass(job.rt, worker, clerk);
+    match job.turns.commit(clerk, entry, prepared.change) {
+        Committed::At(_number) => Ok(prepared.resumed),
+        Committed::Closed(word) => Err(Over(word)),
+    }
+}

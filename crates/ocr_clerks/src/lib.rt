@@ -1,0 +1,26 @@
+//! A worker's clerk at the table of turns, under the OCR machine: taking parts and giving them back,
+//! entering an entry, and ending the run.
+#![tactic(auto)]
+
+mod closing;
+mod drawing;
+mod entering;
+mod gate;
+mod giving;
+mod job;
+mod keeping;
+mod ocr;
+mod over;
+mod preparing;
+mod taking;
+
+pub use closing::{close, close_heavy, close_memory};
+pub use drawing::draw_number;
+pub use entering::{enter, enter_at_work};
+pub use gate::{Gate, NoGate};
+pub use giving::{give_all, give_faces};
+pub use job::Job;
+pub use keeping::{enter_kept, lift_parts};
+pub use ocr::Ocr;
+pub use over::Over;
+pub use taking::{take_part, take_parts};
