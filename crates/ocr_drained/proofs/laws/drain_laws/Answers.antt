@@ -1,0 +1,11 @@
+use Rattle.ocr_drained.proofs.Drained.{orderly_law, pass_law, rest_law}
+use Rattle.ocr_drained.proofs.laws.drain_laws.Goals as goal
+
+pub returns-clause-orderly : goal.returns-clause-orderly
+returns-clause-orderly c = orderly_law
+
+pub returns-clause-pass : goal.returns-clause-pass
+returns-clause-pass c = pass_law
+
+pub returns-clause-rest : goal.returns-clause-rest
+returns-clause-rest c = rest_law

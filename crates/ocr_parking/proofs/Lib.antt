@@ -1,0 +1,2 @@
+pub mod Unstarted
+pub mod Parked

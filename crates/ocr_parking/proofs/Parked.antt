@@ -1,0 +1,46 @@
+-- Who stands in the queue of a kept block waits.
+use Rattle.std.proofs.Common.{◌≡◌, ℕ, ◌≤◌, ◌==◌, true, List, [], ◌∷◌, reverse, is_some, refl, sym, ◌∙◌, ap, subst, arith}
+use Rattle.std.proofs.lemmas.Grind.{common_steps}
+use Rattle.ocr_acquire.specs.Mode.{mode_in}
+use Rattle.ocr_parts.specs.declared.part.Part.{Part}
+use Rattle.ocr_parts.specs.declared.part.Part.TheVariants as part
+use Rattle.ocr_quiet.specs.Waits.{queue_on}
+use Rattle.ocr_turns.specs.Owing.{times}
+use Rattle.ocr_turns.specs.Sums.{less_one}
+use Rattle.ocr_turns.specs.Words.{Waits, unclaiming}
+use Rattle.ocr_facts.specs.Clerks.{OcrView}
+use Rattle.ocr_facts.specs.Ocr.{meaning}
+use Rattle.ocr_facts.proofs.Runs.{run_is}
+use Rattle.ocr_facts.proofs.Waits.{waits_is}
+use Rattle.ocr_code.specs.declared.checked.Checked.{Checked}
+use Rattle.ocr_clerks.specs.Entering.{OcrKnown}
+use Rattle.ocr_clerks.specs.Work.{AtWork, OcrTable}
+use Rattle.ocr_clerks.proofs.Seen.{face_is}
+use Rattle.ocr_parking.specs.Parking.{IsLetWait}
+
+one_claim : (n : ℕ) → 1 ≤ times n (n ∷ [])
+one_claim n = grind (arith, common_steps)
+
+pub has_claim : (n : ℕ) (claims : List ℕ) → claims ≡ n ∷ [] → 1 ≤ times n claims
+has_claim n claims is = subst (λ (l : List ℕ). 1 ≤ times n l) (sym is) (one_claim n)
+
+number_same : (n : ℕ) → (n == n) ≡ true
+number_same n = grind (arith, common_steps)
+
+no_claim : (n : ℕ) → less_one n (n ∷ []) ≡ []
+no_claim n = rw (number_same n) refl
+
+pub lets_wait : (table : OcrTable) (program : Checked) (c : OcrKnown) (edt : ℕ) (places : List ℕ) → AtWork table program c → IsLetWait table.1 edt places c → Waits meaning table.1 c.view edt
+lets_wait table program c edt places work waits J knows =
+    let t = table.1 in
+    let fits = knows.fits work.is_open in
+    let face = face_is t J c.view waits.place waits.awaited (part.Block waits.state) fits waits.inside waits.here in
+    let run = run_is t.setting.value t.limit J fits.run in
+    (waits.awaited, (waits_is t (reverse J) edt fits.limits run).all waits.awaited (ap (λ (x : Part). is_some (mode_in edt (queue_on x))) face ∙ waits.queued))
+
+-- once it is parked
+pub parked_claims : (v : OcrView) (edt : ℕ) → v.claims ≡ edt ∷ [] → (unclaiming v edt).claims ≡ []
+parked_claims v edt is = ap (less_one edt) is ∙ no_claim edt
+
+pub parked_view : (v : OcrView) (edt : ℕ) → v.claims ≡ edt ∷ [] → unclaiming v edt ≡ record v { claims = [] }
+parked_view v edt is = ap (λ (l : List ℕ). record v { claims = l }) (parked_claims v edt is)

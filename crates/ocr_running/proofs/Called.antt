@@ -1,0 +1,288 @@
+-- A call of the body that is entered.
+use Rattle.std.proofs.Common.{◌≡◌, ◌≢◌, ◌⊎◌, inl, inr, ⊎_elim, ℕ, zero, suc, ◌+◌, ◌-◌, ◌≤◌, Bool, true, false, ◌==◌, ◌||◌, ◌&&◌, if◌then◌else◌, List, [], ◌∷◌, ◌++◌, reverse, refl, ap, sym, ◌∙◌, subst, arith}
+use Rattle.std.proofs.lemmas.Grind.{common_steps}
+use Rattle.std.proofs.lemmas.Bool.{eqb-true}
+use Rattle.ocr_code.specs.Checked.{checked_tree}
+use Rattle.ocr_code.specs.declared.checked.Checked.{Checked}
+use Rattle.ocr_tree.specs.Runnable.{IsRunnable}
+use Rattle.ocr_meaning.specs.Behaviour.{IsNextWith}
+use Rattle.ocr_meaning.specs.Body.{Body, says}
+use Rattle.ocr_meaning.specs.Call.{is_creation}
+use Rattle.ocr_meaning.specs.Holds.{is_done}
+use Rattle.ocr_meaning.specs.declared.call.Answer.{Answer}
+use Rattle.ocr_meaning.specs.declared.call.Call as body
+use Rattle.ocr_meaning.specs.declared.call.Call.TheVariants as call
+use Rattle.ocr_history.specs.declared.entry.Entry.{Entry}
+use Rattle.ocr_history.specs.declared.entry.Entry.TheVariants.{Call}
+use Rattle.ocr_parts.specs.declared.part.Core.{Core}
+use Rattle.ocr_parts.specs.declared.part.Part.{Part}
+use Rattle.ocr_parts.specs.declared.part.Part.TheVariants as part
+use Rattle.ocr_parts.specs.Codes.{code_of}
+use Rattle.ocr_parts.specs.Footprint.{Covers, makes_core}
+use Rattle.ocr_parts.specs.Kinds.{is_running}
+use Rattle.ocr_parts.specs.Legal.{carried}
+use Rattle.ocr_parts.specs.LegalOn.{IsLegalOn}
+use Rattle.ocr_parts.specs.Parts.{parts_of}
+use Rattle.ocr_parts.specs.Taken.{face_in, has, is_within, look, seen}
+use Rattle.ocr_standing.specs.Kept.{kept_ready}
+use Rattle.ocr_turns.specs.Owing.{times}
+use Rattle.ocr_turns.specs.Rule.{Fits}
+use Rattle.ocr_turns.specs.Sums.{HasAll, keys, one_at, sum_of, weigh}
+use Rattle.ocr_turns.proofs.Numbered.{weigh_keys}
+use Rattle.ocr_turns.proofs.Totals.{one_here}
+use Rattle.ocr_facts.specs.Clerks.{AreAtHand, OcrTerms, OcrView, of_terms}
+use Rattle.ocr_facts.specs.Ocr.{makes, meaning, touches, wakes}
+use Rattle.ocr_facts.proofs.Places.{named_place, places_good, within_is}
+use Rattle.ocr_facts.proofs.Slots.{number_same}
+use Rattle.ocr_clerks.specs.Entering.{CanMake, OcrKnown}
+use Rattle.ocr_clerks.specs.Work.{AtWork, OcrTable}
+use Rattle.ocr_running.specs.Calls.{IsAnswer, IsCoded, faces_of}
+use Rattle.ocr_running.specs.Running.{AreOthers, HasLifted, IsCoreOf, Runs, drawn_for, new_places, places_made}
+use Rattle.ocr_running.specs.Serving.{Serves, own_log}
+use Rattle.ocr_running.proofs.Asked.{all_from, once_in}
+use Rattle.ocr_running.proofs.Calls.{answers, call_legal, code_in}
+use Rattle.ocr_running.proofs.Entering.{call_may, call_wakes, runs_here, wakes_are}
+use Rattle.ocr_running.proofs.Logs.{serves_same}
+use Rattle.ocr_running.proofs.Parts.{is_run, seen_core}
+use Rattle.ocr_running.proofs.Places.{IsAt, call_from, call_wants, covers_at, same_places}
+
+-- THE LISTS of parts at hand and kept, that differ in the core alone
+has_same : (ps qs : List (ℕ × Part)) (n : ℕ) → keys ps ≡ keys qs → has ps n ≡ has qs n
+has_same [] [] n is = refl
+has_same [] (q ∷ qs) n is = cc is
+has_same (p ∷ ps) [] n is = cc is
+has_same (p ∷ ps) (q ∷ qs) n is = let h : p.0 ≡ q.0 = cc is in let t : keys ps ≡ keys qs = cc is in rw (h, has_same ps qs n t) refl
+
+pub core_alike : (limit edt n : ℕ) (core kept : Core) (rest : List (ℕ × Part)) → is_within limit edt ≡ true → IsCoreOf core kept
+    → seen limit n (look ((limit + edt, part.Core core) ∷ rest) n) ≡ seen limit n (look ((limit + edt, part.Core kept) ∷ rest) n)
+core_alike limit edt n core kept rest within is = elim ((limit + edt) == n) as (λ b. ((limit + edt) == n) ≡ b → seen limit n (if b then part.Core core else look rest n) ≡ seen limit n (if b then part.Core kept else look rest n)) [
+  | true ↦ λ same. subst (λ (k : ℕ). seen limit k (part.Core core) ≡ seen limit k (part.Core kept)) (eqb-true (limit + edt) n same) (seen_core limit edt core within ∙ (ap part.Core is.alike ∙ sym (seen_core limit edt kept within)))
+  | false ↦ λ _. refl
+] refl
+
+pub hand_is : (limit edt : ℕ) (core kept : Core) (rest hand view : List (ℕ × Part)) → is_within limit edt ≡ true → IsCoreOf core kept → hand ≡ (limit + edt, part.Core core) ∷ rest → view ≡ (limit + edt, part.Core kept) ∷ rest → ((n : ℕ) → weigh (one_at n) view ≤ 1) → AreAtHand limit hand view
+hand_is limit edt core kept rest hand view within is hands views once = record {
+  once = λ n. (let same = weigh_keys (one_at n) hand view keyed in let one = once n in omega (arith, same, one));
+  there = λ n here. sym (has_same hand view n keyed) ∙ here;
+  alike = λ n here. ap (λ (l : List (ℕ × Part)). seen limit n (look l n)) hands ∙ (core_alike limit edt n core kept rest within is ∙ sym (ap (λ (l : List (ℕ × Part)). seen limit n (look l n)) views));
+}
+  where
+    keyed : keys hand ≡ keys view
+    keyed = ap keys hands ∙ sym (ap keys views)
+
+-- THE PLACES of the call's entry
+pub keys_at : (p : ℕ) (ps : List (ℕ × Part)) → weigh (one_at p) ps ≡ sum_of (one_at p) (keys ps)
+keys_at p [] = refl
+keys_at p (x ∷ rest) = let r = keys_at p rest in omega (arith, r)
+
+sum_append : (p : ℕ) (ns ms : List ℕ) → sum_of (one_at p) (ns ++ ms) ≡ sum_of (one_at p) ns + sum_of (one_at p) ms
+sum_append p [] ms = omega arith
+sum_append p (n ∷ ns) ms = let r = sum_append p ns ms in omega (arith, r)
+
+or_one : (a b : Bool) → a ≡ true → (a || b) ≡ true
+or_one true b is = refl
+or_one false b is = cc is
+
+or_two : (a b : Bool) → b ≡ true → (a || b) ≡ true
+or_two true b is = refl
+or_two false b is = is
+
+core_out : (limit t : ℕ) → is_within limit t ≡ true → is_within limit (limit + t) ≡ false
+core_out limit t is = grind (arith, common_steps)
+
+core_back : (limit t : ℕ) → is_within limit t ≡ true → (limit + t) - limit ≡ t
+core_back limit t is = omega arith
+
+both_on : (a b : Bool) → a ≡ true → b ≡ true → (a && b) ≡ true
+both_on true b p q = q
+both_on false b p q = cc p
+
+module _ (limit edt : ℕ) (c : body.Call) (a : Answer) (w : List (ℕ × ℕ)) (within : is_within limit edt ≡ true) where
+  abbrev called_entry : Entry
+  called_entry = Call edt 0 c a w
+
+  own_place : 1 ≤ touches limit (Call edt 0 c a w) (limit + edt)
+  own_place = named_place limit (Call edt 0 c a w) (limit + edt) (rw (core_out limit edt within, core_back limit edt within) (both_on (is_within limit edt) _ within (or_one (edt == edt) _ (number_same edt))))
+
+  new_face : is_within limit a.value ≡ true → is_creation c ≡ true → 1 ≤ touches limit (Call edt 0 c a w) a.value
+  new_face there creates = named_place limit (Call edt 0 c a w) a.value (rw there (or_two _ (is_creation c && (a.value == a.value)) (both_on (is_creation c) (a.value == a.value) creates (number_same a.value))))
+
+  new_core : is_within limit a.value ≡ true → makes_core c ≡ true → 1 ≤ touches limit (Call edt 0 c a w) (limit + a.value)
+  new_core there makes = named_place limit (Call edt 0 c a w) (limit + a.value) (rw (core_out limit a.value there, core_back limit a.value there) (both_on (is_within limit a.value) _ there (or_two (edt == a.value) _ (both_on (makes_core c) (a.value == a.value) makes (number_same a.value)))))
+
+  -- each place that was taken is named
+  made_named : (p : ℕ) → (is_done a.code ≡ true → is_creation c ≡ true → is_within limit a.value ≡ true) → IsAt p (places_made limit c a) → 1 ≤ touches limit (Call edt 0 c a w) p
+  made_named p there at = elim (is_done a.code) as (λ b. is_done a.code ≡ b → IsAt p (if b then new_places limit c a.value else []) → 1 ≤ touches limit (Call edt 0 c a w) p) [
+    | true ↦ λ done at. created p (there done) at
+    | false ↦ λ _ none. absurd (omega (arith, none))
+  ] refl at
+    where
+      at_one : (p n rest : ℕ) → 1 ≤ one_at p n + rest → (n ≡ p) ⊎ (1 ≤ rest)
+      at_one p n rest is = elim (p == n) as (λ b. (p == n) ≡ b → 1 ≤ (if b then 1 else 0) + rest → (n ≡ p) ⊎ (1 ≤ rest)) [
+        | true ↦ λ same _. inl (sym (eqb-true p n same))
+        | false ↦ λ _ is. inr (omega (arith, is))
+      ] refl is
+
+      second : (p : ℕ) → is_within limit a.value ≡ true → IsAt p (if makes_core c then (limit + a.value) ∷ [] else []) → 1 ≤ touches limit (Call edt 0 c a w) p
+      second p there at = elim (makes_core c) as (λ b. makes_core c ≡ b → IsAt p (if b then (limit + a.value) ∷ [] else []) → 1 ≤ touches limit (Call edt 0 c a w) p) [
+        | true ↦ λ makes at. ⊎_elim (λ same. subst (λ (k : ℕ). 1 ≤ touches limit (Call edt 0 c a w) k) same (new_core there makes)) (λ none. absurd (omega (arith, none))) (at_one p (limit + a.value) 0 at)
+        | false ↦ λ _ none. absurd (omega (arith, none))
+      ] refl at
+
+      created : (p : ℕ) → (is_creation c ≡ true → is_within limit a.value ≡ true) → IsAt p (new_places limit c a.value) → 1 ≤ touches limit (Call edt 0 c a w) p
+      created p there at = elim (is_creation c) as (λ b. is_creation c ≡ b → IsAt p (if b then a.value ∷ (if makes_core c then (limit + a.value) ∷ [] else []) else []) → 1 ≤ touches limit (Call edt 0 c a w) p) [
+        | true ↦ λ creates at. ⊎_elim (λ same. subst (λ (k : ℕ). 1 ≤ touches limit (Call edt 0 c a w) k) same (new_face (there creates) creates)) (λ rest. second p (there creates) rest) (at_one p a.value _ at)
+        | false ↦ λ _ none. absurd (omega (arith, none))
+      ] refl at
+
+  -- and each that is named was taken
+  named_made : (p : ℕ) → (is_done a.code ≡ false → is_creation c ≡ true → a.value ≡ 0) → (makes_core c ≡ true → is_creation c ≡ true) → 1 ≤ touches limit (Call edt 0 c a w) p → (p ≡ limit + edt) ⊎ (IsAt p (faces_of limit c) ⊎ IsAt p (places_made limit c a))
+  named_made p null creates at = ⊎_elim
+      (λ new. ⊎_elim (λ same. inl same) (λ made. inr (inr (elim (is_done a.code) as (λ b. is_done a.code ≡ b → IsAt p (if b then new_places limit c a.value else [])) [
+        | true ↦ λ _. ⊎_elim (λ face. first face.0 face.1) (λ core. both (creates core.0) core.0 core.1) made.1
+        | false ↦ λ off. absurd (⊎_elim (λ face. never made.0 (null off face.0)) (λ core. never made.0 (null off (creates core.0))) made.1)
+      ] refl))) new)
+      (λ wants. inr (inl wants))
+      (call_from limit edt 0 p c a w at)
+    where
+      here : (k rest : ℕ) → 1 ≤ one_at k k + rest
+      here k rest = let one = one_here k in omega (arith, one)
+
+      first : is_creation c ≡ true → p ≡ a.value → IsAt p (new_places limit c a.value)
+      first on same = rw on (subst (λ (k : ℕ). IsAt k (a.value ∷ (if makes_core c then (limit + a.value) ∷ [] else []))) (sym same) (here a.value _))
+
+      both : is_creation c ≡ true → makes_core c ≡ true → p ≡ limit + a.value → IsAt p (new_places limit c a.value)
+      both on cored same = rw (on, cored) (subst (λ (k : ℕ). IsAt k (a.value ∷ (limit + a.value) ∷ [])) (sym same) (let one = one_here (limit + a.value) in omega (arith, one)))
+
+      never : is_within limit a.value ≡ true → a.value ≡ 0 → ⊥
+      never is none = let low = (within_is limit a.value is).0 in absurd (omega (arith, low, none))
+
+makes_creates : (c : body.Call) → makes_core c ≡ true → is_creation c ≡ true
+makes_creates (call.EdtCreate from pc ps dc ds fl o) is = refl
+makes_creates other is = cc is
+
+-- WHAT THE ENTRY ASKS of the clerk
+has_drawn : (b : Bool) (n : ℕ) → HasAll (if b then n ∷ [] else []) (if b then n ∷ [] else [])
+has_drawn true n = (let one = one_here n in omega (arith, one), tt)
+has_drawn false n = tt
+
+one_claim : (n edt : ℕ) → 1 ≤ times n (edt ∷ []) → n ≡ edt
+one_claim n edt some = grind (arith, common_steps)
+
+not_claimed : (n edt : ℕ) (rs : List ℕ) → times edt rs ≡ 0 → 1 ≤ times n rs → times n (edt ∷ []) ≡ 0
+not_claimed n edt rs none some = elim (n == edt) as (λ b. (n == edt) ≡ b → (if b then 1 else 0) + 0 ≡ 0) [
+  | true ↦ λ same. let e = eqb-true n edt same in absurd (let z = subst (λ (k : ℕ). times k rs ≡ 0) (sym e) none in omega (arith, z, some))
+  | false ↦ λ _. refl
+] refl
+
+pub runnable_in : (table : OcrTable) (program : Checked) (c : OcrKnown) → AtWork table program c → IsRunnable (checked_tree table.1.setting.value.program)
+runnable_in table program c work = subst (λ (q : Checked). IsRunnable (checked_tree q)) (sym work.program_is) work.runnable
+
+module _ (table : OcrTable) (program : Checked) (edt : ℕ) (b : Body) (old new : OcrKnown) (c : body.Call) (a : Answer) (private w : List (ℕ × ℕ)) (ps : List (ℕ × Part)) (work : AtWork table program new) (runs : Runs table.1 edt b old)
+    (lift : HasLifted table.1 edt old new (faces_of table.1.limit c ++ places_made table.1.limit c a) (drawn_for c a) ps) (next : IsNextWith c private (says b (own_log old.view.log edt))) (coded : IsCoded c) (answer : IsAnswer new.view c a)
+    (is : a.code ≡ code_of edt (face_in table.1.limit ps) c) (writes : w ≡ carried (is_done a.code) private) where
+  abbrev t : OcrTerms
+  t = table.1
+
+  abbrev limit : ℕ
+  limit = table.1.limit
+
+  within : is_within table.1.limit edt ≡ true
+  within = runs.taken.number
+
+  fits : (J : List Entry) × Fits meaning table.1 J new.view
+  fits = lift.sees table.1 work.of_table.1 work.is_open
+
+  view_parts : new.view.parts ≡ (table.1.limit + edt, part.Core lift.kept) ∷ lift.taken
+  view_parts = ap (λ (v : OcrView). v.parts) lift.view
+
+  at_hand : AreAtHand table.1.limit ps new.view.parts
+  at_hand = hand_is table.1.limit edt lift.core lift.kept lift.taken ps new.view.parts within lift.is lift.parts view_parts (once_in table program new work lift.sees)
+
+  serves : Serves table.1 new.view edt b
+  serves = serves_same table.1 old.view new.view edt b runs.serves (ap (λ (v : OcrView). v.log) lift.view) (ap (λ (v : OcrView). v.facts) lift.view)
+
+  next_now : IsNextWith c private (says b (own_log new.view.log edt))
+  next_now = subst (λ (l : List (ℕ × Entry)). IsNextWith c private (says b (own_log l edt))) (sym (ap (λ (v : OcrView). v.log) lift.view)) next
+
+  listed : keys ps ≡ (table.1.limit + edt) ∷ (faces_of table.1.limit c ++ places_made table.1.limit c a)
+  listed = ap keys lift.parts ∙ ap (λ (l : List ℕ). (table.1.limit + edt) ∷ l) lift.places_are
+
+  made_within : is_done a.code ≡ true → is_creation c ≡ true → is_within table.1.limit a.value ≡ true
+  made_within done creates = let free = fits.1.unmade a.value (answer.new creates done) in inside a.value table.1.limit free.least free.most
+    where
+      inside : (n limit : ℕ) → 1 ≤ n → n ≤ limit → is_within limit n ≡ true
+      inside n limit low high = grind (arith, common_steps)
+
+  there : (p : ℕ) → 1 ≤ weigh (one_at p) ps → 1 ≤ touches table.1.limit (Call edt 0 c a w) p
+  there p some =
+      let k = keys_at p ps in let l = ap (sum_of (one_at p)) listed in let s = sum_append p (faces_of table.1.limit c) (places_made table.1.limit c a) in
+      split p (omega (arith, some, k, l, s))
+    where
+      rest : (p : ℕ) → 1 ≤ 0 + (sum_of (one_at p) (faces_of table.1.limit c) + sum_of (one_at p) (places_made table.1.limit c a)) → 1 ≤ touches table.1.limit (Call edt 0 c a w) p
+      rest p some = elim (sum_of (one_at p) (faces_of table.1.limit c)) as (λ n. sum_of (one_at p) (faces_of table.1.limit c) ≡ n → 1 ≤ touches table.1.limit (Call edt 0 c a w) p) [
+        | zero ↦ λ none. made_named table.1.limit edt c a w within p made_within (omega (arith, some, none))
+        | suc n ↦ λ is. call_wants table.1.limit edt 0 p c a w (omega (arith, is))
+      ] refl
+
+      split : (p : ℕ) → 1 ≤ one_at p (table.1.limit + edt) + (sum_of (one_at p) (faces_of table.1.limit c) + sum_of (one_at p) (places_made table.1.limit c a)) → 1 ≤ touches table.1.limit (Call edt 0 c a w) p
+      split p some = elim (p == (table.1.limit + edt)) as (λ b. (p == (table.1.limit + edt)) ≡ b → 1 ≤ (if b then 1 else 0) + (sum_of (one_at p) (faces_of table.1.limit c) + sum_of (one_at p) (places_made table.1.limit c a)) → 1 ≤ touches table.1.limit (Call edt 0 c a w) p) [
+        | true ↦ λ same _. subst (λ (k : ℕ). 1 ≤ touches table.1.limit (Call edt 0 c a w) k) (sym (eqb-true p (table.1.limit + edt) same)) (own_place table.1.limit edt c a w within)
+        | false ↦ λ _ some. rest p some
+      ] refl some
+
+  back : (p : ℕ) → 1 ≤ touches table.1.limit (Call edt 0 c a w) p → 1 ≤ weigh (one_at p) ps
+  back p some =
+      let k = keys_at p ps in let l = ap (sum_of (one_at p)) listed in let s = sum_append p (faces_of table.1.limit c) (places_made table.1.limit c a) in
+      ⊎_elim
+      (λ same. let one = one_here p in let e = ap (one_at p) same in omega (arith, k, l, one, e))
+      (λ other. ⊎_elim (λ wants. omega (arith, k, l, s, wants)) (λ made. omega (arith, k, l, s, made)) other)
+      (named_made table.1.limit edt c a w within p (λ off creates. answer.refused creates off) (makes_creates c) some)
+
+  covers : Covers table.1.limit (Call edt 0 c a w) ps
+  covers = covers_at table.1.limit (Call edt 0 c a w) ps back
+
+  legal : IsLegalOn table.1.limit (kept_ready table.1.limit [] (Call edt 0 c a w) ps) (Call edt 0 c a w)
+  legal =
+      let J = fits.0 in
+      let found : a.code ≡ code_of edt (parts_of (of_terms table.1) (reverse J)).face c = is ∙ code_in table.1 new.view J ps edt c a w fits.1 at_hand covers in
+      call_legal table.1 new.view J fits.1 ps edt c a w at_hand covers
+      (subst (λ (l : List (ℕ × Part)). AreAtHand table.1.limit l new.view.parts → is_running ((parts_of (of_terms table.1) (reverse J)).core edt) ≡ true) (sym lift.parts) (runs_here table.1 new.view J fits.1 edt lift.core lift.taken within lift.is.running) at_hand)
+      found (answers table.1 new.view J fits.1 edt c a coded found answer) answer.no_scope answer.no_output
+
+  resumed_apart : times edt (wakes table.1.limit (Call edt 0 c a w) new.view.parts) ≡ 0
+  resumed_apart =
+      let J = fits.0 in
+      let kept : AreAtHand table.1.limit new.view.parts new.view.parts = record { once = once_in table program new work lift.sees; there = λ n here. here; alike = λ n here. refl } in
+      let covered : Covers table.1.limit (Call edt 0 c a w) new.view.parts = λ n on. at_hand.there n (covers n on) in
+      let runs_now = subst (λ (l : List (ℕ × Part)). AreAtHand table.1.limit l new.view.parts → is_running ((parts_of (of_terms table.1) (reverse J)).core edt) ≡ true) (sym lift.parts) (runs_here table.1 new.view J fits.1 edt lift.core lift.taken within lift.is.running) at_hand in
+      ap (times edt) (sym (wakes_are table.1 new.view J (Call edt 0 c a w) new.view.parts fits.1 kept covered)) ∙ call_wakes (of_terms table.1) (reverse J) edt c a w (is_run table.1 new.view J fits.1) runs_now
+
+  pub can_call : CanMake table.1 new.view (Call edt 0 c a w) (record { members = []; parts = ps }) ps
+  can_call = record {
+    goes = refl;
+    owes = tt;
+    drawn = subst (HasAll (makes (Call edt 0 c a w))) (sym (ap (λ (v : OcrView). v.drawn) lift.view)) (has_drawn (is_creation c && is_done a.code) a.value);
+    claims = record {
+      starts = λ n never. cc never;
+      waits = λ n p never. cc never;
+      resumes = λ n some. ap (times n) (ap (λ (v : OcrView). v.claims) lift.view ∙ runs.taken.claims) ∙ not_claimed n edt (wakes table.1.limit (Call edt 0 c a w) new.view.parts) resumed_apart some;
+    };
+    may = call_may table.1 new.view edt b ps (runnable_in table program new work) serves at_hand c a private w covers legal next_now writes;
+    ready = refl;
+    same_keys = refl;
+    places = λ p. (same_places table.1.limit (Call edt 0 c a w) ps at_hand.once there back p, (let same = weigh_keys (one_at p) ps new.view.parts (ap keys lift.parts ∙ sym (ap keys view_parts)) in omega (arith, same)));
+  }
+
+  -- the places of what it names but the core
+  pub others_are : AreOthers table.1 edt (faces_of table.1.limit c ++ places_made table.1.limit c a)
+  others_are = all_from (λ p. (p ≢ table.1.limit + edt) × (p ≤ table.1.limit + table.1.limit)) (faces_of table.1.limit c ++ places_made table.1.limit c a) (λ p at. (apart p at, low p at))
+    where
+      behind : (p : ℕ) → weigh (one_at p) ps ≡ one_at p (table.1.limit + edt) + sum_of (one_at p) (faces_of table.1.limit c ++ places_made table.1.limit c a)
+      behind p = keys_at p ps ∙ ap (sum_of (one_at p)) listed
+
+      apart : (p : ℕ) → 1 ≤ sum_of (one_at p) (faces_of table.1.limit c ++ places_made table.1.limit c a) → p ≢ table.1.limit + edt
+      apart p at same = let b = behind p in let one = one_here p in let e = ap (one_at p) same in let o = at_hand.once p in absurd (omega (arith, b, one, e, o, at))
+
+      low : (p : ℕ) → 1 ≤ sum_of (one_at p) (faces_of table.1.limit c ++ places_made table.1.limit c a) → p ≤ table.1.limit + table.1.limit
+      low p at = let b = behind p in let r = (places_good table.1.limit (Call edt 0 c a w)).range p (there p (omega (arith, b, at))) in let high = r.1 in omega (arith, high)

@@ -1,0 +1,64 @@
+-- The code of a call, found on the parts that it names.
+use Rattle.std.proofs.Common.{◌≡◌, ⊎_elim, ℕ, ◌+◌, ◌≤◌, true, List, [], ◌∷◌, reverse, ap, sym, ◌∙◌, subst, arith}
+use Rattle.ocr_code.specs.declared.checked.Checked.{Checked}
+use Rattle.ocr_guid.specs.declared.Code.TheVariants.{Done}
+use Rattle.ocr_meaning.specs.Behaviour.{IsNext}
+use Rattle.ocr_meaning.specs.Body.{Body, says}
+use Rattle.ocr_meaning.specs.Call.{is_creation}
+use Rattle.ocr_meaning.specs.declared.call.Call as body
+use Rattle.ocr_history.specs.declared.entry.Entry.{Entry}
+use Rattle.ocr_history.specs.declared.entry.Entry.TheVariants.{Call}
+use Rattle.ocr_history.specs.declared.entry.Stop.TheVariants as by
+use Rattle.ocr_parts.specs.declared.part.Part.{Part}
+use Rattle.ocr_parts.specs.Codes.{code_of}
+use Rattle.ocr_parts.specs.Legal.{IsStop}
+use Rattle.ocr_parts.specs.Parts.{parts_of}
+use Rattle.ocr_parts.specs.Taken.{face_in, is_within}
+use Rattle.ocr_turns.specs.Rule.{Fits}
+use Rattle.ocr_turns.specs.Sums.{keys, one_at, sum_of, weigh}
+use Rattle.ocr_turns.proofs.Totals.{one_here}
+use Rattle.ocr_facts.specs.Clerks.{AreAtHand, Knows, OcrView, of_terms}
+use Rattle.ocr_facts.specs.Ocr.{meaning, touches}
+use Rattle.ocr_clerks.specs.Entering.{OcrKnown}
+use Rattle.ocr_clerks.specs.Work.{AtWork, OcrTable}
+use Rattle.ocr_running.specs.Calls.{faces_of}
+use Rattle.ocr_running.specs.Running.{HasLifted, Runs}
+use Rattle.ocr_running.specs.Serving.{Serves, own_log}
+use Rattle.ocr_running.proofs.Asked.{blank, once_in}
+use Rattle.ocr_running.proofs.Called.{hand_is, keys_at}
+use Rattle.ocr_running.proofs.Calls.{code_in}
+use Rattle.ocr_running.proofs.Logs.{serves_same}
+use Rattle.ocr_running.proofs.Places.{call_from, covers_at}
+use Rattle.ocr_running.proofs.Stops.{creating}
+
+module _ (table : OcrTable) (program : Checked) (edt : ℕ) (b : Body) (old new : OcrKnown) (c : body.Call) (ps : List (ℕ × Part)) (work : AtWork table program new) (runs : Runs table.1 edt b old) (lift : HasLifted table.1 edt old new (faces_of table.1.limit c) [] ps) where
+  at_hand : AreAtHand table.1.limit ps new.view.parts
+  at_hand = hand_is table.1.limit edt lift.core lift.kept lift.taken ps new.view.parts runs.taken.number lift.is lift.parts (ap (λ (v : OcrView). v.parts) lift.view) (once_in table program new work lift.sees)
+
+  listed : keys ps ≡ (table.1.limit + edt) ∷ faces_of table.1.limit c
+  listed = ap keys lift.parts ∙ ap (λ (l : List ℕ). (table.1.limit + edt) ∷ l) lift.places_are
+
+  back : (p : ℕ) → 1 ≤ touches table.1.limit (Call edt 0 c blank []) p → 1 ≤ weigh (one_at p) ps
+  back p some =
+      let k = keys_at p ps in let l = ap (sum_of (one_at p)) listed in
+      ⊎_elim
+      (λ new. ⊎_elim (λ same. let one = one_here p in let e = ap (one_at p) same in omega (arith, k, l, one, e)) (λ made. absurd (never table.1.limit made.0)) new)
+      (λ wants. omega (arith, k, l, wants))
+      (call_from table.1.limit edt 0 p c blank [] some)
+    where
+      never : (limit : ℕ) → is_within limit 0 ≡ true → ⊥
+      never limit is = cc is
+
+  coded : (J : List Entry) → Fits meaning table.1 J new.view → code_of edt (face_in table.1.limit ps) c ≡ code_of edt (parts_of (of_terms table.1) (reverse J)).face c
+  coded J fits = code_in table.1 new.view J ps edt c blank [] fits at_hand (covers_at table.1.limit (Call edt 0 c blank []) ps back)
+
+  serves : Serves table.1 new.view edt b
+  serves = serves_same table.1 old.view new.view edt b runs.serves (ap (λ (v : OcrView). v.log) lift.view) (ap (λ (v : OcrView). v.facts) lift.view)
+
+  -- an accepted creation could be made next
+  pub creating_now : IsNext c (says b (own_log old.view.log edt)) → is_creation c ≡ true → code_of edt (face_in table.1.limit ps) c ≡ Done → Knows table.1 new.view (λ J. IsStop (of_terms table.1) (reverse J) by.Objects)
+  creating_now next creates done =
+      creating table.1 new.view edt b serves c (subst (λ (l : List (ℕ × Entry)). IsNext c (says b (own_log l edt))) (sym (ap (λ (v : OcrView). v.log) lift.view)) next) creates (λ J op fits. sym (coded J fits) ∙ done)
+
+  pub none_drawn : new.view.drawn ≡ []
+  none_drawn = ap (λ (v : OcrView). v.drawn) lift.view

@@ -1,0 +1,147 @@
+-- The places of entries: how often each stands among them.
+use Rattle.std.proofs.Common.{◌≡◌, ℕ, ◌+◌, ◌≤◌, ◌⊎◌, inl, inr, ⊎_elim, List, [], ◌∷◌, Bool, true, false, ◌==◌, ◌||◌, nat_lt, if◌then◌else◌, refl, sym, subst, arith}
+use Rattle.std.proofs.lemmas.Grind.{common_steps}
+use mathlib.Core.Logic.{dite}
+use native.Mathlib.Decide.{dec_le}
+use Rattle.ocr_meaning.specs.Call.{is_creation}
+use Rattle.ocr_meaning.specs.declared.call.Call as body
+use Rattle.ocr_meaning.specs.declared.call.Answer.{Answer}
+use Rattle.ocr_history.specs.Numbers.{placed}
+use Rattle.ocr_history.specs.declared.entry.Entry.{Entry}
+use Rattle.ocr_history.specs.declared.entry.Entry.TheVariants.{Call}
+use Rattle.ocr_parts.specs.Codes.{Sort, wanted}
+use Rattle.ocr_parts.specs.declared.part.Part.{Part}
+use Rattle.ocr_parts.specs.Footprint.{Covers, and_core, and_face, and_made, and_wanted, makes_core}
+use Rattle.ocr_parts.specs.Taken.{has, is_within}
+use Rattle.ocr_turns.specs.Sums.{one_at, sum_of, weigh}
+use Rattle.ocr_turns.proofs.Totals.{one_here, one_same}
+use Rattle.ocr_facts.specs.Ocr.{touches}
+use Rattle.ocr_facts.proofs.Places.{named_place, places_differ}
+use Rattle.ocr_running.specs.Calls.{faces_of}
+
+abbrev pub IsAt : ℕ → List ℕ → Type 0
+IsAt p ns = 1 ≤ sum_of (one_at p) ns
+
+-- WHAT STANDS in a list into which a number was placed
+abbrev placed_if : Bool → Bool → ℕ → ℕ → List ℕ → List ℕ
+placed_if less same n m ns = if less then n ∷ m ∷ ns else if same then m ∷ ns else m ∷ placed n ns
+
+some_here : (n : ℕ) (rest : ℕ) → 1 ≤ one_at n n + rest
+some_here n rest = let one = one_here n in omega (arith, one)
+
+placed_stays : (p n : ℕ) (ns : List ℕ) → IsAt p ns → IsAt p (placed n ns)
+placed_stays p n [] is = absurd (omega (arith, is))
+placed_stays p n (m ∷ ns) is = elim (nat_lt n m) as (λ b. IsAt p (placed_if b (n == m) n m ns)) [
+  | true ↦ omega (arith, is)
+  | false ↦ elim (n == m) as (λ b. IsAt p (placed_if false b n m ns)) [
+    | true ↦ is
+    | false ↦ dite (dec_le 1 (sum_of (one_at p) ns)) (λ some. let r = placed_stays p n ns some in omega (arith, r)) (λ none. omega (arith, is, none))
+  ]
+]
+
+placed_here : (n : ℕ) (ns : List ℕ) → IsAt n (placed n ns)
+placed_here n [] = some_here n 0
+placed_here n (m ∷ ns) = elim (nat_lt n m) as (λ b. IsAt n (placed_if b (n == m) n m ns)) [
+  | true ↦ some_here n (one_at n m + sum_of (one_at n) ns)
+  | false ↦ elim (n == m) as (λ b. (n == m) ≡ b → IsAt n (placed_if false b n m ns)) [
+    | true ↦ λ is. subst (λ (k : ℕ). IsAt n (k ∷ ns)) (same n m is) (some_here n (sum_of (one_at n) ns))
+    | false ↦ λ _. let r = placed_here n ns in omega (arith, r)
+  ] refl
+]
+  where
+    same : (n m : ℕ) → (n == m) ≡ true → n ≡ m
+    same n m is = grind (arith, common_steps)
+
+at_head : (p n rest : ℕ) → 1 ≤ one_at p n + rest → (p ≡ n) ⊎ (1 ≤ rest)
+at_head p n rest is = dite (dec_le 1 (one_at p n)) (λ some. inl (one_same p n some)) (λ none. inr (omega (arith, is, none)))
+
+placed_from : (p n : ℕ) (ns : List ℕ) → IsAt p (placed n ns) → (p ≡ n) ⊎ IsAt p ns
+placed_from p n [] is = ⊎_elim (λ same. inl same) (λ none. absurd (omega (arith, none))) (at_head p n 0 is)
+placed_from p n (m ∷ ns) is = elim (nat_lt n m) as (λ b. IsAt p (placed_if b (n == m) n m ns) → (p ≡ n) ⊎ IsAt p (m ∷ ns)) [
+  | true ↦ λ is. at_head p n (one_at p m + sum_of (one_at p) ns) is
+  | false ↦ elim (n == m) as (λ b. IsAt p (placed_if false b n m ns) → (p ≡ n) ⊎ IsAt p (m ∷ ns)) [
+    | true ↦ λ is. inr is
+    | false ↦ λ is. ⊎_elim (λ same. inr (let one = one_here m in subst (λ (k : ℕ). 1 ≤ one_at k m + sum_of (one_at k) ns) (sym same) (some_here m (sum_of (one_at m) ns)))) (λ rest. ⊎_elim (λ same. inl same) (λ there. inr (omega (arith, there))) (placed_from p n ns rest)) (at_head p m (sum_of (one_at p) (placed n ns)) is)
+  ]
+] is
+
+-- FACES AND CORES
+face_stays : (limit g p : ℕ) (ns : List ℕ) → IsAt p ns → IsAt p (and_face limit g ns)
+face_stays limit g p ns is = elim (is_within limit g) as (λ b. IsAt p (if b then placed g ns else ns)) [ true ↦ placed_stays p g ns is | false ↦ is ]
+
+core_stays : (limit t p : ℕ) (ns : List ℕ) → IsAt p ns → IsAt p (and_core limit t ns)
+core_stays limit t p ns is = elim (is_within limit t) as (λ b. IsAt p (if b then placed (limit + t) ns else ns)) [ true ↦ placed_stays p (limit + t) ns is | false ↦ is ]
+
+pub face_from : (limit g p : ℕ) (ns : List ℕ) → IsAt p (and_face limit g ns) → ((is_within limit g ≡ true) × (p ≡ g)) ⊎ IsAt p ns
+face_from limit g p ns is = elim (is_within limit g) as (λ b. is_within limit g ≡ b → IsAt p (if b then placed g ns else ns) → ((is_within limit g ≡ true) × (p ≡ g)) ⊎ IsAt p ns) [
+  | true ↦ λ on is. ⊎_elim (λ same. inl (on, same)) (λ there. inr there) (placed_from p g ns is)
+  | false ↦ λ _ is. inr is
+] refl is
+
+pub core_from : (limit t p : ℕ) (ns : List ℕ) → IsAt p (and_core limit t ns) → ((is_within limit t ≡ true) × (p ≡ limit + t)) ⊎ IsAt p ns
+core_from limit t p ns is = elim (is_within limit t) as (λ b. is_within limit t ≡ b → IsAt p (if b then placed (limit + t) ns else ns) → ((is_within limit t ≡ true) × (p ≡ limit + t)) ⊎ IsAt p ns) [
+  | true ↦ λ on is. ⊎_elim (λ same. inl (on, same)) (λ there. inr there) (placed_from p (limit + t) ns is)
+  | false ↦ λ _ is. inr is
+] refl is
+
+-- on two lists the same faces
+wanted_moves : (limit p : ℕ) (Q : Type 0) (all : List (ℕ × Sort)) (ns ms : List ℕ) → (IsAt p ns → Q ⊎ IsAt p ms) → IsAt p (and_wanted limit all ns) → Q ⊎ IsAt p (and_wanted limit all ms)
+wanted_moves limit p Q [] ns ms moves is = moves is
+wanted_moves limit p Q (one ∷ rest) ns ms moves is = elim (is_within limit one.0) as (λ b. IsAt p (if b then placed one.0 (and_wanted limit rest ns) else and_wanted limit rest ns) → Q ⊎ IsAt p (if b then placed one.0 (and_wanted limit rest ms) else and_wanted limit rest ms)) [
+  | true ↦ λ is. ⊎_elim
+      (λ same. inr (subst (λ (k : ℕ). IsAt k (placed one.0 (and_wanted limit rest ms))) (sym same) (placed_here one.0 (and_wanted limit rest ms))))
+      (λ there. ⊎_elim (λ q. inl q) (λ here. inr (placed_stays p one.0 (and_wanted limit rest ms) here)) (wanted_moves limit p Q rest ns ms moves there))
+      (placed_from p one.0 (and_wanted limit rest ns) is)
+  | false ↦ λ is. wanted_moves limit p Q rest ns ms moves is
+] is
+
+-- THE PLACES of a call besides those of the faces that it wants: the caller's core, and what it makes
+abbrev pub IsNew : ℕ → ℕ → body.Call → ℕ → ℕ → Type 0
+IsNew limit t c v p = (p ≡ limit + t) ⊎ ((is_within limit v ≡ true) × (((is_creation c ≡ true) × (p ≡ v)) ⊎ ((makes_core c ≡ true) × (p ≡ limit + v))))
+
+made_from : (limit t p : ℕ) (c : body.Call) (a : Answer) → IsAt p (and_made limit c a (and_core limit t [])) → IsNew limit t c a.value p
+made_from limit t p c a is = elim (is_creation c) as (λ b. is_creation c ≡ b → IsAt p (if b then and_face limit a.value (if makes_core c then and_core limit a.value (and_core limit t []) else and_core limit t []) else and_core limit t []) → IsNew limit t c a.value p) [
+  | true ↦ λ on is. ⊎_elim (λ same. inr (same.0, inl (on, same.1))) (λ there. inner on there) (face_from limit a.value p _ is)
+  | false ↦ λ _ is. own is
+] refl is
+  where
+    own : IsAt p (and_core limit t []) → IsNew limit t c a.value p
+    own there = ⊎_elim (λ same. inl same.1) (λ none. absurd (omega (arith, none))) (core_from limit t p [] there)
+
+    inner : is_creation c ≡ true → IsAt p (if makes_core c then and_core limit a.value (and_core limit t []) else and_core limit t []) → IsNew limit t c a.value p
+    inner on there = elim (makes_core c) as (λ b. makes_core c ≡ b → IsAt p (if b then and_core limit a.value (and_core limit t []) else and_core limit t []) → IsNew limit t c a.value p) [
+      | true ↦ λ makes there. ⊎_elim (λ same. inr (same.0, inr (makes, same.1))) own (core_from limit a.value p (and_core limit t []) there)
+      | false ↦ λ _ there. own there
+    ] refl there
+
+pub call_from : (limit t home p : ℕ) (c : body.Call) (a : Answer) (w : List (ℕ × ℕ)) → 1 ≤ touches limit (Call t home c a w) p → IsNew limit t c a.value p ⊎ IsAt p (faces_of limit c)
+call_from limit t home p c a w is = wanted_moves limit p (IsNew limit t c a.value p) (wanted c) (and_made limit c a (and_core limit t [])) [] (λ made. inl (made_from limit t p c a made)) is
+
+pub call_wants : (limit t home p : ℕ) (c : body.Call) (a : Answer) (w : List (ℕ × ℕ)) → IsAt p (faces_of limit c) → 1 ≤ touches limit (Call t home c a w) p
+call_wants limit t home p c a w is = ⊎_elim (λ never. absurd never) (λ there. there) (wanted_moves limit p ⊥ (wanted c) [] (and_made limit c a (and_core limit t [])) (λ none. absurd (omega (arith, none))) is)
+
+-- LISTS OF PARTS
+pub has_at : (ps : List (ℕ × Part)) (n : ℕ) → 1 ≤ weigh (one_at n) ps → has ps n ≡ true
+has_at [] n is = absurd (omega (arith, is))
+has_at (x ∷ rest) n is = ⊎_elim (λ same. first (x.0 == n) (has rest n) (eq same)) (λ there. second (x.0 == n) (has rest n) (has_at rest n there)) (at_head n x.0 (weigh (one_at n) rest) is)
+  where
+    first : (a b : Bool) → a ≡ true → (a || b) ≡ true
+    first true b is = refl
+    first false b is = cc is
+
+    second : (a b : Bool) → b ≡ true → (a || b) ≡ true
+    second true b is = refl
+    second false b is = is
+
+    eq : n ≡ x.0 → (x.0 == n) ≡ true
+    eq same = grind (arith, common_steps)
+
+-- as often as in these places, where both stand at most once
+pub same_places : (limit : ℕ) (e : Entry) (ps : List (ℕ × Part)) → ((p : ℕ) → weigh (one_at p) ps ≤ 1) → ((p : ℕ) → 1 ≤ weigh (one_at p) ps → 1 ≤ touches limit e p) → ((p : ℕ) → 1 ≤ touches limit e p → 1 ≤ weigh (one_at p) ps)
+    → (p : ℕ) → weigh (one_at p) ps ≡ touches limit e p
+same_places limit e ps once one two p =
+    let a = once p in let b = places_differ limit e p in
+    dite (dec_le 1 (weigh (one_at p) ps)) (λ some. let c = one p some in omega (arith, a, b, some, c)) (λ none. dite (dec_le 1 (touches limit e p)) (λ some. let c = two p some in omega (arith, none, c)) (λ off. omega (arith, none, off)))
+
+pub covers_at : (limit : ℕ) (e : Entry) (ps : List (ℕ × Part)) → ((p : ℕ) → 1 ≤ touches limit e p → 1 ≤ weigh (one_at p) ps) → Covers limit e ps
+covers_at limit e ps there = λ n on. has_at ps n (there n (named_place limit e n on))

@@ -1,0 +1,257 @@
+-- The Start as a clerk makes it, and what it has then.
+use Rattle.std.proofs.Common.{◌≡◌, ◌≢◌, ◌⊎◌, inl, inr, ⊎_elim, ℕ, ◌+◌, ◌-◌, ◌≤◌, Bool, true, false, ◌==◌, ◌&&◌, if◌then◌else◌, List, [], ◌∷◌, ◌++◌, length, take, refl, ap, sym, ◌∙◌, subst, arith}
+use Rattle.std.specs.List.{All}
+use Rattle.std.proofs.lemmas.Bool.{eqb-true}
+use Rattle.std.proofs.lemmas.List.Elements.{All-cons, All-nil}
+use Rattle.std.proofs.lemmas.Grind.{common_steps}
+use Rattle.ocr_acquire.specs.declared.Mode.{Mode}
+use Rattle.ocr_code.specs.Checked.{checked_tree}
+use Rattle.ocr_code.specs.declared.checked.Checked.{Checked}
+use Rattle.ocr_edt.specs.declared.Edt.{Edt}
+use Rattle.ocr_edt.specs.declared.Edt.TheVariants as phase
+use Rattle.ocr_slots.specs.declared.Slot.{Slot}
+use Rattle.ocr_meaning.specs.Body.{Body}
+use Rattle.ocr_history.specs.declared.entry.Entry.{Entry}
+use Rattle.ocr_history.specs.declared.entry.Entry.TheVariants.{Start}
+use Rattle.ocr_parts.specs.declared.part.Core.{Core}
+use Rattle.ocr_parts.specs.declared.part.Part.{Part}
+use Rattle.ocr_parts.specs.declared.part.Part.TheVariants as part
+use Rattle.ocr_parts.specs.Effects.{changed, made_ready, ready_at, settled_core, started_edt, with_phase}
+use Rattle.ocr_parts.specs.Footprint.{and_core}
+use Rattle.ocr_parts.specs.Kinds.{is_acquiring_edt, is_running, on_core}
+use Rattle.ocr_parts.specs.Parts.{Parts}
+use Rattle.ocr_parts.specs.Taken.{as_face, is_within, look, parts_in}
+use Rattle.ocr_standing.specs.Kept.{plan_from}
+use Rattle.ocr_turns.specs.Rule.{RunsIn}
+use Rattle.ocr_turns.specs.Sums.{as_some, keys, one_at, sum_of, weigh}
+use Rattle.ocr_facts.specs.Clerks.{OcrView}
+use Rattle.ocr_facts.specs.Facts.{body_by}
+use Rattle.ocr_facts.specs.Ocr.{ends, starts, touches}
+use Rattle.ocr_facts.specs.declared.fact.Fact.{Fact}
+use Rattle.ocr_facts.specs.declared.fact.Fact.TheVariants.{Count, IsSet, Began}
+use Rattle.ocr_facts.proofs.Places.{named_place, within_is}
+use Rattle.ocr_facts.proofs.Slots.{number_same}
+use Rattle.ocr_clerks.specs.Entering.{CanMake, Hand, OcrKnown}
+use Rattle.ocr_clerks.specs.Work.{AtWork, CanRun, EntersKept, HasAllAtHand, OcrTable, RunsOnly, in_hand, ready_with}
+use Rattle.ocr_running.specs.Running.{HasEntered, IsBegun, hand_at, slots_in}
+use Rattle.ocr_running.specs.Serving.{IsKnown, Serves, own_log}
+use Rattle.ocr_running.proofs.Called.{runnable_in}
+use Rattle.ocr_running.proofs.Cores.{core_first}
+use Rattle.ocr_running.proofs.Logs.{claims_stay, now_known, own_fresh, own_start, runs_back, starts_now, still_known}
+use Rattle.ocr_running.proofs.Places.{core_from, face_from, same_places}
+use Rattle.ocr_running.proofs.Back.{runs_again}
+use Rattle.ocr_running.proofs.Starting.{kept_pair, learnt, look_face, pair_once, ready_is, start_may}
+
+-- THE PARTS, the core made ready
+module _ (limit edt : ℕ) (within : is_within limit edt ≡ true) (core : Core) (slots : List Slot) (ms : List (ℕ × Mode)) where
+  abbrev readied_core : Core
+  readied_core = with_phase (made_ready ms) core
+
+  face_same : (n : ℕ) → (parts_in limit (kept_pair limit edt readied_core slots)).face n ≡ (parts_in limit (kept_pair limit edt core slots)).face n
+  face_same n = elim ((limit + edt) == n) as (λ b. (if is_within limit n then as_face (if b then part.Core readied_core else look ((edt, part.Edt slots) ∷ []) n) else part.Vacant) ≡ (if is_within limit n then as_face (if b then part.Core core else look ((edt, part.Edt slots) ∷ []) n) else part.Vacant)) [
+    | true ↦ refl
+    | false ↦ refl
+  ]
+
+  core_same : (u : ℕ) → (parts_in limit (kept_pair limit edt readied_core slots)).core u ≡ (ready_at edt ms (parts_in limit (kept_pair limit edt core slots))).core u
+  core_same u = elim (edt == u) as (λ b. (edt == u) ≡ b → (parts_in limit (kept_pair limit edt readied_core slots)).core u ≡ (ready_at edt ms (parts_in limit (kept_pair limit edt core slots))).core u) [
+    | true ↦ λ same. subst (λ (k : ℕ). (parts_in limit (kept_pair limit edt readied_core slots)).core k ≡ (ready_at edt ms (parts_in limit (kept_pair limit edt core slots))).core k) (eqb-true edt u same) here
+    | false ↦ λ other. else_where other (apart other)
+  ] refl
+    where
+      here : (parts_in limit (kept_pair limit edt readied_core slots)).core edt ≡ (ready_at edt ms (parts_in limit (kept_pair limit edt core slots))).core edt
+      here =
+          let a : (parts_in limit (kept_pair limit edt readied_core slots)).core edt ≡ part.Core readied_core = rw (within, number_same (limit + edt)) refl in
+          let b : (ready_at edt ms (parts_in limit (kept_pair limit edt core slots))).core edt ≡ part.Core readied_core = rw (number_same edt, within, number_same (limit + edt)) refl in
+          a ∙ sym b
+
+      apart : (edt == u) ≡ false → ((limit + edt) == (limit + u)) ≡ false
+      apart other = grind (arith, common_steps)
+
+      else_where : (edt == u) ≡ false → ((limit + edt) == (limit + u)) ≡ false → (parts_in limit (kept_pair limit edt readied_core slots)).core u ≡ (ready_at edt ms (parts_in limit (kept_pair limit edt core slots))).core u
+      else_where other far = rw (other, far) refl
+
+  ready_pair : parts_in limit (kept_pair limit edt readied_core slots) ≡ ready_at edt ms (parts_in limit (kept_pair limit edt core slots))
+  ready_pair = λ i. record { face = λ n. face_same n i; core = λ u. core_same u i }
+
+pub core_out : (limit t : ℕ) → is_within limit t ≡ true → is_within limit (limit + t) ≡ false
+core_out limit t is = grind (arith, common_steps)
+
+pub core_back : (limit t : ℕ) → is_within limit t ≡ true → (limit + t) - limit ≡ t
+core_back limit t is = omega arith
+
+pub both_on : (a b : Bool) → a ≡ true → b ≡ true → (a && b) ≡ true
+both_on true b p q = q
+both_on false b p q = cc p
+
+-- THE PLACES of the Start
+module _ (limit edt : ℕ) (within : is_within limit edt ≡ true) (core : Core) (slots : List Slot) where
+  one_of : (p n rest : ℕ) → 1 ≤ one_at p n + rest → (n ≡ p) ⊎ (1 ≤ rest)
+  one_of p n rest is = elim (p == n) as (λ b. (p == n) ≡ b → 1 ≤ (if b then 1 else 0) + rest → (n ≡ p) ⊎ (1 ≤ rest)) [
+    | true ↦ λ same _. inl (sym (eqb-true p n same))
+    | false ↦ λ _ is. inr (omega (arith, is))
+  ] refl is
+
+  core_named : 1 ≤ touches limit (Start edt) (limit + edt)
+  core_named = named_place limit (Start edt) (limit + edt) (rw (core_out limit edt within, core_back limit edt within) (both_on (is_within limit edt) (edt == edt) within (number_same edt)))
+
+  face_named : 1 ≤ touches limit (Start edt) edt
+  face_named = named_place limit (Start edt) edt (rw within (number_same edt))
+
+  pair_there : (p : ℕ) → 1 ≤ weigh (one_at p) (kept_pair limit edt core slots) → 1 ≤ touches limit (Start edt) p
+  pair_there p some = ⊎_elim
+      (λ same. subst (λ (k : ℕ). 1 ≤ touches limit (Start edt) k) same core_named)
+      (λ more. ⊎_elim (λ same. subst (λ (k : ℕ). 1 ≤ touches limit (Start edt) k) same face_named) (λ none. absurd (omega (arith, none))) (one_of p edt 0 more))
+      (one_of p (limit + edt) (one_at p edt + 0) some)
+
+  pair_back : (p : ℕ) → 1 ≤ touches limit (Start edt) p → 1 ≤ weigh (one_at p) (kept_pair limit edt core slots)
+  pair_back p some = ⊎_elim
+      (λ face. subst (λ (k : ℕ). 1 ≤ one_at k (limit + edt) + (one_at k edt + 0)) (sym face.1) (let e = one_at_same edt in omega (arith, e)))
+      (λ cored. ⊎_elim (λ same. subst (λ (k : ℕ). 1 ≤ one_at k (limit + edt) + (one_at k edt + 0)) (sym same.1) (let e = one_at_same (limit + edt) in omega (arith, e))) (λ none. absurd (omega (arith, none))) (core_from limit edt p [] cored))
+      (face_from limit edt p (and_core limit edt []) some)
+    where
+      one_at_same : (n : ℕ) → one_at n n ≡ 1
+      one_at_same n = rw (number_same n) refl
+
+-- WHAT IT ASKS of the clerk
+module _ (table : OcrTable) (program : Checked) (edt : ℕ) (payloads : List ℕ) (c : OcrKnown) (work : AtWork table program c) (can : CanRun table.1 edt payloads c) where
+  abbrev start_hand : Hand
+  start_hand = record { members = plan_from can.slots payloads; parts = kept_pair table.1.limit edt can.core can.slots }
+
+  hand_is : in_hand c.parts ≡ kept_pair table.1.limit edt (ready_with can.slots payloads can.core) can.slots
+  hand_is = ap in_hand can.hand
+
+  pub has_pair : (places : List ℕ) → places ≡ (table.1.limit + edt) ∷ edt ∷ [] → HasAllAtHand c places
+  has_pair places is = record {
+    at_hand = can.hand ∙ ap as_some (sym hand_is);
+    kept = ap keys can.kept ∙ sym is;
+    hand = ap keys can.hand ∙ sym is;
+  }
+
+  pub can_start : CanMake table.1 c.view (Start edt) start_hand (in_hand c.parts)
+  can_start = record {
+    goes = refl;
+    owes = tt;
+    drawn = tt;
+    claims = record {
+      starts = λ n first. subst (λ (ns : List ℕ). 1 ≤ weigh_in n ns) (sym can.taken.claims) (claimed n first);
+      waits = λ n p never. cc never;
+      resumes = λ n none. absurd (omega (arith, none));
+    };
+    may = start_may table.1 c.view edt can.core can.slots payloads can.taken.number can.kept can.count can.facts work.limits.0 (runnable_in table program c work) can.acquiring can.through;
+    ready = ap (parts_in table.1.limit) hand_is ∙ ready_pair table.1.limit edt can.taken.number can.core can.slots (plan_from can.slots payloads);
+    same_keys = ap keys hand_is;
+    places = λ p. (
+      same_places table.1.limit (Start edt) (kept_pair table.1.limit edt can.core can.slots) (pair_once table.1.limit edt work.limits.0 can.taken.number can.core can.slots) (pair_there table.1.limit edt can.taken.number can.core can.slots) (pair_back table.1.limit edt can.taken.number can.core can.slots) p,
+      (let same = ap (λ (ps : List (ℕ × Part)). weigh (one_at p) ps) can.kept in omega (arith, same)),
+    );
+  }
+    where
+      weigh_in : ℕ → List ℕ → ℕ
+      weigh_in n ns = sum_of (one_at n) ns
+
+      claimed : (n : ℕ) → (edt == n) ≡ true → 1 ≤ one_at n edt + 0
+      claimed n first = subst (λ (k : ℕ). 1 ≤ one_at k edt + 0) (eqb-true edt n first) (let e : one_at edt edt ≡ 1 = rw (number_same edt) refl in omega (arith, e))
+
+-- WHAT IT LEAVES
+start_core : (f : Parts) (t : ℕ) → (changed (Start t) f).core t ≡ on_core (f.core t) (with_phase started_edt)
+start_core f t = rw (number_same t) refl
+
+acquiring_starts : (e : Edt) → is_acquiring_edt e ≡ true → (c : Core) → c.edt ≡ e → is_running (part.Core (with_phase started_edt c)) ≡ true
+acquiring_starts (phase.Acquiring s) is c same = ap (λ (x : Edt). is_running (part.Core (with_phase started_edt (record c { edt = x })))) same
+acquiring_starts other is c same = cc is
+
+module _ (table : OcrTable) (program : Checked) (edt : ℕ) (payloads : List ℕ) (old new : OcrKnown) (work : AtWork table program old) (can : CanRun table.1 edt payloads old) (done : EntersKept table.1 old new (Start edt) (start_hand table program edt payloads old work can)) where
+  abbrev began_body : Body
+  began_body = body_by (checked_tree table.1.setting.value.program) can.slots (settled_core can.core) payloads
+
+  abbrev told : List Fact
+  told = Count edt (length can.slots) ∷ Began edt can.slots (settled_core can.core) ∷ []
+
+  log_is : new.view.log ≡ old.view.log ++ (done.number, Start edt) ∷ []
+  log_is = ap (λ (v : OcrView). v.log) done.view
+
+  facts_are : new.view.facts ≡ old.view.facts ++ told
+  facts_are = ap (λ (v : OcrView). v.facts) done.view ∙ ap (λ (fs : List Fact). old.view.facts ++ fs) (learnt table.1 old.view edt can.core can.slots payloads can.taken.number can.kept can.count can.facts work.limits.0)
+
+  known : (f : Fact) → IsKnown (old.view.facts ++ told) f → IsKnown new.view.facts f
+  known f is = subst (λ (fs : List Fact). IsKnown fs f) (sym facts_are) is
+
+  pub start_serves : Serves table.1 new.view edt began_body
+  start_serves = record {
+    within = can.taken.number;
+    face = can.slots;
+    core = settled_core can.core;
+    payloads = payloads;
+    set = record { sizes = can.count; set = λ k lt. known (IsSet edt k _) (still_known old.view.facts told _ (can.facts k lt)) };
+    counted = known _ (now_known old.view.facts told _ (0, refl));
+    begun = known _ (now_known old.view.facts told _ (1, refl));
+    body = refl;
+    runs = subst (λ (l : List (ℕ × Entry)). RunsIn starts ends l edt) (sym log_is) (starts_now old.view.log done.number edt can.unstarted);
+  }
+
+  pub start_calls : own_log new.view.log edt ≡ []
+  start_calls = ap (λ (l : List (ℕ × Entry)). own_log l edt) log_is ∙ (own_start old.view.log done.number edt edt ∙ own_fresh old.view.log edt can.unstarted)
+
+  only_one : RunsOnly new.view edt
+  only_one u runs = elim (edt == u) as (λ b. (edt == u) ≡ b → u ≡ edt) [
+    | true ↦ λ same. sym (eqb-true edt u same)
+    | false ↦ λ other. can.taken.only u (runs_back old.view.log done.number u (Start edt) other (subst (λ (l : List (ℕ × Entry)). RunsIn starts ends l u) log_is runs))
+  ] refl
+
+  running_later : is_running ((parts_in table.1.limit done.later).core edt) ≡ true
+  running_later =
+      let ready = ready_is table.1.limit edt work.limits.0 can.taken.number can.core can.slots (plan_from can.slots payloads) in
+      ap (λ (f : Parts). is_running (f.core edt)) done.step.parts ∙ (ap is_running (start_core (ready_at edt (plan_from can.slots payloads) (parts_in table.1.limit (kept_pair table.1.limit edt can.core can.slots))) edt ∙ ap (λ (x : Part). on_core x (with_phase started_edt)) ready) ∙ acquiring_starts (ready_with can.slots payloads can.core).edt can.acquiring (ready_with can.slots payloads can.core) refl)
+
+  pub start_leaves : HasEntered table.1 edt began_body new (edt ∷ []) [] []
+  start_leaves =
+      let first = core_first table.1.limit edt can.core ((edt, part.Edt can.slots) ∷ []) done.later can.taken.number done.step.same_keys running_later in
+      record {
+        claims = ap (λ (v : OcrView). v.claims) done.view ∙ (claims_stay (Start edt) old.view.claims (λ n. refl) ∙ can.taken.claims);
+        drawn = ap (λ (v : OcrView). v.drawn) done.view ∙ can.taken.drawn;
+        only = only_one;
+        unput = ap (λ (v : OcrView). v.debts.unput) done.view ∙ ap (λ (l : List (ℕ × ℕ × ℕ)). l ++ []) can.taken.owes.unput;
+        put = ap (λ (v : OcrView). v.debts.put) done.view ∙ ap (λ (l : List (ℕ × ℕ × ℕ)). l ++ []) can.taken.owes.put;
+        made_is = ap (λ (v : OcrView). v.debts.made) done.view ∙ ap (λ (l : List (ℕ × ℕ)). l ++ []) can.taken.owes.made;
+        resumes = ap (λ (v : OcrView). v.debts.resumes) done.view ∙ ap (λ (l : List ℕ). l ++ []) can.taken.owes.resumes;
+        serves = start_serves;
+        core = first.core;
+        rest = first.rest;
+        keeps = done.kept ∙ first.is;
+        hand = done.hand ∙ ap as_some first.is;
+        running = first.running;
+        places_are = first.same;
+        sees = done.sees;
+      }
+
+-- as the parts tell it
+pub hand_same : (table : OcrTable) (program : Checked) (edt : ℕ) (payloads : List ℕ) (c : OcrKnown) (work : AtWork table program c) (can : CanRun table.1 edt payloads c) → hand_at c edt payloads ≡ start_hand table program edt payloads c work can
+hand_same table program edt payloads c work can =
+    ap (λ (ps : List (ℕ × Part)). record { members = plan_from (slots_in (look ps edt)) payloads; parts = ps }) can.kept
+    ∙ ap (λ (x : Part). record { members = plan_from (slots_in x) payloads; parts = kept_pair table.1.limit edt can.core can.slots }) (look_face table.1.limit edt work.limits.0 can.taken.number can.core can.slots)
+
+pub can_begin : (table : OcrTable) (program : Checked) (edt : ℕ) (payloads : List ℕ) (c : OcrKnown) (h : Hand) → AtWork table program c → CanRun table.1 edt payloads c → h ≡ hand_at c edt payloads → CanMake table.1 c.view (Start edt) h (in_hand c.parts)
+can_begin table program edt payloads c h work can is = subst (λ (k : Hand). CanMake table.1 c.view (Start edt) k (in_hand c.parts)) (sym (is ∙ hand_same table program edt payloads c work can)) (can_start table program edt payloads c work can)
+
+module _ (table : OcrTable) (program : Checked) (edt : ℕ) (payloads : List ℕ) (old new : OcrKnown) (h : Hand) (work : AtWork table program old) (can : CanRun table.1 edt payloads old) (is : h ≡ hand_at old edt payloads) (done : EntersKept table.1 old new (Start edt) h) where
+  pub done_so : EntersKept table.1 old new (Start edt) (start_hand table program edt payloads old work can)
+  done_so = subst (EntersKept table.1 old new (Start edt)) (is ∙ hand_same table program edt payloads old work can) done
+
+  pub begun_leaves : HasEntered table.1 edt (began_body table program edt payloads old new work can done_so) new (edt ∷ []) [] []
+  begun_leaves = start_leaves table program edt payloads old new work can done_so
+
+  pub face_within : All (λ p. (p ≢ table.1.limit + edt) × (p ≤ table.1.limit + table.1.limit)) (edt ∷ [])
+  face_within = All-cons (λ p. (p ≢ table.1.limit + edt) × (p ≤ table.1.limit + table.1.limit)) edt [] (apart table.1.limit edt work.limits.0 can.taken.number) (All-nil (λ p. (p ≢ table.1.limit + edt) × (p ≤ table.1.limit + table.1.limit)))
+    where
+      apart : (limit n : ℕ) → 2 ≤ limit → is_within limit n ≡ true → (n ≢ limit + n) × (n ≤ limit + limit)
+      apart limit n enough is = let low = (within_is limit n is) in let high = low.1 in ((λ same. absurd (omega (arith, same, enough))), omega (arith, high))
+
+  -- with its core alone
+  pub begun : (last : OcrKnown) → last.view ≡ record new.view { parts = take 1 new.view.parts } → last.parts ≡ take 1 new.parts → IsBegun table.1 edt payloads last
+  begun last view hand = record {
+    slots = can.slots;
+    core = settled_core can.core;
+    runs = runs_again table.1 edt (began_body table program edt payloads old new work can done_so) new last (edt ∷ []) begun_leaves view hand;
+    calls = ap (λ (v : OcrView). own_log v.log edt) view ∙ start_calls table program edt payloads old new work can done_so;
+  }

@@ -1,0 +1,5 @@
+pub mod Calls
+pub mod Loans
+pub mod Running
+pub mod Serving
+pub mod Stops

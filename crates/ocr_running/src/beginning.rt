@@ -1,0 +1,36 @@
+// The Start of an EDT.
+ghost use Rattle.std.specs.Prelude.{◌≡◌, OnOk, OnErr};
+ghost use Rattle.ocr_clerks.specs.Entering.{Hand};
+ghost use Rattle.ocr_clerks.specs.Work.{AtWork, CanRun, IsGone, Stays};
+ghost use Rattle.ocr_running.specs.Running.{IsBegun, hand_at};
+
+use ocr_clerks::{Gate, Job, Ocr, Over, enter_kept, give_faces};
+use ocr_guid::Guid;
+use ocr_history::Entry;
+use ocr_turns::Clerk;
+use std::alloc::Global;
+use std::sync::Wait;
+
+/// Enters the Start of an EDT whose plan is done, and keeps its core alone.
+pub(crate) fn start<R: Wait + Sync, G: Gate>(
+    alloc: Global,
+    job: &Job<R, G>,
+    worker: u32,
+    clerk: &mut Clerk<Ocr>,
+    edt: Guid,
+    payloads: &[Guid],
+) -> Result<(), Over>
+    ghost h: { Hand }
+    requires hand { h ≡ hand_at clerk.old edt payloads.now }
+    requires work { AtWork job.now.turns.now job.now.program.now clerk.old }
+    requires can { CanRun job.now.turns.now.1 edt payloads.now clerk.old }
+    ensures stays { Stays clerk.old clerk.new }
+    ensures work { OnOk result (AtWork job.now.turns.now job.now.program.now clerk.new) }
+    ensures begun { OnOk result (IsBegun job.now.turns.now.1 edt payloads.now clerk.new) }
+    ensures gone { OnErr result (IsGone job.now.turns.now worker clerk.new) }
+{
+    let places = [job.turns.limit() + edt.0, edt.0];
+    enter_kept(alloc, job, worker, clerk, Entry::Start { edt }, &places)?;
+    give_faces(job.turns, job.program, clerk, edt, &places[1..]);
+    Ok(())
+}

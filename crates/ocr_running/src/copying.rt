@@ -1,0 +1,89 @@
+// What a call names.
+ghost use Rattle.std.specs.Prelude.{◌≡◌, ◌≤◌, ◌∷◌, ◌+◌, [], true, IfOk};
+ghost use Rattle.ocr_guid.specs.declared.Code.TheVariants as code;
+ghost use Rattle.ocr_history.specs.declared.entry.Entry.TheVariants as an;
+ghost use Rattle.ocr_running.specs.Calls.{IsCallIn, faces_of, is_call};
+
+use ocr_base::NoMemory;
+use ocr_guid::{Code, Guid};
+use ocr_history::{Entry, Writes};
+use ocr_machine::footprint;
+use ocr_meaning::{Answer, Call};
+use std::alloc::Global;
+
+/// A call that is to be entered, and the places of all parts that it names but for what it makes:
+/// the caller's core, and behind it the faces, rising.
+#[derive(Drop)]
+pub(crate) struct Named {
+    pub call: Call,
+    pub places: Vec<u64>,
+}
+
+/// Copies the call, and lists what it names.
+pub(crate) fn name_parts(
+    alloc: Global,
+    limit: u64,
+    edt: Guid,
+    call: &Call,
+) -> Result<Named, NoMemory>
+    requires limit { limit ≤ 65536 }
+    requires edt { edt ≤ limit }
+    ensures call { IfOk result (λ r. r.call ≡ call.now) }
+    ensures places { IfOk result (λ r. r.places.items ≡ (limit + edt) ∷ faces_of limit call.now) }
+{
+    let entry = blank_entry(alloc, copied(call)?);
+    let mut places = footprint(alloc, &entry, limit)?;
+    if places.insert(0, limit + edt.0).is_err() {
+        return Err(NoMemory);
+    }
+    let call = call_in(entry);
+    Ok(Named { call, places })
+}
+
+// An entry of the call of no EDT, which makes nothing.
+fn blank_entry(alloc: Global, call: Call) -> Entry
+    ensures { result ≡ an.Call 0 0 call (record { code = code.Enoent; value = 0; scope = 0; output = 0 }) [] }
+{
+    Entry::Call {
+        edt: Guid::NULL,
+        home: Guid::NULL,
+        call,
+        answer: answer_of(Code::Enoent, 0),
+        writes: Writes::none(alloc),
+    }
+}
+
+// The call of its entry.
+fn call_in(entry: Entry) -> Call
+    requires { is_call entry ≡ true }
+    ensures { IsCallIn entry result }
+{
+    match entry {
+        Entry::Call {
+            edt: _,
+            home: _,
+            call,
+            answer: _,
+            writes: _,
+        } => call,
+        _ => unreachable!(),
+    }
+}
+
+/// An answer that names no scope and no output event.
+pub(crate) fn answer_of(code: Code, value: u64) -> Answer
+    ensures { result ≡ record { code = code; value = value; scope = 0; output = 0 } }
+{
+    Answer {
+        code,
+        value,
+        scope: Guid::NULL,
+        output: Guid::NULL,
+    }
+}
+
+fn copied(call: &Call) -> Result<Call, NoMemory>
+    ensures { IfOk result (λ copy. copy ≡ call.now) }
+{
+    Ok(call.clone()?)
+}

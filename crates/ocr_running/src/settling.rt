@@ -1,0 +1,142 @@
+// What follows an entry of a running EDT: the EDT that it made is counted, and those that it resumed
+// are made ready.
+ghost use Rattle.std.specs.Prelude.{◌≡◌, ◌∷◌, [], List, ℕ, OnOk, OnErr};
+ghost use Rattle.ocr_meaning.specs.Body.{Body};
+ghost use Rattle.ocr_clerks.specs.Work.{AtWork, IsGone, Stays};
+ghost use Rattle.ocr_turns.specs.Owing.{listed};
+ghost use Rattle.ocr_running.specs.Running.{AreOthers, HasEntered, IsPushed, Runs, holds_at};
+
+use ocr_clerks::{Gate, Job, Ocr, Over, close_memory, give_faces};
+use ocr_count::{Down, count_made, resume};
+use ocr_guid::Guid;
+use ocr_steal::Hand;
+use ocr_turns::Clerk;
+use std::alloc::Global;
+use std::sync::Wait;
+
+/// Makes the EDTs ready that the clerk's entry resumed, and pushes them.
+pub(crate) fn resume_all<R: Wait + Sync, G: Gate>(
+    alloc: Global,
+    job: &Job<R, G>,
+    worker: u32,
+    clerk: &mut Clerk<Ocr>,
+    hand: &mut Hand,
+    edt: Guid,
+    resumed: &[Guid],
+) -> Result<(), Over>
+    ghost s: { Body × List ℕ }
+    requires work { AtWork job.now.turns.now job.now.program.now clerk.old }
+    requires entered { HasEntered job.now.turns.now.1 edt s.0 clerk.old s.1 [] resumed.now }
+    ensures stays { Stays clerk.old clerk.new }
+    ensures work { OnOk result (AtWork job.now.turns.now job.now.program.now clerk.new) }
+    ensures entered { OnOk result (HasEntered job.now.turns.now.1 edt s.0 clerk.new s.1 [] []) }
+    ensures log { OnOk result (clerk.new.view.log ≡ clerk.old.view.log) }
+    ensures parts { OnOk result (clerk.new.parts ≡ clerk.old.parts) }
+    ensures hand { IsPushed hand.old hand.new }
+    ensures gone { OnErr result (IsGone job.now.turns.now worker clerk.new) }
+{
+    for woken in resumed {
+        resume(job.turns, clerk, *woken);
+        if hand.push(alloc, *woken).is_err() {
+            return Err(close_memory(job, worker, clerk));
+        }
+    }
+    Ok(())
+}
+
+/// Counts the making of the EDT that the clerk's entry made with so many slots, and pushes it where
+/// nothing is left to be counted.
+pub(crate) fn count_new<R: Wait + Sync, G: Gate>(
+    alloc: Global,
+    job: &Job<R, G>,
+    worker: u32,
+    clerk: &mut Clerk<Ocr>,
+    hand: &mut Hand,
+    edt: Guid,
+    new: Guid,
+    slots: u32,
+) -> Result<(), Over>
+    ghost s: { Body × (List ℕ × List ℕ) }
+    requires work { AtWork job.now.turns.now job.now.program.now clerk.old }
+    requires entered { HasEntered job.now.turns.now.1 edt s.0 clerk.old s.1.0
+        ((new, slots) ∷ []) s.1.1 }
+    ensures stays { Stays clerk.old clerk.new }
+    ensures work { OnOk result (AtWork job.now.turns.now job.now.program.now clerk.new) }
+    ensures entered { OnOk result (HasEntered job.now.turns.now.1 edt s.0 clerk.new s.1.0 []
+        s.1.1) }
+    ensures log { OnOk result (clerk.new.view.log ≡ clerk.old.view.log) }
+    ensures parts { OnOk result (clerk.new.parts ≡ clerk.old.parts) }
+    ensures hand { IsPushed hand.old hand.new }
+    ensures gone { OnErr result (IsGone job.now.turns.now worker clerk.new) }
+{
+    match count_made(job.turns, clerk, new, slots) {
+        Down::More(_) => Ok(()),
+        Down::Last => {
+            if hand.push(alloc, new).is_err() {
+                return Err(close_memory(job, worker, clerk));
+            }
+            Ok(())
+        }
+    }
+}
+
+// Counts the making of what the clerk's entry made, if it is an EDT.
+fn count_any<R: Wait + Sync, G: Gate>(
+    alloc: Global,
+    job: &Job<R, G>,
+    worker: u32,
+    clerk: &mut Clerk<Ocr>,
+    hand: &mut Hand,
+    edt: Guid,
+    made: Option<(Guid, u32)>,
+) -> Result<(), Over>
+    ghost s: { Body × (List ℕ × List ℕ) }
+    requires work { AtWork job.now.turns.now job.now.program.now clerk.old }
+    requires entered { HasEntered job.now.turns.now.1 edt s.0 clerk.old s.1.0 (listed made) s.1.1 }
+    ensures stays { Stays clerk.old clerk.new }
+    ensures work { OnOk result (AtWork job.now.turns.now job.now.program.now clerk.new) }
+    ensures entered { OnOk result (HasEntered job.now.turns.now.1 edt s.0 clerk.new s.1.0 []
+        s.1.1) }
+    ensures log { OnOk result (clerk.new.view.log ≡ clerk.old.view.log) }
+    ensures parts { OnOk result (clerk.new.parts ≡ clerk.old.parts) }
+    ensures hand { IsPushed hand.old hand.new }
+    ensures gone { OnErr result (IsGone job.now.turns.now worker clerk.new) }
+{
+    match made {
+        None => Ok(()),
+        Some(one) => count_new(alloc, job, worker, clerk, hand, edt, one.0, one.1),
+    }
+}
+
+/// Settles what an entry of a running EDT left: what it made is counted, those that it resumed are
+/// made ready, and all parts but the core are given back.
+pub(crate) fn settle<R: Wait + Sync, G: Gate>(
+    alloc: Global,
+    job: &Job<R, G>,
+    worker: u32,
+    clerk: &mut Clerk<Ocr>,
+    hand: &mut Hand,
+    edt: Guid,
+    made: Option<(Guid, u32)>,
+    resumed: &[Guid],
+    others: &[u64],
+) -> Result<(), Over>
+    ghost s: { Body × (List ℕ × List ℕ) }
+    requires lists { (s.1.0 ≡ others.now) × (s.1.1 ≡ resumed.now) }
+    requires work { AtWork job.now.turns.now job.now.program.now clerk.old }
+    requires entered { HasEntered job.now.turns.now.1 edt s.0 clerk.old others.now (listed made)
+        resumed.now }
+    requires others { AreOthers job.now.turns.now.1 edt others.now }
+    ensures stays { Stays clerk.old clerk.new }
+    ensures work { OnOk result (AtWork job.now.turns.now job.now.program.now clerk.new) }
+    ensures runs { OnOk result (Runs job.now.turns.now.1 edt s.0 clerk.new) }
+    ensures log { OnOk result (clerk.new.view.log ≡ clerk.old.view.log) }
+    ensures holds { OnOk result (holds_at clerk.new ≡ holds_at clerk.old) }
+    ensures hand { IsPushed hand.old hand.new }
+    ensures gone { OnErr result (IsGone job.now.turns.now worker clerk.new) }
+{
+    count_any(alloc, job, worker, clerk, hand, edt, made)?;
+    resume_all(alloc, job, worker, clerk, hand, edt, resumed)?;
+    give_faces(job.turns, job.program, clerk, edt, others);
+    Ok(())
+}
