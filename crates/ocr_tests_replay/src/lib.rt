@@ -2,10 +2,18 @@
 #![tactic(auto)]
 
 #[cfg(test)]
+mod destroyed;
+#[cfg(test)]
 mod edits;
 #[cfg(test)]
 mod journals;
 #[cfg(test)]
+mod lines;
+#[cfg(test)]
 mod runs;
 #[cfg(test)]
+mod slots;
+#[cfg(test)]
 mod stops;
+#[cfg(test)]
+mod tables;

@@ -20,7 +20,8 @@ pub struct Recording {
     pub entries: Vec<Entry>,
 }
 
-fn program_of(alloc: Global, text: &[u8]) -> Result<Checked, Fail> {
+/// The program that a text is.
+pub fn program_of(alloc: Global, text: &[u8]) -> Result<Checked, Fail> {
     let tokens = tokens(alloc, text)?;
     let program = parse(alloc, text, &tokens)?;
     if program.functions.len() > 1000 {
