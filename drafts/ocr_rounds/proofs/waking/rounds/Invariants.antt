@@ -1,0 +1,10 @@
+use Rattle.ocr_clerks.specs.Work.{AtWork, Stays}
+use Rattle.ocr_rounds.specs.Rounds.{HoldsCore}
+use Rattle.ocr_rounds.proofs.waking.rounds.Given as goal
+
+abbrev pub invariant-loop : goal.invariant-loop
+invariant-loop g l =
+    (goal.iterator-loop g).can_next l.iterator' × (goal.iterator-loop g).is_finite l.iterator'
+    × AtWork l.job.turns.now l.job.program.now l.clerk
+    × HoldsCore l.job.turns.now.1 l.edt l.clerk
+    × Stays l.fn.clerk l.clerk

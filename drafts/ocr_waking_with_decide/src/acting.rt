@@ -1,0 +1,105 @@
+// What an EDT does with the block that it acquires next.
+ghost use Rattle.std.specs.Prelude.{◌≡◌, true, false, None, IfSome, OnOk, OnErr};
+ghost use Rattle.ocr_acquire.specs.Mode.{mode_in};
+ghost use Rattle.ocr_datablock.specs.Block.{is_gone};
+ghost use Rattle.ocr_clerks.specs.Entering.{Hand};
+ghost use Rattle.ocr_clerks.specs.Work.{AtWork, EntersKept, HasTakenOn, IsGone, Stays};
+ghost use Rattle.ocr_waking.specs.Waking.{IsLet, Meets, entry_by};
+
+use ocr_acquire::Mode;
+use ocr_clerks::{Gate, Job, Ocr, Over, enter_kept};
+use ocr_datablock::Block;
+use ocr_guid::Guid;
+use ocr_history::Entry;
+use ocr_turns::Clerk;
+use std::alloc::Global;
+use std::sync::Wait;
+
+/// What an EDT does with the block that it acquires next.
+#[derive(Clone, Copy, PartialEq, Eq, Debug)]
+pub enum Act {
+    /// It is granted, or was granted while the EDT waited: the EDT acquires it.
+    Acquire,
+    /// It is gone: the EDT passes it by.
+    Pass,
+    /// It cannot be granted yet: the EDT waits for it.
+    Wait,
+}
+
+/// What the block lets an EDT do that wants it in this mode; None where the EDT stands at it
+/// otherwise than one that acquires it.
+pub fn act_on(block: &Block, edt: Guid, mode: Mode) -> Option<Act>
+    ensures { IfSome result (λ act. IsLet act edt mode block.now) }
+{
+    if block.is_gone() {
+        return Some(Act::Pass);
+    }
+    let free = block.borrower().is_none();
+    match block.mode_of(edt) {
+        Some(held) => {
+            if held == mode && free {
+                return Some(Act::Acquire);
+            }
+            None
+        }
+        None => act_of_newcomer(block, edt, mode, free),
+    }
+}
+
+// What a block that is not gone lets an EDT do that does not hold it.
+fn act_of_newcomer(block: &Block, edt: Guid, mode: Mode, free: bool) -> Option<Act>
+    requires gone { is_gone block.now ≡ false }
+    requires no_holder { mode_in edt block.now.holders ≡ None }
+    requires free { free ≡ true → block.now.borrower ≡ None }
+    ensures { IfSome result (λ act. IsLet act edt mode block.now) }
+{
+    if mode == Mode::Null || block.waits(edt) {
+        return None;
+    }
+    if !block.grantable(mode) {
+        return Some(Act::Wait);
+    }
+    if free {
+        return Some(Act::Acquire);
+    }
+    None
+}
+
+/// Enters what the block lets the EDT do, for which the worker keeps the EDT's core and face and the
+/// block.
+pub fn go_on<R: Wait + Sync, G: Gate>(
+    alloc: Global,
+    job: &Job<R, G>,
+    worker: u32,
+    clerk: &mut Clerk<Ocr>,
+    edt: Guid,
+    block: Guid,
+    act: Act,
+    payloads: &[Guid],
+    places: &[u64],
+) -> Result<(), Over>
+    ghost h: { Hand }
+    requires work { AtWork job.now.turns.now job.now.program.now clerk.old }
+    requires taken { HasTakenOn job.now.turns.now.1 edt clerk.old }
+    requires meets { Meets job.now.turns.now.1 edt block act payloads.now places.now h clerk.old }
+    ensures stays { Stays clerk.old clerk.new }
+    ensures work { OnOk result (AtWork job.now.turns.now job.now.program.now clerk.new) }
+    ensures entered { OnOk result (EntersKept job.now.turns.now.1 clerk.old clerk.new
+        (entry_by act edt block) h) }
+    ensures gone { OnErr result (IsGone job.now.turns.now worker clerk.new) }
+{
+    // Who acquires, waits or passes by resumes nobody.
+    let entry = entry_of(act, edt, block);
+    enter_kept(alloc, job, worker, clerk, entry, places)?;
+    Ok(())
+}
+
+fn entry_of(act: Act, edt: Guid, block: Guid) -> Entry
+    ensures { result ≡ entry_by act edt block }
+{
+    match act {
+        Act::Acquire => Entry::Acquire { edt, block },
+        Act::Pass => Entry::StaleAcquire { edt, block },
+        Act::Wait => Entry::Wait { edt, block },
+    }
+}

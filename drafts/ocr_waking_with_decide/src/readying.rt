@@ -1,0 +1,91 @@
+// An EDT is made ready.
+ghost use Rattle.std.specs.Prelude.{◌≡◌, ◌<◌, ◌++◌, length, Some, IfOk};
+ghost use Rattle.ocr_parts.specs.Calls.{asks_in, asks_of};
+ghost use Rattle.ocr_parts.specs.Effects.{made_ready};
+ghost use Rattle.ocr_slots.specs.Slots.{slot_at};
+ghost use Rattle.ocr_standing.specs.Kept.{filled, plan_from};
+ghost use Rattle.ocr_clerks.specs.Work.{ready_with};
+
+use ocr_acquire::{Mode, plan};
+use ocr_base::NoMemory;
+use ocr_edt::Edt;
+use ocr_guid::Guid;
+use ocr_parts::Core;
+use ocr_slots::Slots;
+use std::alloc::Global;
+
+/// Makes an EDT ready with the plan of its slots, set to these payloads, where it is not ready yet.
+pub fn ready_core(
+    alloc: Global,
+    core: Core,
+    slots: &Slots,
+    payloads: &[Guid],
+) -> Result<Core, NoMemory>
+    requires { length payloads.now ≡ length slots.now }
+    ensures { IfOk result (λ c. c ≡ ready_with slots.now payloads.now core) }
+{
+    let Core {
+        function,
+        params,
+        edt,
+        loans,
+    } = core;
+    let edt = ready_edt(alloc, edt, slots, payloads)?;
+    Ok(Core {
+        function,
+        params,
+        edt,
+        loans,
+    })
+}
+
+fn ready_edt(alloc: Global, edt: Edt, slots: &Slots, payloads: &[Guid]) -> Result<Edt, NoMemory>
+    requires { length payloads.now ≡ length slots.now }
+    ensures { IfOk result (λ e. e ≡ made_ready (plan_from slots.now payloads.now) edt) }
+{
+    match edt {
+        Edt::Filling(filling) => {
+            let asks = asks(alloc, slots, payloads)?;
+            let plan = plan(alloc, &asks)?;
+            Ok(Edt::Acquiring(filling.ready(plan)))
+        }
+        Edt::Acquiring(acquiring) => Ok(Edt::Acquiring(acquiring)),
+        Edt::Waiting(waiting) => Ok(Edt::Waiting(waiting)),
+        Edt::Running(running) => Ok(Edt::Running(running)),
+        Edt::Ended(ended) => Ok(Edt::Ended(ended)),
+    }
+}
+
+// What the slots of an EDT ask for, set to these payloads.
+#[tactic(auto, using(crate::proofs::Asked::asks_step))]
+pub(crate) fn asks(
+    alloc: Global,
+    slots: &Slots,
+    payloads: &[Guid],
+) -> Result<Vec<(Guid, Mode)>, NoMemory>
+    requires { length payloads.now ≡ length slots.now }
+    ensures { IfOk result (λ v. v.items ≡ asks_in (filled slots.now payloads.now)) }
+{
+    let mut asks = Vec::new(alloc);
+    for k in 0..slots.depc() {
+        ask_one(&mut asks, slots, k, payloads[k as usize])?;
+    }
+    Ok(asks)
+}
+
+// What one slot asks for, set to this payload.
+fn ask_one(
+    asks: &mut Vec<(Guid, Mode)>,
+    slots: &Slots,
+    slot: u32,
+    payload: Guid,
+) -> Result<(), NoMemory>
+    requires { slot < length slots.now }
+    ensures { IfOk result (λ _. asks.new.items
+        ≡ asks.old.items ++ asks_of (Some payload) (slot_at slots.now slot).mode) }
+{
+    if slots.is_linked(slot) {
+        asks.push((payload, slots.mode(slot)))?;
+    }
+    Ok(())
+}
