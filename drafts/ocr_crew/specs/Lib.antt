@@ -1,4 +1,0 @@
-pub mod Limits
-pub mod Ended
-pub mod Logs
-pub mod Seats

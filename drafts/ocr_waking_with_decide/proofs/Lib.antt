@@ -1,9 +1,0 @@
-pub mod Acts
-pub mod After
-pub mod Asked
-pub mod Can
-pub mod Carries
-pub mod Learning
-pub mod Putting
-pub mod Taking
-pub mod Three
