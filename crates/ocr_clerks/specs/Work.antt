@@ -214,8 +214,8 @@ KnowsPayloads v edt payloads = (k : ℕ) → k < length payloads
 abbrev pub ready_with : List Slot → List ℕ → Core → Core
 ready_with slots payloads core = with_phase (made_ready (plan_from slots payloads)) core
 
--- The worker has taken on the EDT and keeps its core and its face, both at hand, the core made ready
--- with the payloads of its slots, which it knows; and the plan is done.
+-- The worker has taken on the EDT and keeps its core and its face, both at hand, the core made
+-- ready with the payloads of its slots, which it knows; and the plan is done.
 pub record CanRun (t : OcrTerms) (edt : ℕ) (payloads : List ℕ) (c : OcrKnown) : Type 0 where
   pub taken : HasTakenOn t edt c
   pub core : Core

@@ -48,8 +48,8 @@ pub fn close_memory<R: Wait + Sync, G: Gate>(
     close(job, worker, clerk, Stop::Memory)
 }
 
-/// Ends the run where the clerk could make this entry, of this weight, and its share has no room for
-/// it.
+/// Ends the run where the clerk could make this entry, of this weight, and its share has no room
+/// for it.
 pub fn close_heavy<R: Wait + Sync, G: Gate>(
     job: &Job<R, G>,
     worker: u32,

@@ -46,9 +46,9 @@ pub fn enter(
     Ok(turns.commit(clerk, entry, prepared.change))
 }
 
-/// Enters an entry, as `enter` does, behind the gate. Where the clerk's log would weigh more than its
-/// share then, or memory is refused, the run is ended in its place. Gives the EDTs that the entry
-/// resumes.
+/// Enters an entry, as `enter` does, behind the gate. Where the clerk's log would weigh more than
+/// its share then, or memory is refused, the run is ended in its place. Gives the EDTs that the
+/// entry resumes.
 pub fn enter_at_work<R: Wait + Sync, G: Gate>(
     alloc: Global,
     job: &Job<R, G>,

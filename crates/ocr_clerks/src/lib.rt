@@ -1,5 +1,5 @@
-//! A worker's clerk at the table of turns, under the OCR machine: taking parts and giving them back,
-//! entering an entry, and ending the run.
+//! A worker's clerk at the table of turns, under the OCR machine: taking parts and giving them
+//! back, entering an entry, and ending the run.
 #![tactic(auto)]
 
 mod closing;

@@ -56,8 +56,8 @@ pub record PushesReady (old new : OcrKnown) (before after : Hand) : Type 0 where
   pub counted : new.view.debts.lasts ≡ old.view.debts.lasts ++ ready
   pub pushed : own after ≡ record (own before) { pushed = (own before).pushed ++ ready }
 
--- THE WORDS of the EDT: the payload is put and the slot counted, which leaves so much to be counted,
--- and the EDT is pushed where this is nothing
+-- THE WORDS of the EDT: the payload is put and the slot counted, which leaves so much to be
+-- counted, and the EDT is pushed where this is nothing
 abbrev pub PushesIf : ℕ → ℕ → Hand → Hand → Type 0
 PushesIf zero edt before after = Pushes edt before after
 PushesIf (suc left) edt before after = own after ≡ own before

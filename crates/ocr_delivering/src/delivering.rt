@@ -16,10 +16,11 @@ use ocr_turns::Clerk;
 use std::alloc::Global;
 use std::sync::Wait;
 
-/// Delivers a message that the clerk owes and that sets a slot: enters the delivery, puts the payload,
-/// counts the slot, and pushes the EDT where nothing of it is left to be counted. `Over` where the run
-/// has ended, or is ended here: where the clerk's log would weigh more than its share with the
-/// delivery, and where memory is refused. Only where the push was refused the delivery stands.
+/// Delivers a message that the clerk owes and that sets a slot: enters the delivery, puts the
+/// payload, counts the slot, and pushes the EDT where nothing of it is left to be counted. `Over`
+/// where the run has ended, or is ended here: where the clerk's log would weigh more than its share
+/// with the delivery, and where memory is refused. Only where the push was refused the delivery
+/// stands.
 pub fn deliver_set<R: Wait + Sync, G: Gate>(
     alloc: Global,
     job: &Job<R, G>,
@@ -73,8 +74,8 @@ fn enter_delivery<R: Wait + Sync, G: Gate>(
     Ok(())
 }
 
-/// Puts the payload of a slot that an entry of the clerk set, counts the slot, and pushes the EDT where
-/// nothing of it is left to be counted.
+/// Puts the payload of a slot that an entry of the clerk set, counts the slot, and pushes the EDT
+/// where nothing of it is left to be counted.
 fn settle<R: Wait + Sync, G: Gate>(
     alloc: Global,
     job: &Job<R, G>,

@@ -1,5 +1,5 @@
-//! Deliveries: a worker delivers the messages that its clerk owes, and pushes the EDTs that they make
-//! ready.
+//! Deliveries: a worker delivers the messages that its clerk owes, and pushes the EDTs that they
+//! make ready.
 #![tactic(auto)]
 
 mod delivering;

@@ -12,7 +12,8 @@ use ocr_turns::Clerk;
 use std::alloc::Global;
 use std::sync::Wait;
 
-/// Pushes an EDT that is ready. Where memory is refused the run is ended, since the EDT would be lost.
+/// Pushes an EDT that is ready. Where memory is refused the run is ended, since the EDT would be
+/// lost.
 pub(crate) fn push_ready<R: Wait + Sync, G: Gate>(
     alloc: Global,
     job: &Job<R, G>,

@@ -14,8 +14,8 @@ use Rattle.ocr_history.specs.Numbers.{placed}
 
 -- what an object is: a block with so many words and the EDT that held it as its creator, 0 where
 -- none did, a template of this function with its counts, an EDT with its function, its parameters
--- and the number of its slots, or an event of the kind of this number with its flags, a channel with
--- the most satisfactions that it keeps
+-- and the number of its slots, or an event of the kind of this number with its flags, a channel
+-- with the most satisfactions that it keeps
 pub data Made : Type 0 where
   MadeBlock : (words creator : ℕ) → Made
   MadeTemplate : (function paramc depc : ℕ) → Made

@@ -30,6 +30,7 @@ impl Journal {
         }
     }
 
+    /// The entries, in their order.
     pub fn entries(&self) -> &[Entry]
         ensures { result.now ≡ self.now }
     {

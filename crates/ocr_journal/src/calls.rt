@@ -40,7 +40,7 @@ fn edt_create(
     phrase(text, b"", &[flags])
 }
 
-// Writes the name of a call and its arguments.
+/// Writes the name of a call and its arguments.
 pub fn call(text: &mut Vec<u8>, program: &Program, call: &Call) -> Result<(), NoMemory>
     ensures { OnOk result (text.new.items ≡ text.old.items
         ++ spec.call_text (tree_of program.now) call.now) }
@@ -101,7 +101,7 @@ pub fn call(text: &mut Vec<u8>, program: &Program, call: &Call) -> Result<(), No
     }
 }
 
-// Writes what a call answered.
+/// Writes what a call answered.
 pub fn answer(text: &mut Vec<u8>, call: &Call, answer: &Answer) -> Result<(), NoMemory>
     ensures { OnOk result (text.new.items ≡ text.old.items
         ++ spec.answer_text call.now answer.now) }

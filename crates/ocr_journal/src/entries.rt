@@ -76,7 +76,7 @@ fn stop(text: &mut Vec<u8>, stop: &Stop) -> Result<(), NoMemory>
     }
 }
 
-// Writes the text of an entry.
+/// Writes the text of an entry.
 pub fn entry(text: &mut Vec<u8>, program: &Program, entry: &Entry) -> Result<(), NoMemory>
     ensures { OnOk result (text.new.items ≡ text.old.items
         ++ spec.entry_text (tree_of program.now) entry.now) }

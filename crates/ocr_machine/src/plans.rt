@@ -167,8 +167,8 @@ impl Table {
         }
     }
 
-    /// What the body of a running EDT gets, slot by slot: the payload, and NULL_GUID for a block that
-    /// the EDT found gone, but in a slot of mode `Null`.
+    /// What the body of a running EDT gets, slot by slot: the payload, and NULL_GUID for a block
+    /// that the EDT found gone, but in a slot of mode `Null`.
     pub fn depv(&self, alloc: Global, edt: u64) -> Result<Vec<Guid>, NoMemory>
         ensures { IfOk result (λ v. (s : Setting) (past : History) → IsOf s past self.now
             → is_running ((parts_of s past).core edt) ≡ true → v.items ≡ depv_of s past edt) }

@@ -32,6 +32,7 @@ impl Model for Taken {
 }
 
 impl Taken {
+    /// These parts, each with its number, of a table with so many objects.
     pub fn new(limit: u64, parts: Vec<(u64, Part)>) -> Taken
         requires { limit ≤ 65536 }
         ensures { result ≡ record { limit = limit; items = parts.items } }
@@ -39,6 +40,7 @@ impl Taken {
         Taken { limit, parts }
     }
 
+    /// The parts, each with its number.
     pub fn into_parts(self) -> Vec<(u64, Part)>
         ensures { result.items ≡ self.items }
     {

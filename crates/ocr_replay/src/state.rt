@@ -23,8 +23,8 @@ use ocr_quiet::standing_laws;
 use ocr_standing::{holding_laws, lasting_laws};
 use std::alloc::Global;
 
-/// The state of a run so far, the messages that were not delivered, and the verdict on each EDT that
-/// has started, by its number.
+/// The state of a run so far, the messages that were not delivered, and the verdict on each EDT
+/// that has started, by its number.
 #[derive(Drop)]
 pub(crate) struct Replay {
     pub table: Table,

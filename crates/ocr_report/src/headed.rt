@@ -7,6 +7,7 @@ use ocr_base::NoMemory;
 use ocr_journal::phrase;
 use std::alloc::Global;
 
+/// The text of a report: its words with a count, and behind them its lines.
 pub fn headed(alloc: Global, words: &[u8], count: u64, lines: &[u8]) -> Result<Vec<u8>, NoMemory>
     ensures { IfOk result (λ text. text.items ≡ spec.headed words.now count lines.now) }
 {
@@ -17,7 +18,7 @@ pub fn headed(alloc: Global, words: &[u8], count: u64, lines: &[u8]) -> Result<V
     Ok(text)
 }
 
-// Writes words and numbers as a line.
+/// Writes words and numbers as a line.
 pub fn line(text: &mut Vec<u8>, words: &[u8], numbers: &[u64]) -> Result<(), NoMemory>
     ensures { OnOk result (text.new.items ≡ text.old.items
         ++ (lines.phrase words.now numbers.now ++ 10 ∷ [])) }

@@ -18,8 +18,8 @@ use Rattle.ocr_run.specs.declared.text.TextStop.TheVariants as stop
 abbrev pub most_bytes : ℕ
 most_bytes = 1048576
 
--- these bytes are this program: they have tokens, the tokens have this tree, the tree breaks no rule,
--- and all its calls are built
+-- these bytes are this program: they have tokens, the tokens have this tree, the tree breaks no
+-- rule, and all its calls are built
 pub record IsProgramText (bytes : List ℕ) (program : List FunctionTree) : Type 0 where
   pub size : length bytes ≤ most_bytes
   pub tokens : List Token

@@ -20,8 +20,8 @@ use ocr_tree::Program;
 use ocr_words::Reports;
 use std::alloc::Global;
 
-/// What a run of this program with these arguments writes that has this journal: the lines of its prints, in their
-/// order, and the texts that are asked for.
+/// What a run of this program with these arguments writes that has this journal: the lines of its
+/// prints, in their order, and the texts that are asked for.
 pub fn output(
     alloc: Global,
     program: &Program,

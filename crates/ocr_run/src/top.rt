@@ -305,8 +305,8 @@ fn serve<S: Source, O: Sink, E: Sink>(
 ///
 /// The words have one of the forms of docs/SPECIFICATION.md, "The words", which tells the statuses
 /// too; the line that goes with a status is written to `err`. For `run` the journal is given with
-/// each of the statuses 0, 4, 5, 6, 8 and 10, may be given with 9, and is not given with 2, 3 and 7.
-/// `check` gives none.
+/// each of the statuses 0, 4, 5, 6, 8 and 10, may be given with 9, and is not given with 2, 3 and
+/// 7. `check` gives none.
 pub fn ocr_main<S: Source, O: Sink, E: Sink>(
     alloc: Global,
     words: &[String],

@@ -1,4 +1,5 @@
--- A clerk that runs the body of an EDT: what it keeps between the calls of the body, and within one.
+-- A clerk that runs the body of an EDT: what it keeps between the calls of the body, and within
+-- one.
 use Rattle.std.specs.Prelude.{◌≡◌, ◌≢◌, ◌≤◌, ℕ, ◌+◌, List, [], ◌∷◌, ◌++◌, true, ◌&&◌, if◌then◌else◌, Option, Some, None}
 use Rattle.std.specs.List.{All}
 use Rattle.ocr_acquire.specs.declared.Mode.{Mode}
@@ -59,7 +60,8 @@ pub record Runs (t : OcrTerms) (edt : ℕ) (b : Body) (c : OcrKnown) : Type 0 wh
   pub is : IsCoreOf core kept
   pub sees : Sees meaning c.view
 
--- WITHIN A CALL it lifted the core and, behind it, the parts of these places; it drew these numbers.
+-- WITHIN A CALL it lifted the core and, behind it, the parts of these places; it drew these
+-- numbers.
 pub record HasLifted (t : OcrTerms) (edt : ℕ) (old new : OcrKnown) (places drawn : List ℕ)
     (ps : List (ℕ × Part)) : Type 0 where
   pub core : Core

@@ -22,8 +22,8 @@ use ocr_meaning::{Answer, Call};
 use ocr_turns::Clerk;
 use std::sync::Wait;
 
-/// The answer of the call. A creation that is not refused answers a number that is drawn for it, and
-/// the parts of what it makes are taken and lifted.
+/// The answer of the call. A creation that is not refused answers a number that is drawn for it,
+/// and the parts of what it makes are taken and lifted.
 pub(crate) fn answer<R: Wait + Sync, G: Gate>(
     job: &Job<R, G>,
     worker: u32,

@@ -17,8 +17,8 @@ use ocr_turns::Clerk;
 use std::alloc::Global;
 use std::sync::Wait;
 
-/// A call on the parts that it names, which the clerk lifted: the places of these, the caller's core
-/// first, the parts, and the call's code.
+/// A call on the parts that it names, which the clerk lifted: the places of these, the caller's
+/// core first, the parts, and the call's code.
 #[derive(Drop)]
 pub(crate) struct Asked {
     pub call: Call,

@@ -1,5 +1,5 @@
-// What follows an entry of a running EDT: the EDT that it made is counted, and those that it resumed
-// are made ready.
+// What follows an entry of a running EDT: the EDT that it made is counted, and those that it
+// resumed are made ready.
 ghost use Rattle.std.specs.Prelude.{◌≡◌, ◌∷◌, [], List, ℕ, OnOk, OnErr};
 ghost use Rattle.ocr_meaning.specs.Body.{Body};
 ghost use Rattle.ocr_clerks.specs.Work.{AtWork, IsGone, Stays};

@@ -1,6 +1,6 @@
--- A run by one worker that goes on: it runs each EDT whose slots are set to its end, in the order in
--- which they were made. The program's calls are those that the rules of a program let through, so
--- nothing is ever on its way, and no slot is set but that of the first EDT.
+-- A run by one worker that goes on: it runs each EDT whose slots are set to its end, in the order
+-- in which they were made. The program's calls are those that the rules of a program let through,
+-- so nothing is ever on its way, and no slot is set but that of the first EDT.
 use Rattle.std.specs.Prelude.{◌≡◌, ◌≤◌, ◌<◌, ◌+◌, ◌==◌, if◌then◌else◌, ℕ, Bool, [], ◌∷◌, length, true, false, Option, Some, is_some}
 use Rattle.ocr_acquire.specs.Mode.{mode_in}
 use Rattle.ocr_acquire.specs.declared.Mode.TheVariants as mode

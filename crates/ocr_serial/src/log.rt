@@ -13,6 +13,7 @@ pub struct Log {
 }
 
 impl Log {
+    /// An empty log.
     pub fn new(alloc: Global) -> Result<Log, NoMemory>
         ensures { IfOk result (λ log. log.entries.items ≡ []) }
     {

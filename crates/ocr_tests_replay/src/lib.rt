@@ -1,4 +1,5 @@
-//! Tests of replays, which cross crates: programs that are run, and their journals replayed, as they are and changed.
+//! Tests of replays, which cross crates: programs that are run, and their journals replayed, as
+//! they are and changed.
 #![tactic(auto)]
 
 #[cfg(test)]

@@ -12,6 +12,7 @@ const DEFAULT: u64 = 4_294_967_294;
 /// Words with their values.
 pub type Words = &'static [(u32, u64)];
 
+/// An entry, written short.
 #[derive(Clone, Copy)]
 pub enum Line {
     Acquire(u64, u64),

@@ -133,7 +133,8 @@ const LIMIT_ROWS: [StopRow; 16] = [
     (7, Stop::Objects, Some(7)),
     (10, Stop::Objects, Some(10)),
     (15, Stop::Objects, Some(15)),
-    // EDT 2 could acquire, make something, and free; EDT 5 could start, and EDT 6 end; all have ended.
+    // EDT 2 could acquire, make something, and free; EDT 5 could start, and EDT 6 end; all have
+    // ended.
     (0, LIGHT, None),
     (4, LIGHT, None),
     (7, LIGHT, None),
@@ -184,8 +185,8 @@ const EVENTS: &[u8] =
     b"fn a { let i = 0; while i < 90000 { print 1; i = i + 1; } ocrEdtCreate(paramv[0], 1, [paramv[0]], 0, [], 0); }
 fn mainEdt { let t = ocrEdtTemplateCreate(a, 1, 0); ocrEdtCreate(t, 1, [t], 0, [], 0); }";
 
-// What a limit stopped: the whole is a run, and the Stop by the other limit ends none. With no object left nothing could
-// come in OBJECTS; in EVENTS a print comes next.
+// What a limit stopped: the whole is a run, and the Stop by the other limit ends none. With no
+// object left nothing could come in OBJECTS; in EVENTS a print comes next.
 #[test]
 fn runs_that_come_to_a_limit_are_replayed(rt: HostRuntime) -> Result<(), Fail> {
     let alloc = rt.alloc();

@@ -342,7 +342,8 @@ fn mainEdt { ocrEdtCreate(ocrEdtTemplateCreate(a, 0, 0), EDT_PARAM_DEF, [], EDT_
     let done = run(alloc, objects, NO_FAULTS)?;
     assert_eq!(rt; done.ended.status, 10);
     assert_eq!(rt; done.err.bytes(), b"limit: objects\n".as_slice());
-    // The first EDT's 6 entries, 4 of each of the 2,046 others that end, the start of the last, and the Stop.
+    // The first EDT's 6 entries, 4 of each of the 2,046 others that end, the start of the last, and
+    // the Stop.
     let journal = done.ended.journal.ok_or("a journal")?;
     assert_eq!(rt; journal.entries().len(), 6 + 4 * 2046 + 2);
 

@@ -56,7 +56,8 @@ two_faces true t d slots st = (d, part.Block st) ∷ (t, part.Edt slots) ∷ []
 two_faces false t d slots st = (t, part.Edt slots) ∷ (d, part.Block st) ∷ []
 
 -- The worker keeps the EDT's core, its face and the block that comes next in its plan, all at hand,
--- the core made ready with the payloads of its slots, which it knows; and the block lets it do this.
+-- the core made ready with the payloads of its slots, which it knows; and the block lets it do
+-- this.
 pub record Meets (t : OcrTerms) (edt d : ℕ) (a : Act) (payloads places : List ℕ) (h : Hand)
     (c : OcrKnown) : Type 0 where
   pub first : Bool

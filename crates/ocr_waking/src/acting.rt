@@ -65,8 +65,8 @@ fn act_of_newcomer(block: &Block, edt: Guid, mode: Mode, free: bool) -> Option<A
     None
 }
 
-/// Enters what the block lets the EDT do, for which the worker keeps the EDT's core and face and the
-/// block.
+/// Enters what the block lets the EDT do, for which the worker keeps the EDT's core and face and
+/// the block.
 pub fn go_on<R: Wait + Sync, G: Gate>(
     alloc: Global,
     job: &Job<R, G>,

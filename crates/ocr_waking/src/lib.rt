@@ -1,5 +1,5 @@
-//! An EDT at the next block of its plan: it is made ready with the payloads of its slots, and acquires
-//! the block, finds it gone, or waits for it.
+//! An EDT at the next block of its plan: it is made ready with the payloads of its slots, and
+//! acquires the block, finds it gone, or waits for it.
 #![tactic(auto)]
 
 mod acting;

@@ -39,8 +39,8 @@ pub(crate) fn take_two<R: Wait + Sync, G: Gate>(
     Ok(false)
 }
 
-/// What an EDT does by these parts, its slots set to these payloads; None where it is not this block
-/// that comes next, or the EDT stands at it otherwise than one that acquires it.
+/// What an EDT does by these parts, its slots set to these payloads; None where it is not this
+/// block that comes next, or the EDT stands at it otherwise than one that acquires it.
 pub(crate) fn act_at(
     alloc: Global,
     core: &Part,

@@ -16,8 +16,8 @@ use ocr_guid::Guid;
 use ocr_turns::{Clerk, Turns};
 use std::alloc::Global;
 
-/// The payloads of the slots of an EDT, all of which are set. The clerk has claimed it and keeps its
-/// face, and knows from then on that they are set so.
+/// The payloads of the slots of an EDT, all of which are set. The clerk has claimed it and keeps
+/// its face, and knows from then on that they are set so.
 pub fn read_payloads(
     alloc: Global,
     turns: &Turns<Ocr>,
