@@ -136,6 +136,7 @@ full_work table p limit old new n work tells =
       limits = work.limits;
       program_is = work.program_is;
       runnable = work.runnable;
+      built = work.built;
       is_open = both.0 ∙ work.is_open;
       unstopped = ap (λ (l : List (ℕ × Entry)). stop_in l) both.1 ∙ work.unstopped;
       room = let a = tells.1.2.0 in let b = work.room in omega (arith, a, b);
@@ -156,6 +157,7 @@ drawn_work table p old new n work none hand is = record {
   limits = work.limits;
   program_is = work.program_is;
   runnable = work.runnable;
+  built = work.built;
   is_open = ap (λ (v : OcrView). v.closed) is ∙ work.is_open;
   unstopped = ap (λ (v : OcrView). stop_in v.log) is ∙ work.unstopped;
   room = let a = hand.2.0 in let b = work.room in omega (arith, a, b);

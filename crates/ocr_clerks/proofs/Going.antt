@@ -114,6 +114,7 @@ work_still table p old new v work same is calm room spare = record {
   limits = work.limits;
   program_is = work.program_is;
   runnable = work.runnable;
+  built = work.built;
   is_open = ap (λ (w : OcrView). w.closed) is ∙ (calm.closed ∙ work.is_open);
   unstopped = ap (λ (w : OcrView). stop_in w.log) is ∙ (ap (λ (l : List (ℕ × Entry)). stop_in l) calm.log ∙ work.unstopped);
   room = let r = work.room in omega (arith, r, room);
@@ -193,6 +194,7 @@ module _ (table : OcrTable) (p : Checked) (old mid new : OcrKnown) (e : Entry) (
         limits = work.limits;
         program_is = work.program_is;
         runnable = work.runnable;
+        built = work.built;
         is_open = ap (λ (w : OcrView). w.closed) view ∙ (ap (λ (w : OcrView). w.closed) view_is ∙ work.is_open);
         unstopped = ap (λ (w : OcrView). stop_in w.log) view ∙ (ap (λ (w : OcrView). stop_in (w.log ++ (n, e) ∷ [])) view_is ∙ (stop_after old.view.log n e work.unstopped ∙ no_stop e goes));
         room = let r = tells.5 in omega (arith, r, room);

@@ -7,6 +7,7 @@ use lib.ListN.{get_elem?}
 use Rattle.atomic_table.specs.Seated.{TableId}
 use Rattle.ocr_code.specs.Checked.{checked_tree}
 use Rattle.ocr_code.specs.declared.checked.Checked.{Checked}
+use Rattle.ocr_tree.specs.Built.{are_built}
 use Rattle.ocr_tree.specs.Runnable.{IsRunnable}
 use Rattle.ocr_facts.specs.Clerks.{IsStep, OcrTerms, OcrView}
 use Rattle.ocr_facts.specs.Ocr.{ends, meaning, starts}
@@ -72,14 +73,15 @@ pub record Stays (old new : OcrKnown) : Type 0 where
   pub joined : new.view.joined ≡ old.view.joined
   pub log : (more : List (ℕ × Entry)) × (new.view.log ≡ old.view.log ++ more)
 
--- AT WORK: the clerk is of this table, whose program is this one and may be run; it does not know
--- that the run has ended, and did not end it; it has room for a Stop and for 40 parts, and its log
--- weighs no more than its share.
+-- AT WORK: the clerk is of this table, whose program is this one and may be run, and whose calls
+-- are all built; it does not know that the run has ended, and did not end it; it has room for a
+-- Stop and for 40 parts, and its log weighs no more than its share.
 pub record AtWork (table : OcrTable) (program : Checked) (c : OcrKnown) : Type 0 where
   pub of_table : IsOf table c
   pub limits : (2 ≤ table.1.limit) × (table.1.limit ≤ 65536)
   pub program_is : table.1.setting.value.program ≡ program
   pub runnable : IsRunnable (checked_tree program)
+  pub built : are_built (checked_tree program) ≡ true
   pub is_open : c.view.closed ≡ None
   pub unstopped : stop_in c.view.log ≡ None
   pub room : 1 ≤ c.room
