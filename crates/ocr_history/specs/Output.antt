@@ -1,5 +1,5 @@
 -- What a run writes, and how it ends.
-use Rattle.std.specs.Prelude.{ℕ, List, [], ◌∷◌, ◌++◌, filter, not, length, if◌then◌else◌, ◌==◌}
+use Rattle.std.specs.Prelude.{◌≡◌, ℕ, List, [], ◌∷◌, ◌++◌, ◌&&◌, filter, not, length, if◌then◌else◌, ◌==◌}
 use Rattle.std.specs.Fmt.{decimal}
 use Rattle.ocr_meaning.specs.declared.call.Call.TheVariants as call
 use Rattle.ocr_history.specs.declared.entry.Entry.{Entry}
@@ -7,7 +7,8 @@ use Rattle.ocr_history.specs.declared.entry.Entry.TheVariants.{Call, Stop}
 use Rattle.ocr_history.specs.declared.entry.Stop as run
 use Rattle.ocr_history.specs.declared.entry.Stop.TheVariants as by
 use Rattle.ocr_history.specs.History.{History}
-use Rattle.ocr_history.specs.Made.{made_edts}
+use Rattle.ocr_history.specs.Made.{is_edt, made_edts}
+use Rattle.ocr_history.specs.Numbers.{IsRising, is_in}
 use Rattle.ocr_history.specs.Edts.{is_started}
 
 -- the line of a print, and nothing for any other entry
@@ -23,6 +24,12 @@ printed (e ∷ past) = printed past ++ line_of e
 -- the EDTs that were made and never started
 abbrev pub left_edts : History → List ℕ
 left_edts past = filter (λ t. not (is_started past t)) (made_edts past)
+
+-- it lists exactly those, each once, rising
+pub record LeftLaw : Type 0 where
+  pub rising : (past : History) → IsRising (left_edts past)
+  pub left : (past : History) (t : ℕ)
+      → is_in t (left_edts past) ≡ (is_edt past t && not (is_started past t))
 
 -- the status of a stop
 abbrev pub status_of : run.Stop → ℕ

@@ -4,12 +4,14 @@
 
 mod entry;
 mod journal;
+mod laws;
 mod limits;
 mod objects;
 mod writes;
 
 pub use entry::{Entry, Fault, Message, Stop, What};
 pub use journal::Journal;
+pub use laws::left_law;
 pub use limits::{MOST_OBJECTS, SHARE};
 pub use objects::{ARGUMENTS, MAIN_EDT};
 pub use writes::Writes;

@@ -22,3 +22,6 @@ pub use naming::{footprint, weight};
 pub use sets::Sets;
 pub use stepping::step;
 pub use table::{Entered, Table};
+
+#[cfg(test)]
+mod tests;

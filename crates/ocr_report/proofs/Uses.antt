@@ -6,7 +6,8 @@ use Rattle.ocr_history.specs.declared.entry.Entry.TheVariants as an
 use Rattle.ocr_history.specs.History.{History, history_of}
 use Rattle.ocr_journal.specs.Phrase.{Text, phrase}
 use Rattle.ocr_report.specs.Destroyed.{is_destroyed, is_victim, victim_in}
-use Rattle.ocr_report.specs.Stale.{stale_line, stale_lines, first_stale, is_stale, objects_of}
+use Rattle.ocr_report.specs.Stale.{stale_line, stale_lines, first_stale, objects_of}
+use Rattle.ocr_history.specs.Stale.{is_stale}
 
 pub history_next : (xs : List Entry) (i : ℕ) (e : Entry) → i < length xs → e ≡ get_or xs i e → history_of (take (i + 1) xs) ≡ e ∷ history_of (take i xs)
 history_next xs i e below is =

@@ -1,8 +1,6 @@
--- The uses of destroyed objects: calls and satisfactions that were answered STALE, and acquires
--- that found a block gone.
-use Rattle.std.specs.Prelude.{ℕ, ◌+◌, List, [], ◌∷◌, ◌++◌, Bool, true, false, if◌then◌else◌, codes}
+-- The text on the uses of destroyed objects.
+use Rattle.std.specs.Prelude.{ℕ, List, [], ◌∷◌, ◌++◌, Bool, length, if◌then◌else◌, codes}
 use Rattle.ocr_guid.specs.declared.Code.{Code}
-use Rattle.ocr_guid.specs.declared.Code.TheVariants as code
 use Rattle.ocr_meaning.specs.declared.call.Call as body
 use Rattle.ocr_meaning.specs.declared.call.Call.TheVariants as call
 use Rattle.ocr_history.specs.declared.entry.Entry.{Entry}
@@ -10,13 +8,10 @@ use Rattle.ocr_history.specs.declared.entry.Entry.TheVariants as an
 use Rattle.ocr_history.specs.declared.entry.What.{What}
 use Rattle.ocr_history.specs.declared.entry.What.TheVariants as what
 use Rattle.ocr_history.specs.History.{History}
+use Rattle.ocr_history.specs.Stale.{is_stale, stale_uses}
 use Rattle.ocr_journal.specs.Phrase.{Text, phrase}
 use Rattle.ocr_report.specs.Destroyed.{is_destroyed}
 use Rattle.ocr_report.specs.Headed.{headed}
-
-abbrev pub is_stale : Code → Bool
-is_stale code.Stale = true
-is_stale other = false
 
 -- the objects that a call names, in the order of its arguments
 abbrev pub objects_of : body.Call → List ℕ
@@ -48,30 +43,10 @@ stale_line destroyed (an.Deliver message code) = delivery_line message.what code
 stale_line destroyed (an.StaleAcquire t d) = phrase (codes "acquire") (t ∷ d ∷ []) ++ 10 ∷ []
 stale_line destroyed other = []
 
-abbrev pub is_satisfaction : What → Bool
-is_satisfaction (what.Satisfy e slot g) = true
-is_satisfaction other = false
-
-abbrev pub one_if : Bool → ℕ
-one_if true = 1
-one_if false = 0
-
--- an entry uses a destroyed object
-abbrev pub is_stale_use : Entry → Bool
-is_stale_use (an.Call t home c a w) = is_stale a.code
-is_stale_use (an.Deliver message code) =
-    if is_satisfaction message.what then is_stale code else false
-is_stale_use (an.StaleAcquire t d) = true
-is_stale_use other = false
-
--- how many uses there are, and their lines, the oldest first
-abbrev pub stale_count : History → ℕ
-stale_count [] = 0
-stale_count (e ∷ past) = stale_count past + one_if (is_stale_use e)
-
+-- the lines of all uses, the oldest first
 abbrev pub stale_lines : History → Text
 stale_lines [] = []
 stale_lines (e ∷ past) = stale_lines past ++ stale_line (is_destroyed past) e
 
 abbrev pub stale_text : History → Text
-stale_text past = headed (codes "stale") (stale_count past) (stale_lines past)
+stale_text past = headed (codes "stale") (length (stale_uses past)) (stale_lines past)

@@ -4,9 +4,9 @@ use Rattle.std.specs.Prelude.{ℕ, [], ◌∷◌, ◌++◌, length, codes}
 use Rattle.ocr_history.specs.History.{History}
 use Rattle.ocr_history.specs.Made.{made_edts}
 use Rattle.ocr_history.specs.Output.{left_edts}
+use Rattle.ocr_history.specs.Stale.{stale_uses}
 use Rattle.ocr_journal.specs.Phrase.{Text, phrase}
 use Rattle.ocr_report.specs.Edts.{started_edts}
-use Rattle.ocr_report.specs.Stale.{stale_count}
 
 abbrev pub summary_line : (made started left stale : ℕ) → Text
 summary_line made started left stale =
@@ -16,4 +16,4 @@ summary_line made started left stale =
 abbrev pub summary_text : History → Text
 summary_text past =
     summary_line (length (made_edts past)) (length (started_edts past)) (length (left_edts past))
-    (stale_count past)
+    (length (stale_uses past))

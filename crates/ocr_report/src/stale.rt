@@ -1,8 +1,9 @@
 // The uses of destroyed objects.
-ghost use Rattle.std.specs.Prelude.{◌≡◌, ◌++◌, [], ◌∷◌, OnOk, IfOk};
+ghost use Rattle.std.specs.Prelude.{◌≡◌, ◌++◌, [], ◌∷◌, length, OnOk, IfOk};
 ghost use Rattle.std.specs.Ordering.{nat_cmp};
 ghost use Rattle.std.specs.BTreeSet as set;
 ghost use Rattle.ocr_history.specs.History.{history_of};
+ghost use Rattle.ocr_history.specs.Stale as history;
 ghost use Rattle.ocr_report.specs.Stale as spec;
 
 use crate::destroyed::destroy;
@@ -16,7 +17,7 @@ use std::collections::BTreeSet;
 
 // Whether an entry uses a destroyed object.
 fn is_stale_use(entry: &Entry) -> bool
-    ensures { result ≡ spec.is_stale_use entry.now }
+    ensures { result ≡ history.is_stale_use entry.now }
 {
     match entry {
         Entry::Call { answer, .. } => answer.code == Code::Stale,
@@ -34,7 +35,7 @@ fn is_stale_use(entry: &Entry) -> bool
 
 /// How many uses of destroyed objects there are.
 pub fn stale_count(entries: &[Entry]) -> u64
-    ensures { result ≡ spec.stale_count (history_of entries.now) }
+    ensures { result ≡ length (history.stale_uses (history_of entries.now)) }
 {
     let mut count: u64 = 0;
     for entry in entries {
