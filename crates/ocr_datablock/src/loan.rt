@@ -112,6 +112,16 @@ impl Lent {
         }
     }
 
+    /// Forgets what was stored: the words are those with which the loan began.
+    pub fn forget_writes(&mut self)
+        ensures { self.new ≡ loan_of self.old.mode self.old.began [] }
+    {
+        let alloc = *self.began.allocator();
+        self.values = BTreeMap::new(alloc);
+        self.list = Vec::new(alloc);
+        self.is_listed = true;
+    }
+
     /// The distinct words that were stored, rising, each with its last value.
     /// They are listed by `list_writes`, since the last store.
     pub fn writes(&self) -> &[(u32, u64)]

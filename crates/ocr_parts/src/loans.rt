@@ -2,7 +2,7 @@
 ghost use Rattle.std.specs.Prelude.{◌≡◌, ◌<◌, ◌∷◌, [], length, IfOk, OnErr, OnOk, Some, None, MatchOption};
 ghost use Rattle.ocr_acquire.specs.declared.Mode.TheVariants.{Ew};
 ghost use Rattle.ocr_datablock.specs.Lent.{after_list_writes, after_store};
-ghost use Rattle.ocr_parts.specs.Loans.{IsStorable, kept_after, kept_in, loan_in, with_loan, without_kept};
+ghost use Rattle.ocr_parts.specs.Loans.{IsStorable, kept_after, kept_in, loan_in, settled_loan, settled_loans, with_loan, without_kept};
 
 use ocr_base::NoMemory;
 use ocr_datablock::Lent;
@@ -91,6 +91,13 @@ impl Loans {
     {
         list_among(&mut self.items, block);
     }
+
+    /// Forgets what was stored in the loans.
+    pub fn settle(&mut self)
+        ensures { self.new ≡ settled_loans self.old }
+    {
+        settle_all(&mut self.items);
+    }
 }
 
 fn store_among(
@@ -141,6 +148,22 @@ fn list_in(kept: &mut Kept)
 {
     if let Some(lent) = &mut kept.loan {
         lent.list_writes();
+    }
+}
+
+fn settle_all(items: &mut Vec<(Guid, Kept)>)
+    ensures { items.new.items ≡ settled_loans items.old.items }
+{
+    for i in 0..items.len() {
+        settle_one(&mut items[i].1);
+    }
+}
+
+fn settle_one(kept: &mut Kept)
+    ensures { kept.new ≡ record { size = kept.old.size; loan = settled_loan kept.old.loan } }
+{
+    if let Some(lent) = &mut kept.loan {
+        lent.forget_writes();
     }
 }
 
