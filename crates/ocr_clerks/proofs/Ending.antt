@@ -82,6 +82,7 @@ full_fits t J v n fits = record {
   sent = fits.sent;
   parts = fits.parts;
   facts = fits.facts;
+  claims = λ n has. let c = fits.claims n has in record { set = c.set; unended = c.unended; begun = c.begun; tied = c.tied };
   sole = fits.sole;
   alone = fits.alone;
 }

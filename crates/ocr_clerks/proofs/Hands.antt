@@ -45,7 +45,7 @@ took_one old new place tells = record {
   places_are = refl;
   view = tells.3;
   hand = tells.4;
-  sees = λ _. tells.8;
+  sees = λ _ t terms unclosed. let s = tells.8 t terms unclosed in (s.0, s.2);
 }
 
 took_calm : (u : OcrView) (ps : List (ℕ × Part)) → Calm u (record u { parts = ps })

@@ -15,7 +15,7 @@ use ocr_turns::{Clerk, Committed};
 use std::sync::Wait;
 
 /// Ends the run by a Stop that is legal now, behind the gate.
-pub fn close<R: Wait + Sync, G: Gate>(
+pub fn close<R: Wait, G: Gate>(
     job: &Job<R, G>,
     worker: u32,
     clerk: &mut Clerk<Ocr>,
@@ -36,11 +36,7 @@ pub fn close<R: Wait + Sync, G: Gate>(
 }
 
 /// Ends the run for want of memory.
-pub fn close_memory<R: Wait + Sync, G: Gate>(
-    job: &Job<R, G>,
-    worker: u32,
-    clerk: &mut Clerk<Ocr>,
-) -> Over
+pub fn close_memory<R: Wait, G: Gate>(job: &Job<R, G>, worker: u32, clerk: &mut Clerk<Ocr>) -> Over
     requires work { AtWork job.now.turns.now job.now.program.now clerk.old }
     ensures stays { Stays clerk.old clerk.new }
     ensures gone { IsGone job.now.turns.now worker clerk.new }
@@ -50,7 +46,7 @@ pub fn close_memory<R: Wait + Sync, G: Gate>(
 
 /// Ends the run where the clerk could make this entry, of this weight, and its share has no room
 /// for it.
-pub fn close_heavy<R: Wait + Sync, G: Gate>(
+pub fn close_heavy<R: Wait, G: Gate>(
     job: &Job<R, G>,
     worker: u32,
     clerk: &mut Clerk<Ocr>,

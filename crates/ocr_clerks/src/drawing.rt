@@ -18,7 +18,7 @@ use ocr_turns::{Clerk, Drawn};
 use std::sync::Wait;
 
 /// Draws a number for the object that a body makes next. Where none is left, the run is ended.
-pub fn draw_number<R: Wait + Sync, G: Gate>(
+pub fn draw_number<R: Wait, G: Gate>(
     job: &Job<R, G>,
     worker: u32,
     clerk: &mut Clerk<Ocr>,

@@ -49,7 +49,7 @@ pub fn enter(
 /// Enters an entry, as `enter` does, behind the gate. Where the clerk's log would weigh more than
 /// its share then, or memory is refused, the run is ended in its place. Gives the EDTs that the
 /// entry resumes.
-pub fn enter_at_work<R: Wait + Sync, G: Gate>(
+pub fn enter_at_work<R: Wait, G: Gate>(
     alloc: Global,
     job: &Job<R, G>,
     worker: u32,

@@ -5,7 +5,7 @@ use std::sync::Wait;
 
 /// A place that a worker passes before each entry and before it ends the run, and at the end of
 /// each idle round, with its number and its clerk. A gate may hold it there.
-pub trait Gate: Sync {
+pub trait Gate {
     fn pass<R: Wait>(&self, rt: &R, worker: u32, clerk: &Clerk<Ocr>);
 }
 

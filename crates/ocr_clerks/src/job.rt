@@ -9,7 +9,7 @@ use std::sync::Wait;
 /// What the workers of a run share: the runtime, the program, the table of turns, the deques of
 /// ready EDTs, and the gate.
 #[derive(Drop)]
-pub struct Job<'a, R: Wait + Sync, G: Gate> {
+pub struct Job<'a, R: Wait, G: Gate> {
     pub rt: &'a R,
     pub program: &'a Checked,
     pub turns: &'a Turns<Ocr>,

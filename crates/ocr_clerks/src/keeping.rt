@@ -44,7 +44,7 @@ pub fn lift_parts(
 
 /// Enters an entry that names all parts that the clerk keeps, and has them at hand after it. Gives
 /// the EDTs that it resumes.
-pub fn enter_kept<R: Wait + Sync, G: Gate>(
+pub fn enter_kept<R: Wait, G: Gate>(
     alloc: Global,
     job: &Job<R, G>,
     worker: u32,

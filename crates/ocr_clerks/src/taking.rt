@@ -1,6 +1,8 @@
 // A worker takes parts.
 ghost use Rattle.std.specs.Prelude.{◌≡◌, ◌≤◌, ◌<◌, ◌+◌, ◌∷◌, [], length, OnOk, OnErr};
 ghost use Rattle.std.specs.List.{All};
+ghost use Rattle.ocr_turns.specs.Steps.{SeesBoth};
+ghost use Rattle.ocr_facts.specs.Ocr.{meaning};
 ghost use Rattle.ocr_clerks.specs.Work.{AtWork, IsGone, Stays, Took};
 
 use crate::gate::Gate;
@@ -11,7 +13,7 @@ use ocr_turns::{Clerk, Taken};
 use std::sync::Wait;
 
 /// Takes the part of a place once its turn is free.
-pub fn take_part<R: Wait + Sync, G: Gate>(
+pub fn take_part<R: Wait, G: Gate>(
     job: &Job<R, G>,
     worker: u32,
     clerk: &mut Clerk<Ocr>,
@@ -23,6 +25,7 @@ pub fn take_part<R: Wait + Sync, G: Gate>(
     ensures stays { Stays clerk.old clerk.new }
     ensures work { OnOk result (AtWork job.now.turns.now job.now.program.now clerk.new) }
     ensures took { OnOk result (Took clerk.old clerk.new (place ∷ [])) }
+    ensures sees { OnOk result (SeesBoth meaning clerk.old.view clerk.new.view) }
     ensures gone { OnErr result (IsGone job.now.turns.now worker clerk.new) }
 {
     match job.turns.take(job.rt, clerk, place) {
@@ -33,7 +36,7 @@ pub fn take_part<R: Wait + Sync, G: Gate>(
 
 /// Takes the parts of these places, one after the other. They are to rise, and to come after those
 /// that the clerk keeps, so that no two workers wait for each other.
-pub fn take_parts<R: Wait + Sync, G: Gate>(
+pub fn take_parts<R: Wait, G: Gate>(
     job: &Job<R, G>,
     worker: u32,
     clerk: &mut Clerk<Ocr>,

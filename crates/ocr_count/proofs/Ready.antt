@@ -6,7 +6,7 @@ use Rattle.ocr_turns.specs.Words.{SeesReady, SeesWord}
 use Rattle.ocr_turns.specs.declared.view.View.{View}
 use Rattle.ocr_turns.proofs.Accounts.{ready}
 use Rattle.ocr_turns.proofs.Slots.{none_is, true_is}
-use Rattle.ocr_turns.proofs.Stepping.{set_all}
+use Rattle.ocr_turns.proofs.Claims.{set_all}
 use Rattle.ocr_count.specs.Counts.{DownTells, LeavesSome, left_of}
 use Rattle.ocr_count.specs.declared.answers.Down.{Down}
 use Rattle.ocr_count.specs.declared.answers.Down.TheVariants as down

@@ -2,6 +2,7 @@
 use Rattle.std.specs.Prelude.{◌≡◌, ◌≢◌, ℕ, ◌<◌}
 use Rattle.ocr_turns.specs.Counting.{READY}
 use Rattle.ocr_turns.specs.Meaning.{Meaning}
+use Rattle.ocr_turns.specs.Steps.{Sees}
 use Rattle.ocr_turns.specs.Words.{SeesReady, SeesWord, claiming, learning}
 use Rattle.ocr_turns.specs.declared.view.View.{View}
 use Rattle.ocr_count.specs.declared.answers.Claimed.{Claimed}
@@ -28,6 +29,6 @@ module _ {G E P N F : Type 0} (m : Meaning G E P N F) where
   ClaimTells claimed.Won v w n = (w ≡ claiming v n) × SeesReady m w n
   ClaimTells (claimed.Lost x) v w n = (x ≢ READY) × (w ≡ v) × SeesWord m w n x
 
-  -- the slot is set to the payload, and the view knows it
+  -- the slot is set to the payload, and the view knows it, which some history so far fits
   abbrev pub PayloadTells : ℕ → View G E P N F → View G E P N F → ℕ → ℕ → Type 0
-  PayloadTells x v w n k = w ≡ learning v (m.counting.is_set n k x)
+  PayloadTells x v w n k = (w ≡ learning v (m.counting.is_set n k x)) × Sees m w

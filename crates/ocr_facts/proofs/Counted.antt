@@ -24,8 +24,9 @@ use Rattle.ocr_parts.specs.Parts.{parts_of}
 use Rattle.ocr_parts.specs.Taken.{is_within}
 use Rattle.ocr_parts.proofs.Within.{within_law}
 use Rattle.ocr_quiet.proofs.Edts.{edts_law}
+use Rattle.ocr_standing.specs.Lasting.{is_own}
 use Rattle.ocr_standing.proofs.Once.{set_once_law}
-use Rattle.ocr_turns.specs.Counting.{CountingLaws, IsReady, MayCome, awaited, is_in, payload_of, slots_of}
+use Rattle.ocr_turns.specs.Counting.{CountingLaws, IsReady, MayCome, awaited, is_ended, is_in, is_started, payload_of, slots_of}
 use Rattle.ocr_turns.specs.Sums.{one_at, sum_of}
 use Rattle.ocr_turns.specs.declared.view.Terms.{Terms}
 use Rattle.ocr_turns.proofs.Totals.{one_here}
@@ -39,7 +40,7 @@ use Rattle.ocr_facts.proofs.Making.{few_slots}
 use Rattle.ocr_facts.proofs.Places.{named_place}
 use Rattle.ocr_facts.proofs.Runs.{Comes, comes, of_terms}
 use Rattle.ocr_facts.proofs.Slots.{chosen_on, depc_edt, edt_slots, payload_is, slots_are}
-use Rattle.ocr_facts.proofs.Waits.{end_idle, nobody, number_same, ready, resumed_is, waits_is}
+use Rattle.ocr_facts.proofs.Waits.{number_same, ready, resumed_is, running, waits_is}
 
 -- THE OPENING
 first_set : (t : Terms Setting) → stands t.setting.value t.limit [] (IsSet MAIN_EDT 0 ARGUMENTS)
@@ -162,10 +163,14 @@ resuming t past e n may some =
     by_kind (Free u d w) come now = resumed_one t past (Free u d w) n _ come (entry_effect (of_terms t) past (Free u d w) come.enough come.run come.legal tt) now
     by_kind other come now = absurd (omega (arith, now))
 
-ending : (t : Terms Setting) (past : List Entry) (e : Entry) (n : ℕ) → MayCome meaning t past e → ends e n ≡ true → awaited meaning t past n ≡ None
+abbrev Ends : Terms Setting → List Entry → Entry → ℕ → Type 0
+Ends t past e n = (is_own e n ≡ true) × (is_started meaning t past n ≡ true) × (is_ended meaning t past n ≡ false)
+
+ending : (t : Terms Setting) (past : List Entry) (e : Entry) (n : ℕ) → MayCome meaning t past e → ends e n ≡ true → Ends t past e n
 ending t past (End u g) n may is =
     let come = comes t past (End u g) may in
-    subst (λ (k : ℕ). awaited meaning t past k ≡ None) (eqb-true u n is) (nobody t past u come.enough come.run (λ k queued. end_idle (of_terms t) past u k come.run come.legal.on_parts.running queued))
+    let r = running t past u come.run come.legal.on_parts.running in
+    subst (Ends t past (End u g)) (eqb-true u n is) (number_same u, r.0, r.1)
 ending t past other n may is = cc is
 
 pub counted : CountingLaws meaning

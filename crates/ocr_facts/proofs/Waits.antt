@@ -21,7 +21,7 @@ use Rattle.ocr_parts.specs.declared.part.Part.{Part}
 use Rattle.ocr_parts.specs.declared.part.Part.TheVariants as part
 use Rattle.ocr_parts.specs.Calls.{depc_of, edt_calls, loans_of, open_slots, plan_of, set_calls}
 use Rattle.ocr_parts.specs.Effects.{changed, made_ready, next_mode_on, readied_on, ready_at, with_phase}
-use Rattle.ocr_parts.specs.Kinds.{IsBlock, is_acquiring, is_acquiring_edt, is_running, on_core, with_block}
+use Rattle.ocr_parts.specs.Kinds.{IsBlock, is_acquiring, is_acquiring_edt, is_running, on_core, with_block, work_in}
 use Rattle.ocr_parts.specs.LegalOn.{IsRefused}
 use Rattle.ocr_parts.specs.Legal.{IsRun, IsLegal}
 use Rattle.ocr_parts.specs.Messages.{resumes}
@@ -33,7 +33,7 @@ use Rattle.ocr_quiet.proofs.Stages.{readied_standing, ready_told, standing_law, 
 use Rattle.ocr_quiet.proofs.Standing.{push_other, push_own}
 use Rattle.ocr_standing.proofs.Held.{running_core}
 use Rattle.ocr_standing.proofs.Lasting.{all_set}
-use Rattle.ocr_turns.specs.Counting.{IsReady, awaited, is_in, place_or}
+use Rattle.ocr_turns.specs.Counting.{IsReady, awaited, is_ended, is_in, is_started, place_or}
 use Rattle.ocr_turns.specs.declared.view.Terms.{Terms}
 use Rattle.ocr_facts.specs.Ocr.{meaning, resumed}
 use Rattle.ocr_facts.specs.declared.setting.Setting.{Setting}
@@ -194,6 +194,21 @@ ready_made s past n is =
     let step : Core → Core = with_phase (made_ready (plan_of s past n)) in
     acquiring_made (made s past n) n (edt_calls s past n) (loans_of s past n) step
     (ap is_acquiring (sym (chosen_on (n == n) (on_core ((parts_of s past).core n) step) ((parts_of s past).core n) (number_same n))) ∙ is)
+
+-- WHO RUNS has started and not ended
+running_stage : (x : Part) → is_running x ≡ true → (mark x).0 ≡ 2
+running_stage (part.Core c) is = stage c.edt is
+  where
+    stage : (e : Edt) → is_some (work_in e) ≡ true → (mark_in e).0 ≡ 2
+    stage (phase.Running s) is = refl
+    stage other is = cc is
+running_stage other is = cc is
+
+pub running : (t : Terms Setting) (past : History) (n : ℕ) → IsRun (of_terms t) past → is_running ((parts_of (of_terms t) past).core n) ≡ true → (is_started meaning t past n ≡ true) × (is_ended meaning t past n ≡ false)
+running t past n run is =
+    let told = told_law (of_terms t) past run n in
+    let stage = running_stage ((parts_of (of_terms t) past).core n) is in
+    (started_is t past n ∙ (told.has_started ∙ ap (nat_lt 1) stage), ended_is t past n ∙ (told.has_ended ∙ ap (nat_lt 2) stage))
 
 some_payload : (o : Option ℕ) → is_some o ≡ true → (x : ℕ) × (o ≡ Some x)
 some_payload None is = cc is

@@ -47,14 +47,14 @@ falls o a b less h some small owes word unset claims resumes waits started lasts
     let new : b.word + less ≡ a.word = omega arith in
     (in_counting o r.1.0 b r.1.1 (record { word = omega arith; most = omega arith; bare = omega arith; once = (let was = r.0.once in let z = not_free a.word (omega arith) in omega arith) }), omega arith, most, new)
 
-pub claimed : (o : Option ℕ) (a b : Account) → IsInOrder o a → a.word ≡ READY → b.word ≡ BUSY → b.making ≡ a.making → b.owed ≡ a.owed → b.unset ≡ a.unset → b.claims ≡ a.claims + 1 → b.resumes ≡ a.resumes → b.lasts ≡ a.lasts → IsInOrder o b
-claimed o a b h is word making owed unset claims resumes lasts =
+pub claimed : (o : Option ℕ) (a b : Account) → IsInOrder o a → a.word ≡ READY → b.word ≡ BUSY → b.making ≡ a.making → b.owed ≡ a.owed → b.unset ≡ a.unset → b.claims ≡ a.claims + 1 → b.resumes ≡ a.resumes → b.ended ≡ 0 → b.lasts ≡ a.lasts → IsInOrder o b
+claimed o a b h is word making owed unset claims resumes ended lasts =
     let r = ready o a h is in let bare = r.0.bare in let all = r.2 in
-    in_busy o r.1.0 b r.1.1 (record { word = word; counted = omega arith; one = omega arith; held = omega arith; none = omega arith; once = lasts ∙ (r.0.once ∙ ap is_free is) })
+    in_busy o r.1.0 b r.1.1 (record { word = word; counted = omega arith; held = omega arith; none = omega arith; once = lasts ∙ (r.0.once ∙ ap is_free is) })
 
 pub parks : (o : Option ℕ) (a b : Account) → IsInOrder o a → 1 ≤ a.claims → a.waits ≡ 1 → a.started ≡ 0 → b.word ≡ PARKED → b.making ≡ a.making → b.owed ≡ a.owed → b.unset ≡ a.unset → b.claims + 1 ≡ a.claims → b.resumes ≡ a.resumes → b.waits ≡ a.waits → b.started ≡ a.started → b.lasts ≡ a.lasts → IsInOrder o b
 parks o a b h some wait fresh word making owed unset claims resumes waits started lasts =
-    let r = busy o a h some in let c = r.0.counted in let one = r.0.one in let none = r.0.none in
+    let r = busy o a h some in let c = r.0.counted in let held = r.0.held in let none = r.0.none in
     in_parked o r.1.0 b r.1.1 (record { word = word; counted = omega arith; waits = omega arith; none = omega arith; once = lasts ∙ r.0.once })
 
 pub resumed : (o : Option ℕ) (a b : Account) → IsInOrder o a → 1 ≤ a.resumes → b.word ≡ READY → b.making ≡ a.making → b.owed ≡ a.owed → b.unset ≡ a.unset → b.claims ≡ a.claims → b.resumes + 1 ≡ a.resumes → b.waits ≡ a.waits → b.started ≡ a.started → b.lasts ≡ a.lasts → IsInOrder o b

@@ -12,12 +12,13 @@ use Rattle.atomic_table.proofs.Lists.{at_set}
 use Rattle.ocr_mail.specs.Mail.{tally}
 use Rattle.ocr_turns.specs.declared.view.View.{View}
 use Rattle.ocr_turns.specs.declared.view.Terms.{Terms}
-use Rattle.ocr_turns.specs.Counting.{IsInOrder, Counted, Stakes, account, slots_of, tied_to, state_at, payload_at}
+use Rattle.ocr_turns.specs.Counting.{IsInOrder, Counted, IsBegunIn, Stakes, account, slots_of, tied_to, state_at, payload_at}
 use Rattle.ocr_turns.specs.Meaning.{Meaning}
 use Rattle.ocr_turns.specs.Owing.{owed_slots, of_edt, of_slot, making, times, no_debts, both_debts}
 use Rattle.ocr_turns.specs.Sums.{total, weigh, one_at}
 use Rattle.ocr_turns.proofs.Totals.{total_set, tally_append, sum_append, at_snoc_at}
 use Rattle.ocr_turns.proofs.Accounts.{account_is}
+use Rattle.ocr_turns.proofs.Claims.{begun_root, begun_home}
 use Rattle.ocr_turns.proofs.Owing.{making_append}
 
 module _ {G E P N F : Type 0} where
@@ -69,7 +70,7 @@ module _ {G E P N F : Type 0} (m : Meaning G E P N F) (t : Terms G) (past : List
 
   -- a step of one seat that changes neither what it owes nor what it has claimed, and still keeps what its claims tie it to
   module _ (id : ℕ) (v w : Vs) (at : get_elem? s.views id ≡ some v) (debts : w.debts ≡ v.debts) (claims : w.claims ≡ v.claims) (is_out : 0 < w.root + w.seat)
-      (keeps : (n p : ℕ) → 1 ≤ times n v.claims → tied_to m t past n ≡ Some p → 1 ≤ weigh (one_at p) w.parts) where
+      (keeps : (n p : ℕ) → 1 ≤ times n v.claims → tied_to m t past n ≡ Some p → 1 ≤ weigh (one_at p) w.parts) (begun : (n : ℕ) → IsBegunIn m v n → IsBegunIn m w n) where
     same_set : Alike (slice_set s.views id w) s.views
     same_set f alike = let to = total_set f s.views id v w at in let e = alike w v debts claims in omega arith
 
@@ -79,6 +80,7 @@ module _ {G E P N F : Type 0} (m : Meaning G E P N F) (t : Terms G) (past : List
       made = λ i n d there. old.made i n d (ap (λ x. get_elem? x.made i) (sym debts) ∙ there);
       claims = λ n has. old.claims n (subst (λ l. 1 ≤ times n l) claims has);
       tied = λ n p has is. keeps n p (subst (λ l. 1 ≤ times n l) claims has) is;
+      begun = λ n has is. begun n (old.begun n (subst (λ l. 1 ≤ times n l) claims has) is);
       spent = λ z. absurd (omega arith);
     }
 
@@ -124,6 +126,7 @@ module _ {G E P N F : Type 0} (m : Meaning G E P N F) (t : Terms G) (past : List
           made = λ i n d there. absurd (some-ne-none (n, d) (sym (ap (λ x. get_elem? x.made i) (sym none) ∙ there)));
           claims = λ n has. absurd (let z = ap (times n) empty in omega arith);
           tied = λ n p has is. absurd (let z = ap (times n) empty in omega arith);
+          begun = λ n has is. absurd (let z = ap (times n) empty in omega arith);
           spent = λ z. (none, empty);
         }
 
@@ -135,6 +138,7 @@ module _ {G E P N F : Type 0} (m : Meaning G E P N F) (t : Terms G) (past : List
   -- A SEAT COMES HOME: the root's view takes in all that it owed and had claimed
   module _ (id : ℕ) (v : Vs) (at : get_elem? s.views id ≡ some v) (other : ℕ) (w : Vs) (apart : other ≢ id) (both spent : Vs) (is_out : 0 < both.root + both.seat) (bt : get_elem? (slice_set s.views id both) other ≡ some w)
       (debts : both.debts ≡ both_debts v.debts w.debts) (claims : both.claims ≡ v.claims ++ w.claims) (parts : (p : ℕ) → weigh (one_at p) both.parts ≡ weigh (one_at p) v.parts + weigh (one_at p) w.parts)
+      (log : both.log ≡ v.log) (joined : both.joined ≡ v.joined ++ w.log ∷ w.joined)
       (none : spent.debts ≡ no_debts) (empty : spent.claims ≡ []) where
     w_at : get_elem? s.views other ≡ some w
     w_at = ⊎_elim (λ h. absurd (apart h.0)) (λ h. h.1) (at_set s.views id other both w bt)
@@ -151,6 +155,7 @@ module _ {G E P N F : Type 0} (m : Meaning G E P N F) (t : Terms G) (past : List
       made = λ i n d there. ⊎_elim (λ h. old.made i n d h) (λ h. his.made h.0 n d h.1) (at_either v.debts.made w.debts.made i (n, d) (ap (λ x. get_elem? x.made i) (sym debts) ∙ there));
       claims = λ n has. let sum = both_times n in dite (dec_le 1 (times n v.claims)) (λ y. old.claims n y) (λ no. his.claims n (omega arith));
       tied = λ n p has is. let sum = both_times n in let all = parts p in dite (dec_le 1 (times n v.claims)) (λ y. let h = old.tied n p y is in omega arith) (λ no. let h = his.tied n p (omega arith) is in omega arith);
+      begun = λ n has is. let sum = both_times n in dite (dec_le 1 (times n v.claims)) (λ y. begun_root m n v w both log joined (old.begun n y is)) (λ no. begun_home m n v w both log joined (his.begun n (omega arith) is));
       spent = λ z. absurd (omega arith);
     }
 
@@ -160,6 +165,7 @@ module _ {G E P N F : Type 0} (m : Meaning G E P N F) (t : Terms G) (past : List
       made = λ i n d there. absurd (some-ne-none (n, d) (sym (ap (λ x. get_elem? x.made i) (sym none) ∙ there)));
       claims = λ n has. absurd (let z = ap (times n) empty in omega arith);
       tied = λ n p has is. absurd (let z = ap (times n) empty in omega arith);
+      begun = λ n has is. absurd (let z = ap (times n) empty in omega arith);
       spent = λ z. (none, empty);
     }
 
@@ -179,8 +185,8 @@ module _ {G E P N F : Type 0} (m : Meaning G E P N F) (t : Terms G) (past : List
         (at_set (slice_set s.views id both) other i spent u u_at))
 
   -- a step on a word before those that count, which takes no part away
-  pub counted_beside : (id : ℕ) (v w : Vs) → get_elem? s.views id ≡ some v → w.debts ≡ v.debts → w.claims ≡ v.claims → 0 < w.root + w.seat → ((p : ℕ) → weigh (one_at p) v.parts ≤ weigh (one_at p) w.parts)
+  pub counted_beside : (id : ℕ) (v w : Vs) → get_elem? s.views id ≡ some v → w.debts ≡ v.debts → w.claims ≡ v.claims → 0 < w.root + w.seat → ((p : ℕ) → weigh (one_at p) v.parts ≤ weigh (one_at p) w.parts) → ((n : ℕ) → IsBegunIn m v n → IsBegunIn m w n)
       → (i x : ℕ) (homes : List (maybe.Option (Option P))) → i < 16 + length s.homes → length homes ≡ length s.homes
       → Counted m t past record { words = slice_set s.words i x; homes = homes; views = slice_set s.views id w }
-  counted_beside id v w at debts claims is_out more i x homes lt same_homes =
-      counted_at id v w at debts claims is_out (λ n p has is. let held = (k.seated id v at).tied n p has is in let le = more p in omega arith) i x homes lt same_homes
+  counted_beside id v w at debts claims is_out more begun i x homes lt same_homes =
+      counted_at id v w at debts claims is_out (λ n p has is. let held = (k.seated id v at).tied n p has is in let le = more p in omega arith) begun i x homes lt same_homes

@@ -129,6 +129,7 @@ module _ {G E P N F : Type 0} (m : Meaning G E P N F) (laws : CountingLaws m) (t
         (first_is n);
     set = λ n q x is. let r = first_payload n q x is in ⊎_elim (λ h. (1, h.1, (let z = r.1 in omega arith))) (λ h. absurd (h.0 r.0)) (first_is n);
     rests = λ n p is. cc is;
+    ends = λ n is. absurd (cc is);
     facts = λ n q x is. let r = first_payload n q x is in
         subst (λ z. m.stands t.setting.value t.limit [] (m.counting.is_set n q z)) r.2 (subst (λ z. m.stands t.setting.value t.limit [] (m.counting.is_set n z m.first.1)) r.1 (subst (λ z. m.stands t.setting.value t.limit [] (m.counting.is_set z 0 m.first.1)) r.0 (laws.first_set t)));
   }
@@ -173,6 +174,7 @@ module _ {G E P N F : Type 0} (m : Meaning G E P N F) (laws : CountingLaws m) (t
         made = λ j n d d_at. absurd (some-ne-none (n, d) (sym d_at));
         claims = λ n has. absurd (omega arith);
         tied = λ n p has is. absurd (omega arith);
+        begun = λ n has is. absurd (omega arith);
         spent = λ z. absurd (omega arith);
       });
     }

@@ -1,5 +1,5 @@
 -- The words do not wrap, and what a seat may rely on.
-use Rattle.std.proofs.Common.{◌≡◌, ◌≢◌, ℕ, ◌+◌, ◌*◌, ◌<◌, ◌≤◌, ⊎_elim, List, length, refl, sym, subst, ◌∙◌, arith, mul-le-mul_right, None, Some, Option}
+use Rattle.std.proofs.Common.{◌≡◌, ◌≢◌, ℕ, ◌+◌, ◌*◌, ◌<◌, ◌≤◌, ⊎_elim, List, length, refl, sym, subst, ◌∙◌, arith, mul-le-mul_right, None, Some, Option, reverse}
 use Rattle.std.specs.Prelude.{slice_set, MatchOption}
 use mathlib.Core.Option.{some}
 use mathlib.Core.Logic.{dite}
@@ -8,6 +8,7 @@ use lib.ListN.{get_elem?}
 use Rattle.atomic_table.specs.Table.{State}
 use Rattle.atomic_table.proofs.Lists.{set_here}
 use Rattle.ocr_mail.specs.Mail.{tally}
+use Rattle.ocr_turns.specs.Counting.{Counted}
 use Rattle.ocr_turns.specs.Meaning.{Meaning, Open, Ended}
 use Rattle.ocr_turns.specs.Rule.{weighed, Fits, Over, Seated, Kept, mail}
 use Rattle.ocr_turns.specs.Steps.{Sees, SeesOpen, SeesEnd}
@@ -16,6 +17,7 @@ use Rattle.ocr_turns.specs.declared.view.View.{View}
 use Rattle.ocr_turns.specs.declared.view.Terms.{Terms}
 use Rattle.ocr_turns.proofs.Totals.{total_bound, total_bound_more, total_one, total_two, total_alone, at_less, below_ones, up_to_one, up_to_range}
 use Rattle.ocr_turns.proofs.Same.{keeps_at}
+use Rattle.ocr_turns.proofs.Claims.{claimed_is}
 
 pub same_terms : {G : Type 0} (t u : Terms G) → ◌≡◌ {A = Option (Terms G)} (Some t) (Some u) → t ≡ u
 same_terms t u e = cc e
@@ -87,8 +89,8 @@ module _ {G E P N F : Type 0} (m : Meaning G E P N F) (t : Terms G) where
         lone_drawn f = total_alone (λ (x : View G E P N F). sum_of f x.drawn) s.views id v at (λ i u ne u_at. let sp = (k.seated i u u_at).spent (spent_others i u ne u_at) in rw sp.4 refl)
 
       -- what a seat may rely on
-      pub fits : v.closed ≡ None → Fits m t J v
-      fits was_open =
+      pub fits : Counted m t (reverse J) s → v.closed ≡ None → Fits m t J v
+      fits counted was_open =
           let seat = k.seated id v at in record {
             limits = k.limits.0;
             run = k.ledger.run;
@@ -106,19 +108,39 @@ module _ {G E P N F : Type 0} (m : Meaning G E P N F) (t : Terms G) where
             parts = seat.parts was_open;
             facts = seat.facts;
             sent = seat.sent;
+            claims = claimed_is m t J s counted id v at;
             sole = lone;
             alone = lone_mail;
           }
 
-      pub sees : 0 < v.root + v.seat → Sees m v
-      sees is_out t' terms unclosed = subst (λ q. (K : List E) × Fits m q K v) (same_terms t t' (sym ((k.seated id v at).terms is_out) ∙ terms)) (J, fits unclosed)
+      pub sees : Counted m t (reverse J) s → 0 < v.root + v.seat → Sees m v
+      sees counted is_out t' terms unclosed = subst (λ q. (K : List E) × Fits m q K v) (same_terms t t' (sym ((k.seated id v at).terms is_out) ∙ terms)) (J, fits counted unclosed)
 
-      pub sees_open : 0 < v.root + v.seat → Open m.stops J → SeesOpen m v
-      sees_open is_out op t' terms unclosed = subst (λ q. (K : List E) × Fits m q K v × Open m.stops K) (same_terms t t' (sym ((k.seated id v at).terms is_out) ∙ terms)) (J, fits unclosed, op)
+      pub sees_open : Counted m t (reverse J) s → 0 < v.root + v.seat → Open m.stops J → SeesOpen m v
+      sees_open counted is_out op t' terms unclosed = subst (λ q. (K : List E) × Fits m q K v × Open m.stops K) (same_terms t t' (sym ((k.seated id v at).terms is_out) ∙ terms)) (J, fits counted unclosed, op)
 
       pub sees_end : 0 < v.root + v.seat → Ended m.stops J → SeesEnd m v
       sees_end is_out ended t' terms = subst (λ q. (K : List E) × Over m q K v) (same_terms t t' (sym ((k.seated id v at).terms is_out) ∙ terms))
           (J, record { run = k.ledger.run; log = (k.seated id v at).log; joined = (k.seated id v at).joined; ended = ended; sole = lone })
+
+-- whatever slot a seat carries, it may rely on the same
+pub fits_carried : {G E P N F : Type 0} (m : Meaning G E P N F) (t : Terms G) (J : List E) (v : View G E P N F) (o q : Option ℕ) → Fits m t J record v { carried = o } → Fits m t J record v { carried = q }
+fits_carried m t J v o q f = record {
+  limits = f.limits;
+  run = f.run;
+  log = f.log;
+  joined = f.joined;
+  distinct = f.distinct;
+  unmade = f.unmade;
+  own = f.own;
+  owed = f.owed;
+  sent = f.sent;
+  parts = f.parts;
+  facts = f.facts;
+  claims = λ n has. let c = f.claims n has in record { set = c.set; unended = c.unended; begun = c.begun; tied = c.tied };
+  sole = f.sole;
+  alone = f.alone;
+}
 
 -- the seat that stepped has its new view
 pub stepped_at : {V : Type 0} (vs : List V) (id : ℕ) (v w : V) → get_elem? vs id ≡ some v → get_elem? (slice_set vs id w) id ≡ some w

@@ -1,5 +1,5 @@
 -- The steps on the commit word keep the rule.
-use Rattle.std.proofs.Common.{◌≡◌, ◌≢◌, ℕ, zero, suc, ◌+◌, ◌-◌, ◌*◌, ◌%◌, ◌^◌, ◌<◌, ◌≤◌, ◌⊎◌, inl, inr, ⊎_elim, Bool, true, false, ◌&&◌, List, [], ◌∷◌, ◌++◌, length, set, reverse, refl, ap, sym, subst, ◌∙◌, arith, length-append, get_or-set_same, get_or-set_other, None, Some, Option}
+use Rattle.std.proofs.Common.{◌≡◌, ◌≢◌, ℕ, ◌+◌, ◌%◌, ◌<◌, ◌≤◌, inl, inr, ⊎_elim, Bool, true, false, ◌&&◌, List, [], ◌∷◌, ◌++◌, length, reverse, refl, ap, sym, subst, ◌∙◌, arith, length-append, get_or-set_same, get_or-set_other, None, Some, Option}
 use Rattle.std.specs.Prelude.{slice_index, slice_set, MatchOption}
 use Rattle.std.proofs.Math.ListN.{length-set}
 use Rattle.std.proofs.lemmas.List.{set-get_or, reverse-append}
@@ -7,22 +7,22 @@ use mathlib.Core.Option.{some}
 use mathlib.Core.Logic.{dite}
 use native.Mathlib.Decide.{dec_le}
 use lib.ListN.{get_elem?}
-use Rattle.atomic_table.specs.Table.{State, Me, keeps, stepped, Step, step}
+use Rattle.atomic_table.specs.Table.{State, keeps, stepped}
 use Rattle.atomic_table.proofs.Lists.{set_again, at_last}
-use Rattle.ocr_mail.specs.Mail.{tally, named, without, Has}
+use Rattle.ocr_mail.specs.Mail.{tally, named, without}
 use Rattle.ocr_turns.specs.Contract.{Next, MayCommit, MayClose}
-use Rattle.ocr_turns.specs.Counting.{Counted, CountingLaws, MayCome, debts_by, leaves, tied_to}
-use Rattle.ocr_turns.specs.Owing.{listed, AreInRange, both_debts, times, without_all}
+use Rattle.ocr_turns.specs.Counting.{Counted, CountingLaws, MayCome, leaves}
+use Rattle.ocr_turns.specs.Owing.{listed, AreInRange, both_debts, times}
 use Rattle.ocr_turns.specs.Meaning.{Meaning, Lawful, IsBare, Run, Open, Ended}
-use Rattle.ocr_turns.specs.Rule.{weighed, LogOf, Seated, Kept, Holds, OPEN, RunsIn, OwnsAll, mail, PartsOf}
+use Rattle.ocr_turns.specs.Rule.{weighed, LogOf, Seated, Kept, Holds, OPEN, RunsIn, OwnsAll, mail}
 use Rattle.ocr_turns.specs.Steps.{Deed, deed, limit_of, logged, ended_by, shut_by, commits, closes, looks, SeesEnd}
-use Rattle.ocr_turns.specs.Sums.{made_sum, up_to, total, weigh, one_at, sum_of, below, weigh_all, load_of, replace_all, less_all, is_free}
+use Rattle.ocr_turns.specs.Sums.{made_sum, up_to, total, weigh, one_at, sum_of, below, weigh_all, replace_all, is_free}
 use Rattle.ocr_turns.specs.declared.view.View.{View}
 use Rattle.ocr_turns.specs.declared.view.Terms.{Terms}
 use Rattle.ocr_turns.proofs.Bounds.{short, shut_most, fits, sees, sees_open, sees_end, stepped_at}
 use Rattle.ocr_turns.proofs.Histories.{run_more, open_more, log_later, log_more, rises_more, sent_later, sent_more, mail_more, own_same, own_both, ran, no_start}
 use Rattle.ocr_turns.proofs.Numbered.{keys_replace_all, weigh_keys, at_replace_all}
-use Rattle.ocr_turns.proofs.Same.{keeps_at, after, total_same, ledger_same, numbers_same, numbers_more, places_same, roster_same, owed_same, seated_each}
+use Rattle.ocr_turns.proofs.Same.{keeps_at, after, total_same, numbers_same, numbers_more, places_same, roster_same, owed_same, seated_each}
 use Rattle.ocr_turns.proofs.Apart.{counted_beside}
 use Rattle.ocr_turns.proofs.Ranges.{deed_owed}
 use Rattle.ocr_turns.proofs.Entered.{entered_kept, adds_none, without_none}
@@ -69,7 +69,7 @@ module _ {G E P N F : Type 0} (m : Meaning G E P N F) (t : Terms G) where
   module _ (J : List E) (s : State (Option P) (View G E P N F)) (k : Kept m t J s) (cnt : Counted m t (reverse J) s) (id : ℕ) (v : View G E P N F) (at : get_elem? s.views id ≡ some v) (was_open : v.closed ≡ None) (is_out : 0 < v.root + v.seat) where
     -- a step on the commit word by which the seat learns no more than that the run has ended
     pub counted_shut : (n x : ℕ) → Counted m t (reverse J) (after s (slice_set s.words 0 x) s.homes id (shut_by v n))
-    counted_shut n x = counted_beside m t (reverse J) s cnt id v (shut_by v n) at refl refl is_out (λ p. omega arith) 0 x s.homes (omega arith) refl
+    counted_shut n x = counted_beside m t (reverse J) s cnt id v (shut_by v n) at refl refl is_out (λ p. omega arith) (λ q b. b) 0 x s.homes (omega arith) refl
 
     some_words : 0 < length s.words
     some_words = let w = k.places.words in omega arith
@@ -137,7 +137,7 @@ module _ {G E P N F : Type 0} (m : Meaning G E P N F) (t : Terms G) where
         (λ h. let len = h.0 in let lim = short m t J s k in let sh = k.share in
         let ws : slice_set s.words 0 (slice_index s.words 0) ≡ s.words = set-get_or s.words 0 0 in
         let vs : slice_set s.views id v ≡ s.views = set_again s.views id v at in
-        (v, (record { history = J; kept = subst (Kept m t J) (λ i. record { words = sym ws i; homes = s.homes; views = sym vs i }) k; counted = subst (Counted m t (reverse J)) (λ i. record { words = sym ws i; homes = s.homes; views = sym vs i }) cnt }, (refl, inl (omega arith, refl, sees_open m t J s k id v at is_out h.1)))))
+        (v, (record { history = J; kept = subst (Kept m t J) (λ i. record { words = sym ws i; homes = s.homes; views = sym vs i }) k; counted = subst (Counted m t (reverse J)) (λ i. record { words = sym ws i; homes = s.homes; views = sym vs i }) cnt }, (refl, inl (omega arith, refl, sees_open m t J s k id v at cnt is_out h.1)))))
         (λ h. let past = h.0 in
         let same : (slice_index s.words 0 + 0) % 18446744073709551616 ≡ slice_index s.words 0 = omega arith in
         (shut_by v (slice_index s.words 0), (record { history = J; kept = subst (λ (x : ℕ). Kept m t J (after s (slice_set s.words 0 x) s.homes id (shut_by v (slice_index s.words 0)))) same (refused 0 (omega arith) past h.1); counted = counted_shut (slice_index s.words 0) (slice_index s.words 0) }, (refl, inr (past, refl, told_end 0 (omega arith) past h.1)))))
@@ -238,25 +238,25 @@ module _ {G E P N F : Type 0} (m : Meaning G E P N F) (laws : Lawful m) (claws :
           (λ none. omega arith)
 
       may_come : Open m.stops J → MayCome m t (reverse J) e
-      may_come op = let twice = reverse_twice J in let next_is : Next m t J v done = may.legal J op (fits m t J s k id v at was_open) in
+      may_come op = let twice = reverse_twice J in let next_is : Next m t J v done = may.legal J op (fits m t J s k id v at cnt was_open) in
           record { limits = k.limits.0; run = subst (Run (m.legal t.setting.value t.limit)) (sym twice) k.ledger.run; legal = subst (λ l. m.legal t.setting.value t.limit l e) (sym twice) next_is.legal }
 
       -- what it makes was drawn, and is not made
       unmade_yet : Open m.stops J → (n : ℕ) → 1 ≤ sum_of (one_at n) (m.makes e) → (1 ≤ n) × (n ≤ t.limit) × (up_to (one_at n) m.opened + made_sum m.makes (one_at n) (reverse (reverse J)) ≡ 0)
       unmade_yet op n has =
-          let sum = less_all_sum (one_at n) (m.makes e) v.drawn may.drawn in let free = (fits m t J s k id v at was_open).unmade n (omega arith) in
+          let sum = less_all_sum (one_at n) (m.makes e) v.drawn may.drawn in let free = (fits m t J s k id v at cnt was_open).unmade n (omega arith) in
           let a = free.unopened in let b = free.unmade in let same = ap (made_sum m.makes (one_at n)) (reverse_twice J) in (free.least, free.most, omega arith)
 
       -- what it adds to what the seat owes
       adds_owed : Open m.stops J → AreInRange (limit_of v.terms) done.debts []
       adds_owed op =
-          let next_is : Next m t J v done = may.legal J op (fits m t J s k id v at was_open) in
+          let next_is : Next m t J v done = may.legal J op (fits m t J s k id v at cnt was_open) in
           subst (λ l. AreInRange l done.debts []) (sym (ap limit_of ((k.seated id v at).terms is_out)))
           (deed_owed m claws t (reverse J) e (may_come op) cnt.told (λ n has. let r = unmade_yet op n has in (r.0, r.1)) (m.counting.wakes t.limit e v.parts) (ap (λ l. m.counting.resumes t.setting.value t.limit l e) (reverse_twice J) ∙ next_is.wakes) (m.counting.counts t.limit e v.parts) (ap (λ l. listed (m.counting.creates t.setting.value t.limit l e)) (reverse_twice J) ∙ next_is.counts))
 
       counted_entered : Open m.stops J → Counted m t (reverse (J ++ e ∷ [])) (after s (grown s.words 1) s.homes id (logged v (slice_index s.words 0) done))
       counted_entered op =
-          let next_is : Next m t J v done = may.legal J op (fits m t J s k id v at was_open) in
+          let next_is : Next m t J v done = may.legal J op (fits m t J s k id v at cnt was_open) in
           let twice = reverse_twice J in
           let wakes : m.counting.resumes t.setting.value t.limit (reverse (reverse J)) e ≡ done.debts.resumes = ap (λ l. m.counting.resumes t.setting.value t.limit l e) twice ∙ next_is.wakes in
           let counts : listed (m.counting.creates t.setting.value t.limit (reverse (reverse J)) e) ≡ done.debts.made = ap (λ l. listed (m.counting.creates t.setting.value t.limit l e)) twice ∙ next_is.counts in
@@ -267,7 +267,7 @@ module _ {G E P N F : Type 0} (m : Meaning G E P N F) (laws : Lawful m) (claws :
           s cnt id v (logged v (slice_index s.words 0) done) at is_out (grown s.words 1) (same_length s.words 1)
           (λ i beyond. get_or-set_other s.words 0 i ((slice_index s.words 0 + 1) % 18446744073709551616) 0 (λ z. absurd (omega arith)))
           (λ i. both_debts v.debts (record { unput = listed (m.counting.sets e); put = []; made = sym counts i; resumes = sym wakes i; lasts = [] })) refl
-          may.claims.starts may.claims.waits (λ n has. may.claims.resumes n (let same = ap (times n) wakes in omega arith))
+          (slice_index s.words 0, refl, refl) may.claims.starts may.claims.waits (λ n has. may.claims.resumes n (let same = ap (times n) wakes in omega arith))
           (λ p has. let r = may.keeps p in let a = r.0 in let b = r.1 in omega arith) same_keys alone_at)
 
       entered : slice_index s.words 0 ≡ length J → Open m.stops J → total (λ (u : View G E P N F). u.ended) s.views ≡ 0 → CommitGoal
@@ -275,7 +275,7 @@ module _ {G E P N F : Type 0} (m : Meaning G E P N F) (laws : Lawful m) (claws :
           let n = slice_index s.words 0 in let ws = grown s.words 1 in
           let w : View G E P N F = logged v n done in
           let seat = k.seated id v at in
-          let can = fits m t J s k id v at was_open in
+          let can = fits m t J s k id v at cnt was_open in
           let next_is : Next m t J v done = may.legal J op can in
           let ok : m.legal t.setting.value t.limit J e = next_is.legal in
           let lim = short m t J s k in let sh = k.share in
@@ -328,7 +328,7 @@ module _ {G E P N F : Type 0} (m : Meaning G E P N F) (laws : Lawful m) (claws :
             roster = roster_same m t J s id v w at ws s.homes k.roster refl refl refl refl refl;
             seated = seated_each m t J s id v w at ws s.homes (J ++ e ∷ []) mine (λ i u ne u_at. later ok op u (k.seated i u u_at) (theirs i u ne u_at) (not_theirs i u ne u_at ok));
           } in
-          (w, (record { history = J ++ e ∷ []; kept = now; counted = counted_entered op }, (refl, inl (omega arith, refl, (sees m t (J ++ e ∷ []) (after s ws s.homes id w) now id w (stepped_at s.views id v w at) is_out, adds_owed op)))))
+          (w, (record { history = J ++ e ∷ []; kept = now; counted = counted_entered op }, (refl, inl (omega arith, refl, (sees m t (J ++ e ∷ []) (after s ws s.homes id w) now id w (stepped_at s.views id v w at) (counted_entered op) is_out, adds_owed op)))))
 
       pub commit_at : CommitGoal
       commit_at = ⊎_elim (λ h. entered h.0 h.1 h.2)
@@ -350,7 +350,7 @@ module _ {G E P N F : Type 0} (m : Meaning G E P N F) (laws : Lawful m) (claws :
       counted_stopped : Open m.stops J → Counted m t (reverse (J ++ e ∷ [])) (after s (grown s.words 281474976710657) s.homes id (ended_by v (slice_index s.words 0) e))
       counted_stopped op =
           let bare : IsBare m e = laws.bare e may.stops in let twice = reverse_twice J in
-          let can = fits m t J s k id v at was_open in
+          let can = fits m t J s k id v at cnt was_open in
           let wakes = bare.resumes t.setting.value t.limit (reverse (reverse J)) in
           subst (λ l. Counted m t l (after s (grown s.words 281474976710657) s.homes id (ended_by v (slice_index s.words 0) e))) (sym (reverse-append J (e ∷ [])))
           (entered_kept m claws laws t (reverse J) e
@@ -360,6 +360,7 @@ module _ {G E P N F : Type 0} (m : Meaning G E P N F) (laws : Lawful m) (claws :
           (λ i beyond. get_or-set_other s.words 0 i ((slice_index s.words 0 + 281474976710657) % 18446744073709551616) 0 (λ z. absurd (omega arith)))
           (adds_none m e v.debts (m.counting.resumes t.setting.value t.limit (reverse (reverse J)) e) (m.counting.creates t.setting.value t.limit (reverse (reverse J)) e) (bare.creates t.setting.value t.limit (reverse (reverse J))) bare.sets wakes)
           (without_none (leaves m e) v.claims (λ n. ap (λ b. b && m.ends e n) (bare.runs n)))
+          (slice_index s.words 0, refl, refl)
           (λ n on. let off = no_start m laws e n (bare.runs n) in absurd (cc (on, off)))
           (λ n p on. let off = bare.waits n in absurd (cc (on, off)))
           (λ n has. let none = ap (times n) wakes in absurd (omega arith))
@@ -374,7 +375,7 @@ module _ {G E P N F : Type 0} (m : Meaning G E P N F) (laws : Lawful m) (claws :
           let n = slice_index s.words 0 in let ws = grown s.words 281474976710657 in
           let w : View G E P N F = ended_by v n e in
           let seat = k.seated id v at in let bare : IsBare m e = laws.bare e may.stops in
-          let ok : m.legal t.setting.value t.limit J e = may.legal J op (fits m t J s k id v at was_open) in
+          let ok : m.legal t.setting.value t.limit J e = may.legal J op (fits m t J s k id v at cnt was_open) in
           let lim = short m t J s k in let sh = k.share in
           let is : (n + 281474976710657) % 18446744073709551616 ≡ n + 281474976710657 = omega arith in
           let word : slice_index ws 0 ≡ n + 281474976710657 = commit_word s.words 281474976710657 (some_words m t J s k cnt id v at was_open is_out) ∙ is in

@@ -137,6 +137,7 @@ module _ {G E P N F : Type 0} (m : Meaning G E P N F) (t : Terms G) (past : List
             made = old.made;
             claims = old.claims;
             tied = old.tied;
+            begun = old.begun;
             spent = λ z. absurd (omega arith);
           });
         }
@@ -201,7 +202,7 @@ module _ {G E P N F : Type 0} (m : Meaning G E P N F) (t : Terms G) (past : List
       payload = λ a b y is none. let r' = known a b y is in
           get_or-set_other s.words (state_at homes n) (payload_at homes a b) fallen 0 (payload_no_state homes a b n r'.0 r'.2 r.0)
           ∙ k.payload a b y is (sym (same_total (λ u. tally (of_slot a b) u.debts.unput) counted refl) ∙ none);
-      seated = seated_with counted (let old = k.seated id v at in record { unput = old.unput; made = old.made; claims = old.claims; tied = old.tied; spent = λ z. absurd (omega arith) });
+      seated = seated_with counted (let old = k.seated id v at in record { unput = old.unput; made = old.made; claims = old.claims; tied = old.tied; begun = old.begun; spent = λ z. absurd (omega arith) });
     }
 
   -- A MAKING IS COUNTED
@@ -259,6 +260,7 @@ module _ {G E P N F : Type 0} (m : Meaning G E P N F) (t : Terms G) (past : List
         made = λ i a q there. let h = at_remove n v.debts.made i a q there in old.made h.0 a q h.1;
         claims = old.claims;
         tied = old.tied;
+        begun = old.begun;
         spent = λ z. absurd (omega arith);
       });
     }
@@ -296,11 +298,12 @@ module _ {G E P N F : Type 0} (m : Meaning G E P N F) (t : Terms G) (past : List
     claim_kept is =
         let w : Vs = claiming v n in let old = k.seated id v at in
         let r = ready (slots_of m t past n) (before n) (k.each n lo hi) is in let bare = r.0.bare in
+        let unended : is_true (is_ended m t past n) ≡ 0 = none_ended (is_ended m t past n) (λ on. let begun = ap is_true (k.told.ends n on) in absurd (omega arith)) in
         turned_kept n BUSY w lo hi (refl, refl, refl, refl) (λ a ne. ((let h = claims_more a in let z = one_else a n ne in omega arith), refl))
         (claimed (slots_of m t past n) (before n) (after (state_at homes n) BUSY w n) (k.each n lo hi) is (word_after BUSY)
         (same_total (λ u. making n u.debts.made) w refl) (same_total (λ u. owed_slots (of_edt n) u.debts) w refl) refl
         (let to = tot (λ u. times n u.claims) w in let h = claims_more n in let o = one_here n in omega arith)
-        (same_total (λ u. times n u.debts.resumes) w refl) (ap (λ z. z + one_at m.first.0 n) (same_total (λ u. times n u.debts.lasts) w refl)))
+        (same_total (λ u. times n u.debts.resumes) w refl) unended (ap (λ z. z + one_at m.first.0 n) (same_total (λ u. times n u.debts.lasts) w refl)))
         (record {
           unput = old.unput;
           made = old.made;
@@ -308,9 +311,16 @@ module _ {G E P N F : Type 0} (m : Meaning G E P N F) (t : Terms G) (past : List
           tied = λ a p has is_tied. dite (ℕ_discrete a n)
               (λ e. absurd (loose (is_started m t past n) (is_ended m t past n) (awaited m t past n) p refl (omega arith) (omega arith) (subst (λ z. tied_to m t past z ≡ Some p) e is_tied)))
               (λ ne. old.tied a p (let h = claims_more a in let z = one_else a n ne in omega arith) is_tied);
+          begun = λ a has is_begun. dite (ℕ_discrete a n)
+              (λ e. absurd (let on = ap is_true (subst (λ z. is_started m t past z ≡ true) e is_begun) in omega arith))
+              (λ ne. old.begun a (let h = claims_more a in let z = one_else a n ne in omega arith) is_begun);
           spent = λ z. absurd (omega arith);
         })
       where
+        none_ended : (b : Bool) → (b ≡ true → ⊥) → is_true b ≡ 0
+        none_ended true never = absurd (never refl)
+        none_ended false never = refl
+
         loose : (b e : Bool) (o : Option ℕ) (p : ℕ) → is_started m t past n ≡ b → is_true b ≡ 0 → 1 - is_none o ≡ 0 → (if b then (if e then None else Some (m.core t.limit n)) else o) ≡ Some p → ⊥
         loose true e o p at z w is = absurd (omega arith)
         loose false e None p at z w is = cc is
@@ -335,6 +345,7 @@ module _ {G E P N F : Type 0} (m : Meaning G E P N F) (t : Terms G) (past : List
           made = old.made;
           claims = λ a some_claim. old.claims a (let h = claims_less has a in omega arith);
           tied = λ a q some_claim is_tied. old.tied a q (let h = claims_less has a in omega arith) is_tied;
+          begun = λ a some_claim. old.begun a (let h = claims_less has a in omega arith);
           spent = λ z. absurd (omega arith);
         })
 
@@ -351,4 +362,4 @@ module _ {G E P N F : Type 0} (m : Meaning G E P N F) (t : Terms G) (past : List
         (same_total (λ u. making n u.debts.made) w refl) (same_total (λ u. owed_slots (of_edt n) u.debts) w refl) refl
         (same_total (λ u. times n u.claims) w refl)
         (let to = tot (λ u. times n u.debts.resumes) w in let h = resumes_less has n in let o = one_here n in omega arith) refl refl (ap (λ z. z + one_at m.first.0 n) (same_total (λ u. times n u.debts.lasts) w refl)))
-        (record { unput = old.unput; made = old.made; claims = old.claims; tied = old.tied; spent = λ z. absurd (omega arith) })
+        (record { unput = old.unput; made = old.made; claims = old.claims; tied = old.tied; begun = old.begun; spent = λ z. absurd (omega arith) })

@@ -90,7 +90,7 @@ module _ {G E P N F : Type 0} (m : Meaning G E P N F) (t : Terms G) where
               kept = drew v.drawn (Some n) (Some n) (v.filled + 1) k.numbers.drawn
                   (inr (⊎_elim (λ z. let a = z.0 in let b = z.1 in omega arith) (λ z. z.0) k.numbers.draws, omega arith))
                   (λ f. refl) (omega arith) (omega arith) (omega arith);
-              counted = counted_beside m t (reverse J) s cnt id v (filled_by v n) at refl refl is_out (λ p. omega arith) 8 ((n + 1) % 18446744073709551616) s.homes (omega arith) refl;
+              counted = counted_beside m t (reverse J) s cnt id v (filled_by v n) at refl refl is_out (λ p. omega arith) (λ q b. b) 8 ((n + 1) % 18446744073709551616) s.homes (omega arith) refl;
             },
             (refl, inr (omega arith, refl)),
           ),
@@ -101,16 +101,17 @@ module _ {G E P N F : Type 0} (m : Meaning G E P N F) (t : Terms G) where
         let now = drew (v.drawn ++ (n + 1) ∷ []) v.full v.reached v.filled (n + 1)
         (inl (refl, omega arith))
         (λ f. let a = sum_append f v.drawn ((n + 1) ∷ []) in let b = next_number f n in let c = ap (up_to f) is in omega arith)
-        (omega arith) (none v.reached (k.numbers.reached id v at)) seat.filled in (
+        (omega arith) (none v.reached (k.numbers.reached id v at)) seat.filled in
+        let counted = counted_beside m t (reverse J) s cnt id v (with_drawn v (n + 1)) at refl refl is_out (λ p. omega arith) (λ q b. b) 8 ((n + 1) % 18446744073709551616) s.homes (omega arith) refl in (
           with_drawn v (n + 1),
           (
-            record { history = J; kept = now; counted = counted_beside m t (reverse J) s cnt id v (with_drawn v (n + 1)) at refl refl is_out (λ p. omega arith) 8 ((n + 1) % 18446744073709551616) s.homes (omega arith) refl },
+            record { history = J; kept = now; counted = counted },
             (
               refl,
               inl (
                 omega arith,
                 refl,
-                sees m t J (after s next s.homes id (with_drawn v (n + 1))) now id (with_drawn v (n + 1)) (stepped_at s.views id v (with_drawn v (n + 1)) at) is_out,
+                sees m t J (after s next s.homes id (with_drawn v (n + 1))) now id (with_drawn v (n + 1)) (stepped_at s.views id v (with_drawn v (n + 1)) at) counted is_out,
               ),
             ),
           ),

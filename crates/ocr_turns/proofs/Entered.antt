@@ -1,5 +1,5 @@
 -- The step that enters an entry keeps the second rule.
-use Rattle.std.proofs.Common.{◌≡◌, ◌≢◌, ℕ, zero, suc, ◌+◌, ◌-◌, ◌*◌, ◌<◌, ◌≤◌, ◌⊎◌, inl, inr, ⊎_elim, Bool, true, false, ◌||◌, ◌&&◌, if◌then◌else◌, List, [], ◌∷◌, ◌++◌, length, reverse, refl, ap, sym, subst, ◌∙◌, arith, None, Some, Option}
+use Rattle.std.proofs.Common.{◌≡◌, ◌≢◌, ℕ, zero, suc, ◌+◌, ◌-◌, ◌<◌, ◌≤◌, ◌⊎◌, inl, inr, ⊎_elim, Bool, true, false, ◌||◌, ◌&&◌, if◌then◌else◌, List, [], ◌∷◌, ◌++◌, length, reverse, refl, ap, sym, subst, ◌∙◌, arith, None, Some, Option}
 use Rattle.std.specs.Prelude.{slice_index, slice_set}
 use mathlib.Core.Option.{some, some-injective, some-ne-none}
 use mathlib.Core.Logic.{dite}
@@ -11,14 +11,15 @@ use Rattle.ocr_mail.specs.Mail.{tally}
 use Rattle.ocr_turns.specs.declared.debts.Debts.{Debts}
 use Rattle.ocr_turns.specs.declared.view.View.{View}
 use Rattle.ocr_turns.specs.declared.view.Terms.{Terms}
-use Rattle.ocr_turns.specs.Counting.{CountingLaws, MayCome, Consistent, IsReady, Account, IsInOrder, IsCounting, IsBusy, IsParked, IsBlank, Counted, Stakes, account, slots_of, payload_of, awaited, tied_to, is_started, is_ended, is_in, is_none, is_true, unset_of, debts_by, leaves, state_at, payload_at}
+use Rattle.ocr_turns.specs.Counting.{CountingLaws, MayCome, Account, IsInOrder, IsCounting, IsBusy, IsParked, IsBlank, Counted, Stakes, account, slots_of, payload_of, awaited, tied_to, is_started, is_ended, is_in, is_none, is_true, unset_of, debts_by, leaves, state_at, payload_at}
 use Rattle.ocr_turns.specs.Meaning.{Meaning, Lawful}
 use Rattle.ocr_turns.specs.Owing.{listed, making, owed_slots, of_edt, of_slot, times, without_all, both_debts}
-use Rattle.ocr_turns.specs.Sums.{is_free, total, weigh, below, sum_of, one_at, up_to, made_sum, is_among}
+use Rattle.ocr_turns.specs.Sums.{is_free, total, weigh, below, sum_of, one_at, up_to, made_sum}
 use Rattle.ocr_turns.proofs.Totals.{total_set, total_one, total_two, tally_append, sum_append}
 use Rattle.ocr_turns.proofs.Accounts.{busy}
-use Rattle.ocr_turns.proofs.Owing.{some_view, making_append, making_at, tally_at, slot_here, slot_else, times_without, in_times, below_same, below_one, below_all, below_zero, is_some}
-use Rattle.ocr_turns.proofs.Slots.{bools, options, clash, none_is, some_is, true_is, count_here, count_else, makes_for, pay_here, pay_else, sets_for, slot_for, waits_after, after_none, after_resumed, after_same, tied_back, tied_now, created_none, slots_later, payload_later, told_more}
+use Rattle.ocr_turns.proofs.Claims.{begun_now, begun_more}
+use Rattle.ocr_turns.proofs.Owing.{some_view, making_append, times_without, in_times, below_same, below_one, below_all}
+use Rattle.ocr_turns.proofs.Slots.{bools, options, clash, none_is, count_here, count_else, makes_for, pay_here, pay_else, sets_for, slot_for, after_none, after_resumed, after_same, tied_back, tied_now, or_of, created_none, slots_later, payload_later, told_more}
 
 nil_append : {A : Type 0} (xs : List A) → xs ++ [] ≡ xs
 nil_append [] = refl
@@ -43,7 +44,7 @@ module _ {G E P N F : Type 0} (m : Meaning G E P N F) (laws : CountingLaws m) (r
     (s : State (Option P) (View G E P N F)) (k : Counted m t past s) (id : ℕ) (v w : View G E P N F) (at : get_elem? s.views id ≡ some v) (is_out : 0 < w.root + w.seat)
     (words : List ℕ) (same_length : length words ≡ length s.words) (same_words : (i : ℕ) → 16 + length s.homes ≤ i → slice_index words i ≡ slice_index s.words i)
     (debts : w.debts ≡ both_debts v.debts (debts_by m e (m.counting.resumes t.setting.value t.limit (reverse past) e) (m.counting.creates t.setting.value t.limit (reverse past) e))) (claims : w.claims ≡ without_all (leaves m e) v.claims)
-    (starter : (n : ℕ) → m.starts e n ≡ true → 1 ≤ times n v.claims) (waiter : (n p : ℕ) → m.counting.waits e n ≡ Some p → 1 ≤ times n v.claims)
+    (log : (num : ℕ) × (w.log ≡ v.log ++ (num, e) ∷ []) × (w.joined ≡ v.joined)) (starter : (n : ℕ) → m.starts e n ≡ true → 1 ≤ times n v.claims) (waiter : (n p : ℕ) → m.counting.waits e n ≡ Some p → 1 ≤ times n v.claims)
     (sleeps : (n : ℕ) → 1 ≤ times n (m.counting.resumes t.setting.value t.limit (reverse past) e) → times n v.claims ≡ 0)
     (keeps : (p : ℕ) → 1 ≤ m.touches t.limit e p → 1 ≤ weigh (one_at p) v.parts) (same_parts : (p : ℕ) → weigh (one_at p) w.parts ≡ weigh (one_at p) v.parts)
     (sole : (i : ℕ) (u : View G E P N F) → i ≢ id → get_elem? s.views i ≡ some u → (p : ℕ) → 1 ≤ weigh (one_at p) v.parts → weigh (one_at p) u.parts ≡ 0) where
@@ -214,46 +215,66 @@ module _ {G E P N F : Type 0} (m : Meaning G E P N F) (laws : CountingLaws m) (r
         let cl : claims_now n ≤ claims_before n = ⊎_elim (λ y. let z = y.1 in omega arith) (λ y. let z = y.1 in omega arith) (claims_after n) in
         record { word = omega arith; most = omega arith; bare = omega arith; once = (let o = h.once in let z = ap is_free same in let l = same_lasts n in omega arith) }
 
+    -- whoever enters an entry on the place that the claim of an EDT is tied to has the claim
+    holder : IsBusy (before n) → is_ended m t past n ≡ false → (p : ℕ) → tied_to m t past n ≡ Some p → 1 ≤ m.touches t.limit e p → 1 ≤ times n v.claims
+    holder h goes_on p tied touched =
+        let unended = ap is_true goes_on in let held = h.held in
+        let there = some_view (λ (u : Vs). times n u.claims) s.views (omega arith) in
+        let his = (k.seated there.0 there.1 there.2).tied n p there.3 tied in
+        let mine_too = keeps p touched in
+        dite (ℕ_discrete there.0 id)
+        (λ eq. let same = some-injective there.1 v (sym there.2 ∙ (ap (get_elem? s.views) eq ∙ at)) in let z = ap (λ u. times n u.claims) same in let some_claim = there.3 in omega arith)
+        (λ ne. let z = sole there.0 there.1 ne there.2 p mine_too in absurd (omega arith))
+
     -- an EDT whose claim a view has is resumed by no entry of another
     busy_sleeps : IsBusy (before n) → times n woken ≡ 0
     busy_sleeps h = dite (dec_le 1 (times n woken))
         (λ y.
         let law = (laws.resuming t past e n may y).1 in let p : ℕ = law.0 in
         let rest = k.told.rests n p law.1 in
-        let unended = ap is_true rest.1 in let held = h.held in
-        let there = some_view (λ (u : Vs). times n u.claims) s.views (omega arith) in
         let tied : tied_to m t past n ≡ Some p = ap (λ b. if b then (if is_ended m t past n then None else Some (m.core t.limit n)) else awaited m t past n) rest.0 ∙ law.1 in
-        let his = (k.seated there.0 there.1 there.2).tied n p there.3 tied in
-        let mine_too = keeps p law.2 in let none = sleeps n y in
-        dite (ℕ_discrete there.0 id)
-        (λ eq. let same = some-injective there.1 v (sym there.2 ∙ (ap (get_elem? s.views) eq ∙ at)) in let z = ap (λ u. times n u.claims) same in let some_claim = there.3 in absurd (omega arith))
-        (λ ne. let z = sole there.0 there.1 ne there.2 p mine_too in absurd (omega arith)))
+        let mine_too = holder h rest.1 p tied law.2 in let none = sleeps n y in absurd (omega arith))
         (λ y. omega arith)
+
+    -- who ends it has its claim
+    busy_ends : IsBusy (before n) → m.ends e n ≡ true → (leaves m e n ≡ true) × (is_ended m t past n ≡ false) × (1 ≤ times n v.claims)
+    busy_ends h on =
+        let law = laws.ending t past e n may on in
+        let touched = runs.on_core t.setting.value t.limit (reverse past) e n may.limits may.run may.legal law.0 in
+        let tied : tied_to m t past n ≡ Some (m.core t.limit n) = (λ i. if law.1 i then (if law.2 i then None else Some (m.core t.limit n)) else awaited m t past n) in
+        ((λ i. law.0 i && on i), law.2, holder h law.2 (m.core t.limit n) tied touched)
 
     ended_on : m.ends e n ≡ true → is_true (is_ended m t (e ∷ past) n) ≡ 1
     ended_on on = ap (λ b. is_true (b || is_ended m t past n)) on
 
-    ended_more : is_true (is_ended m t past n) ≤ is_true (is_ended m t (e ∷ past) n)
-    ended_more = more (m.ends e n) (is_ended m t past n)
-      where
-        more : (a b : Bool) → is_true b ≤ is_true (a || b)
-        more true true = omega arith
-        more true false = omega arith
-        more false b = omega arith
+    ended_same : m.ends e n ≡ false → is_true (is_ended m t (e ∷ past) n) ≡ is_true (is_ended m t past n)
+    ended_same off = ap (λ b. is_true (b || is_ended m t past n)) off
 
     both_on : (a b : Bool) → (a && b) ≡ true → b ≡ true
     both_on true b is = is
     both_on false b is = cc is
 
+    -- it is claimed or has ended, as before, or ends by the entry of whoever has its claim
+    still_held : IsBusy (before n) → claims_now n + is_true (is_ended m t (e ∷ past) n) ≡ 1
+    still_held h =
+        let held = h.held in let my = mine n in
+        ⊎_elim
+        (λ on. let r = busy_ends h on in let now = ended_on on in let unended = ap is_true r.1 in let some_claim = r.2 in
+        ⊎_elim (λ y. let cl = y.1 in omega arith) (λ y. let is = r.0 in let off = y.0 in absurd (cc (is, off))) (claims_after n))
+        (λ off. let same = ended_same off in
+        ⊎_elim (λ y. let is = both_on (m.runs e n) (m.ends e n) y.0 in absurd (cc (is, off))) (λ y. let cl = y.1 in omega arith) (claims_after n))
+        (bools (m.ends e n))
+
     from_busy : IsBusy (before n) → IsBusy (after n)
     from_busy h =
-        let word = h.word in let same = same_word n in let counted = h.counted in let one = h.one in let held = h.held in let none_owed = h.none in
+        let word = h.word in let same = same_word n in let counted = h.counted in let none_owed = h.none in
         let sum1 = more_made n in let none = no_more_made in let sum2 = more_owed (of_edt n) in let sum3 = more_resumes n in
-        let unset = owed_unset n d made in let wakes = busy_sleeps h in let more = ended_more in
-        ⊎_elim
-        (λ y. let on = ended_on (both_on (m.runs e n) (m.ends e n) y.0) in let cl = y.1 in record { word = same ∙ word; counted = omega arith; one = omega arith; held = omega arith; none = omega arith; once = (let o = h.once in let l = same_lasts n in omega arith) })
-        (λ y. let cl = y.1 in record { word = same ∙ word; counted = omega arith; one = omega arith; held = omega arith; none = omega arith; once = (let o = h.once in let l = same_lasts n in omega arith) })
-        (claims_after n)
+        let unset = owed_unset n d made in let wakes = busy_sleeps h in
+        record { word = same ∙ word; counted = omega arith; held = still_held h; none = omega arith; once = (let o = h.once in let l = same_lasts n in omega arith) }
+
+    -- an EDT that has started does not wait
+    ended_awake : is_started m t past n ≡ true → awaited m t past n ≡ None
+    ended_awake on = ⊎_elim (λ y. y) (λ y. let off = (k.told.rests n y.0 y.1).0 in absurd (cc (on, off))) (options (awaited m t past n))
 
     parked_waits : IsParked (before n) → 1 - is_none (awaited m t (e ∷ past) n) + times n woken ≡ 1 - is_none (awaited m t past n)
     parked_waits h =
@@ -264,7 +285,7 @@ module _ {G E P N F : Type 0} (m : Meaning G E P N F) (laws : CountingLaws m) (r
         let was : 1 - is_none (awaited m t past n) ≡ 1 = ap (λ o. 1 - is_none o) law.1.1 in
         let now : 1 - is_none (awaited m t (e ∷ past) n) ≡ 0 = ap (λ o. 1 - is_none o) (after_resumed (m.starts e n) (m.ends e n) (m.counting.waits e n) (is_in n woken) (awaited m t past n) still y) in omega arith)
         (λ y. let zero_times = r.1 y in
-        let same = ap (λ o. 1 - is_none o) (after_same (m.starts e n) (m.ends e n) (m.counting.waits e n) (is_in n woken) (awaited m t past n) off still y (λ on. laws.ending t past e n may on)) in omega arith)
+        let same = ap (λ o. 1 - is_none o) (after_same (m.starts e n) (m.ends e n) (m.counting.waits e n) (is_in n woken) (awaited m t past n) off still y (λ on. ended_awake (laws.ending t past e n may on).1)) in omega arith)
         (bools (is_in n woken))
 
     from_parked : IsParked (before n) → IsParked (after n)
@@ -334,6 +355,12 @@ module _ {G E P N F : Type 0} (m : Meaning G E P N F) (laws : CountingLaws m) (r
         x)
         (tied_now (m.starts e n) (m.ends e n) (is_started m t past n) (is_ended m t past n) (m.counting.waits e n) (is_in n woken) (awaited m t past n) (m.core t.limit n) p is))
         (claims_after n);
+    begun = λ n has is. ⊎_elim (λ y. let z = y.2 in absurd (omega arith))
+        (λ y. let z = y.2 in ⊎_elim
+        (λ on. begun_now m n v w log.0 e log.1 log.2 on)
+        (λ was. begun_more m n v w log.0 e log.1 log.2 (old.begun n (omega arith) was))
+        (or_of (m.starts e n) (is_started m t past n) is))
+        (claims_after n);
     spent = λ z. absurd (omega arith);
   }
 
@@ -343,14 +370,16 @@ module _ {G E P N F : Type 0} (m : Meaning G E P N F) (laws : CountingLaws m) (r
     made = made_later u old;
     claims = old.claims;
     tied = λ n p has is.
-        let r = old.claims n has in let two = total_two (λ (x : Vs). times n x.claims) s.views i id u v ne u_at at in
-        let none : times n v.claims ≡ 0 = one_claim n r.0 r.1 two has in
+        let none = not_mine n has in
         old.tied n p has (tied_back (m.starts e n) (m.ends e n) (is_started m t past n) (is_ended m t past n) (m.counting.waits e n) (is_in n woken) (awaited m t past n) (m.core t.limit n) p (no_start n none) (no_wait n none) is);
+    begun = λ n has is. old.begun n has (⊎_elim (λ on. let off = no_start n (not_mine n has) in absurd (cc (on, off))) (λ was. was) (or_of (m.starts e n) (is_started m t past n) is));
     spent = old.spent;
   }
     where
-      one_claim : (n : ℕ) → 1 ≤ n → n ≤ t.limit → times n u.claims + times n v.claims ≤ claims_before n → 1 ≤ times n u.claims → times n v.claims ≡ 0
-      one_claim n lo hi two has = let b = (busy (slots_of m t past n) (before n) (k.each n lo hi) (omega arith)).0.one in omega arith
+      not_mine : (n : ℕ) → 1 ≤ times n u.claims → times n v.claims ≡ 0
+      not_mine n has =
+          let r = (k.seated i u u_at).claims n has in let two = total_two (λ (x : Vs). times n x.claims) s.views i id u v ne u_at at in
+          let b = (busy (slots_of m t past n) (before n) (k.each n r.0 r.1) (omega arith)).0.held in omega arith
 
   pub entered_kept : Counted m t (e ∷ past) record { words = words; homes = s.homes; views = views }
   entered_kept = record {

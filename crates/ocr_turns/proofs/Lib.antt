@@ -2,6 +2,7 @@ pub mod Totals
 pub mod Numbered
 pub mod Histories
 pub mod Same
+pub mod Claims
 pub mod Bounds
 pub mod Commits
 pub mod Draws

@@ -1,5 +1,5 @@
 -- What a seat owes and has claimed is of EDTs of the table, after every step.
-use Rattle.std.proofs.Common.{◌≡◌, ◌≢◌, ℕ, zero, suc, ◌+◌, ◌-◌, ◌<◌, ◌≤◌, ◌⊎◌, ⊎_elim, Bool, true, false, List, [], ◌∷◌, ◌++◌, reverse, refl, ap, sym, subst, ◌∙◌, arith, Option, Some, None}
+use Rattle.std.proofs.Common.{◌≡◌, ℕ, zero, suc, ◌+◌, ◌<◌, ◌≤◌, ⊎_elim, Bool, true, false, List, [], ◌∷◌, reverse, refl, ap, sym, subst, ◌∙◌, arith, Option, Some, None}
 use mathlib.Core.Option.{some, some-injective, some-ne-none}
 use mathlib.Core.Logic.{dite}
 use native.Mathlib.Decide.{dec_le}
@@ -9,8 +9,8 @@ use Rattle.ocr_turns.specs.Counting.{CountingLaws, Consistent, MayCome, debts_by
 use Rattle.ocr_turns.specs.Meaning.{Meaning}
 use Rattle.ocr_turns.specs.Owing.{AreInRange, IsNumber, both_debts, listed, no_debts, of_edt, times, without_all}
 use Rattle.ocr_turns.specs.Steps.{limit_of}
-use Rattle.ocr_turns.specs.Sums.{less_one, one_at, sum_of}
-use Rattle.ocr_turns.specs.Words.{FitsSlots, MayStep, StepTells, claiming, counting_down, counting_made, putting, resuming, unclaiming}
+use Rattle.ocr_turns.specs.Sums.{one_at, sum_of}
+use Rattle.ocr_turns.specs.Words.{FitsSlots, MayStep, StepTells}
 use Rattle.ocr_turns.specs.declared.debts.Debts.{Debts}
 use Rattle.ocr_turns.specs.declared.view.Terms.{Terms}
 use Rattle.ocr_turns.specs.declared.view.View.{View}
@@ -122,7 +122,7 @@ module _ {G E P N F : Type 0} (m : Meaning G E P N F) (t : Terms G) (v : View G 
     resumes = r.resumes;
     claims = r.claims;
   })
-  step_owed (word.Read k) x w may is = subst (λ (z : View G E P N F). AreInRange t.limit z.debts z.claims) (sym is) r
+  step_owed (word.Read k) x w may is = subst (λ (z : View G E P N F). AreInRange t.limit z.debts z.claims) (sym is.0) r
   step_owed word.Claim x w may is = ⊎_elim
       (λ h. subst (λ (z : View G E P N F). AreInRange t.limit z.debts z.claims) (sym h.1) (record {
         unput = r.unput;

@@ -1,14 +1,14 @@
 -- What an entry does to what a history says of an EDT.
-use Rattle.std.proofs.Common.{◌≡◌, ◌≢◌, ℕ, zero, suc, ◌+◌, ◌-◌, ◌<◌, ◌≤◌, ◌⊎◌, inl, inr, ⊎_elim, Bool, true, false, ◌||◌, ◌&&◌, ◌==◌, if◌then◌else◌, List, [], ◌∷◌, ◌++◌, reverse, refl, ap, sym, subst, ◌∙◌, arith, eq-eqb, ne_eqb, None, Some, Option}
+use Rattle.std.proofs.Common.{◌≡◌, ◌≢◌, ℕ, ◌+◌, ◌-◌, ◌≤◌, ◌⊎◌, inl, inr, ⊎_elim, Bool, true, false, ◌||◌, ◌&&◌, ◌==◌, if◌then◌else◌, List, [], ◌∷◌, ◌++◌, reverse, refl, ap, sym, subst, ◌∙◌, arith, eq-eqb, ne_eqb, None, Some, Option}
 use Rattle.std.proofs.lemmas.List.{reverse-append}
 use mathlib.Core.Logic.{dite}
 use native.Mathlib.Decide.{ℕ_discrete}
 use Rattle.ocr_mail.specs.Mail.{tally}
 use Rattle.ocr_turns.specs.declared.view.Terms.{Terms}
-use Rattle.ocr_turns.specs.Counting.{CountingLaws, MayCome, Consistent, IsReady, slots_of, payload_of, awaited, tied_to, is_started, is_ended, count_if, payload_if, place_or, is_in, is_none, is_true}
+use Rattle.ocr_turns.specs.Counting.{CountingLaws, MayCome, Consistent, slots_of, payload_of, awaited, is_started, is_ended, count_if, payload_if, place_or, is_in, is_none, is_true}
 use Rattle.ocr_turns.specs.Meaning.{Meaning, Lawful}
-use Rattle.ocr_turns.specs.Owing.{listed, making, of_edt, of_slot, times}
-use Rattle.ocr_turns.specs.Sums.{sum_of, one_at, up_to, made_sum, is_among}
+use Rattle.ocr_turns.specs.Owing.{listed, making, of_edt, of_slot}
+use Rattle.ocr_turns.specs.Sums.{sum_of, one_at, up_to, made_sum}
 use Rattle.ocr_turns.proofs.Totals.{made_snoc, one_here, one_else}
 use Rattle.ocr_turns.proofs.Owing.{slot_here, slot_else}
 
@@ -170,6 +170,15 @@ or_false : (a b : Bool) → (a || b) ≡ false → (a ≡ false) × (b ≡ false
 or_false true b is = cc is
 or_false false b is = (refl, is)
 
+-- one of two
+pub or_of : (a b : Bool) → (a || b) ≡ true → (a ≡ true) ⊎ (b ≡ true)
+or_of true b is = inl refl
+or_of false b is = inr is
+
+or_either : (a b : Bool) → b ≡ true → (a || b) ≡ true
+or_either true b is = refl
+or_either false b is = is
+
 or_both : (a b : Bool) → a ≡ false → b ≡ false → (a || b) ≡ false
 or_both true b p q = cc p
 or_both false b p q = q
@@ -214,6 +223,10 @@ module _ {G E P N F : Type 0} (m : Meaning G E P N F) (laws : CountingLaws m) (r
         (λ z. let ready = (laws.waiting t past e n p may z).0 in (or_both (m.starts e n) (is_started m t past n) w.0 ready.unstarted, or_both (m.ends e n) (is_ended m t past n) w.1 ready.unended, (ready.set.slots, slots_later n ready.set.slots ready.set.made)))
         (λ z. let r = told.rests n p z.2 in (or_both (m.starts e n) (is_started m t past n) w.0 r.0, or_both (m.ends e n) (is_ended m t past n) w.1 r.1, (r.2.0, slots_later n r.2.0 r.2.1)))
         w.2;
+    ends = λ n is. ⊎_elim
+        (λ on. or_either (m.starts e n) (is_started m t past n) (laws.ending t past e n may on).1)
+        (λ old. or_either (m.starts e n) (is_started m t past n) (told.ends n old))
+        (or_of (m.ends e n) (is_ended m t past n) is);
     facts = λ n q x is. ⊎_elim
         (λ z. let law = laws.setting t past e n q z.0 may z.1 in
         let same : ◌≡◌ {A = Option ℕ} (Some z.0) (Some x) = sym (pay_here (m.counting.sets e) n q z.0 (payload_of m t past n q) z.1).0 ∙ is in

@@ -132,7 +132,7 @@ module _ {G E P N F : Type 0} (m : Meaning G E P N F) (t : Terms G) where
               (nothing_yet s.homes J (fresh v) refl refl refl refl refl refl refl (λ _. terms) (λ _. omega arith) (omega arith) (omega arith) (λ _. refl) (λ _. tt))
               k.seated;
         };
-        counted = counted_split m t (reverse J) s h.counted id v (parted v) at refl refl (omega arith) (λ n p has is. (h.counted.seated id v at).tied n p has is) (fresh v) refl refl;
+        counted = counted_split m t (reverse J) s h.counted id v (parted v) at refl refl (omega arith) (λ n p has is. (h.counted.seated id v at).tied n p has is) (λ n b. b) (fresh v) refl refl;
       }
 
   module _ (s : State (Option P) (View G E P N F)) (h : Holds m t s) (id : ℕ) (v : View G E P N F) (at : get_elem? s.views id ≡ some v) (other : ℕ) (w : View G E P N F) (ne : ¬ (other ≡ id)) (bt : get_elem? (slice_set s.views id (gathered v w)) other ≡ some w) (is_root : v.root ≡ 1) (theirs : w.seat ≡ 1) (not : w.root ≡ 0) (hand : v.carried ≡ None) (hand' : w.carried ≡ None) where
@@ -216,7 +216,7 @@ module _ {G E P N F : Type 0} (m : Meaning G E P N F) (t : Terms G) where
             (nothing_yet s.homes h.history spent_view refl refl refl refl refl refl refl (λ z. absurd (omega arith)) (λ z. absurd (omega arith)) (omega arith) (omega arith) (λ _. refl) (λ z. absurd (omega arith)))
             k.seated;
       };
-      counted = counted_joined m t (reverse h.history) s h.counted id v at other w ne (gathered v w) spent_view (omega arith) bt refl refl (λ p. weigh_append (one_at p) v.parts w.parts) refl refl;
+      counted = counted_joined m t (reverse h.history) s h.counted id v at other w ne (gathered v w) spent_view (omega arith) bt refl refl (λ p. weigh_append (one_at p) v.parts w.parts) refl refl refl refl;
     }
 
   -- where no other seat is out, the root has all

@@ -11,7 +11,7 @@ use prog.Atomic.{either}
 use Rattle.atomic_table.specs.Table.{State, Me, Act, Allows, Valid, carried_after, keeps, stepped}
 use Rattle.ocr_mail.specs.Mail.{tally}
 use Rattle.ocr_turns.specs.Contract.{Loose}
-use Rattle.ocr_turns.specs.Counting.{Counted, Found, IsSet, account, slots_of, payload_of, awaited, is_started, unset_of, is_none, state_at, payload_at, READY, BUSY, PARKED}
+use Rattle.ocr_turns.specs.Counting.{Counted, Found, IsSet, account, slots_of, payload_of, awaited, is_started, state_at, payload_at, READY, BUSY, PARKED}
 use Rattle.ocr_turns.specs.Meaning.{Meaning}
 use Rattle.ocr_turns.specs.Owing.{times, of_edt, of_slot, owed_slots, making, no_debts}
 use Rattle.ocr_turns.specs.Rule.{Holds, Kept, FactsOf}
@@ -24,30 +24,23 @@ use Rattle.ocr_turns.specs.declared.words.WordStep.{WordStep}
 use Rattle.ocr_turns.specs.declared.words.WordStep.TheVariants as word
 use Rattle.ocr_turns.proofs.Totals.{total_one, total_alone, at_append, reverse_twice}
 use Rattle.ocr_turns.proofs.Same.{after, ledger_same, numbers_same, places_same, roster_same, owed_same, seated_each}
-use Rattle.ocr_turns.proofs.Bounds.{same_terms, fits, stepped_at, spent_others}
+use Rattle.ocr_turns.proofs.Bounds.{same_terms, fits, fits_carried, sees, stepped_at, spent_others}
 use Rattle.ocr_turns.proofs.Accounts.{ready, busy}
-use Rattle.ocr_turns.proofs.Owing.{below_zero, is_some, total_less, tally_less, spot_less}
+use Rattle.ocr_turns.proofs.Owing.{total_less, tally_less, spot_less}
 use Rattle.ocr_turns.proofs.Slots.{none_is, true_is}
 use Rattle.ocr_turns.proofs.Counting as counting
 use Rattle.ocr_turns.proofs.Apart.{counted_elsewhere}
+use Rattle.ocr_turns.proofs.Claims.{set_all}
 
 one_listed : {A : Type 0} (x y : A) (i : ℕ) → get_elem? (x ∷ []) i ≡ some y → x ≡ y
 one_listed x y zero e = cc e
 one_listed x y (suc i) e = cc e
 
 module _ {G E P N F : Type 0} (m : Meaning G E P N F) (t : Terms G) where
-  -- where no slot is unset, each is set
-  pub set_all : (past : List E) (n d : ℕ) → slots_of m t past n ≡ Some d → unset_of (slots_of m t past n) (payload_of m t past n) ≡ 0 → IsSet m t past n
-  set_all past n d made none = record {
-    slots = d;
-    made = made;
-    all_set = λ k lt. is_some (payload_of m t past n k) (below_zero (λ j. is_none (payload_of m t past n j)) d (sym (ap (λ o. unset_of o (payload_of m t past n)) made) ∙ none) k lt);
-  }
-
   module _ (J : List E) (s : State (Option P) (View G E P N F)) (k : Kept m t J s) (c : Counted m t (reverse J) s) (id : ℕ) (v : View G E P N F) (at : get_elem? s.views id ≡ some v) where
     -- what the view knows
     pub knows : Knows m t J v
-    knows = let seat = k.seated id v at in record { run = k.ledger.run; log = seat.log; facts = seat.facts; fits = fits m t J s k id v at }
+    knows = let seat = k.seated id v at in record { run = k.ledger.run; log = seat.log; facts = seat.facts; fits = fits m t J s k id v at c }
 
     -- what the word of an EDT tells
     pub found : (n : ℕ) → 1 ≤ n → n ≤ t.limit → Found m t (reverse J) v n (slice_index s.words (state_at (length s.homes) n))
@@ -208,7 +201,7 @@ module _ {G E P N F : Type 0} (m : Meaning G E P N F) (t : Terms G) where
     idle_counted : (s : State (Option P) Vs) (h : Holds m t s) → get_elem? s.views id ≡ some me.0 → (i : ℕ) (fs : List F)
         → Counted m t (reverse h.history) record { words = slice_set s.words i (slice_index s.words i); homes = s.homes; views = slice_set s.views id record me.0 { facts = fs } }
     idle_counted s h at i fs = counted_elsewhere m t (reverse h.history) s h.counted id me.0 record me.0 { facts = fs } at refl refl is_out
-        (λ n p has is. (h.counted.seated id me.0 at).tied n p has is)
+        (λ n p has is. (h.counted.seated id me.0 at).tied n p has is) (λ n b. b)
         (slice_set s.words i (slice_index s.words i)) s.homes (length-set s.words i (slice_index s.words i)) refl (λ j _. idle_words s i j)
 
     -- the payload of a slot of an EDT that is claimed stands in its word
@@ -221,7 +214,7 @@ module _ {G E P N F : Type 0} (m : Meaning G E P N F) (t : Terms G) where
         let order = (busy (slots_of m t past n) (account m t s.words (length s.homes) s.views past n) (h.counted.each n range.0 range.1) (omega arith)).0 in
         let counted = order.counted in
         let there = slot h.history (knows h.history s h.kept h.counted id me.0 at) in
-        let set = (set_all past n there.0 there.1 (omega arith)) in
+        let set = (set_all m t past n there.0 there.1 (omega arith)) in
         let eq : ◌≡◌ {A = Option ℕ} (Some set.slots) (Some there.0) = sym set.made ∙ there.1 in
         let same : set.slots ≡ there.0 = cc eq in let lt = there.2 in
         let x = set.all_set k (omega arith) in
@@ -241,14 +234,12 @@ module _ {G E P N F : Type 0} (m : Meaning G E P N F) (t : Terms G) where
         let facts : FactsOf (m.stands t.setting.value t.limit h.history) w.facts = λ j f there. ⊎_elim
         (λ y. facts_at s h at j f y)
         (λ y. subst (m.stands t.setting.value t.limit h.history) (one_listed (m.counting.is_set n k x) f y.0 y.1) fact)
-        (at_append me.0.facts (m.counting.is_set n k x ∷ []) j f there) in (
+        (at_append me.0.facts (m.counting.is_set n k x ∷ []) j f there) in
+        let kept = kept_beyond h.history s h.kept id me.0 at is_out i x (omega arith) w.facts me.0.debts me.0.claims facts in
+        let counted = idle_counted s h at i w.facts in (
           w,
-          record {
-            history = h.history;
-            kept = kept_beyond h.history s h.kept id me.0 at is_out i x (omega arith) w.facts me.0.debts me.0.claims facts;
-            counted = idle_counted s h at i w.facts;
-          },
-          refl,
+          record { history = h.history; kept = kept; counted = counted },
+          (refl, sees m t h.history record { words = slice_set s.words i x; homes = s.homes; views = slice_set s.views id w } kept id w (stepped_at s.views id me.0 w at) counted is_out),
         ))
 
     abbrev tried : ℕ → ℕ
@@ -266,7 +257,7 @@ module _ {G E P N F : Type 0} (m : Meaning G E P N F) (t : Terms G) where
         let counted = counting.claim_kept m t past s h.counted id me.0 at is_out n lo hi z in
         let r = ready (slots_of m t past n) (account m t s.words (length s.homes) s.views past n) (h.counted.each n lo hi) z in
         let bare = r.0.bare in let none = r.2 in
-        let set : IsSet m t past n = set_all past n r.1.0 r.1.1 (omega arith) in
+        let set : IsSet m t past n = set_all m t past n r.1.0 r.1.1 (omega arith) in
         let sees : SeesReady m w n = λ t' terms. subst (λ q. (K : List E) × Knows m q K w × IsSet m q (reverse K) n × (is_started m q (reverse K) n ≡ false) × (awaited m q (reverse K) n ≡ None))
         (same_terms t t' (sym ((h.kept.seated id me.0 at).terms is_out) ∙ terms)) (
           h.history,
@@ -291,13 +282,11 @@ pub stepped_view : {G E P N F : Type 0} (m : Meaning G E P N F) (n : ℕ) (chose
 stepped_view m n (word.Put k p) v x w is = (v.facts, (putting v n k p).debts, v.claims, is)
 stepped_view m n word.Count v x w is = (v.facts, (counting_down v n (x - 1)).debts, v.claims, is.0)
 stepped_view m n (word.CountMade d) v x w is = (v.facts, (counting_made v n (x - (33 - d))).debts, v.claims, is.0)
-stepped_view m n (word.Read k) v x w is = ((learning v (m.counting.is_set n k x)).facts, v.debts, v.claims, is)
+stepped_view m n (word.Read k) v x w is = ((learning v (m.counting.is_set n k x)).facts, v.debts, v.claims, is.0)
 stepped_view m n word.Claim v x w is = ⊎_elim (λ h. (v.facts, v.debts, (claiming v n).claims, h.1)) (λ h. (v.facts, v.debts, v.claims, h.1)) is
 stepped_view m n word.Park v x w is = (v.facts, v.debts, (unclaiming v n).claims, is)
 stepped_view m n word.Resume v x w is = (v.facts, (resuming v n).debts, v.claims, is)
 
 -- the slot that a seat carries is nothing to its claims
 pub carried_loose : {G E P N F : Type 0} (m : Meaning G E P N F) (t : Terms G) (v : View G E P N F) (p : ℕ) (o : Option ℕ) → Loose m t v p → Loose m t record v { carried = o } p
-carried_loose m t v p o loose J f n has = loose J
-    (record { limits = f.limits; run = f.run; log = f.log; joined = f.joined; distinct = f.distinct; unmade = f.unmade; own = f.own; owed = f.owed; sent = f.sent; parts = f.parts; facts = f.facts; sole = f.sole; alone = f.alone })
-    n has
+carried_loose m t v p o loose J f n has = loose J (fits_carried m t J v o v.carried f) n has

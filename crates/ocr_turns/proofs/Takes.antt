@@ -12,14 +12,14 @@ use lib.ListN.{get_elem?}
 use Rattle.atomic_table.specs.Table.{State, Me, Act, Allows, keeps, takes, gives, Valid, stepped, step, carried_after, rest}
 use Rattle.atomic_table.proofs.Lists.{set_here, set_else, set_again}
 use Rattle.ocr_turns.specs.Contract.{Loose, Rests, SeenAs}
-use Rattle.ocr_turns.specs.Counting.{Counted}
+use Rattle.ocr_turns.specs.Counting.{Counted, IsBegunIn}
 use Rattle.ocr_turns.specs.Meaning.{Meaning}
-use Rattle.ocr_turns.specs.Rule.{Kept, Holds, RunsIn, HomeOf, PartsOf, EmptyAt}
-use Rattle.ocr_turns.specs.Steps.{Sees, takes_part, settles, fetches, gives_back}
+use Rattle.ocr_turns.specs.Rule.{Fits, Kept, Holds, RunsIn, HomeOf, PartsOf, EmptyAt}
+use Rattle.ocr_turns.specs.Steps.{SeesBoth, with_part, takes_part, settles, fetches, gives_back}
 use Rattle.ocr_turns.specs.Sums.{total, weigh, one_at, is_free, remove_at}
 use Rattle.ocr_turns.specs.declared.view.View.{View}
 use Rattle.ocr_turns.specs.declared.view.Terms.{Terms}
-use Rattle.ocr_turns.proofs.Bounds.{fits, sees, stepped_at}
+use Rattle.ocr_turns.proofs.Bounds.{fits, fits_carried, same_terms, stepped_at}
 use Rattle.ocr_turns.proofs.Commits.{elsewhere}
 use Rattle.ocr_turns.proofs.Numbered.{weigh_remove, at_remove, find_at, find_weighs}
 use Rattle.ocr_turns.proofs.Same.{keeps_at, after, ledger_same, numbers_same, roster_same, owed_same, seated_each}
@@ -126,8 +126,8 @@ module _ {G E P N F : Type 0} (mg : Meaning G E P N F) (t : Terms G) where
         }
 
     -- the seat takes no part away
-    counted_more : (w : View G E P N F) → w.debts ≡ v.debts → w.claims ≡ v.claims → 0 < w.root + w.seat → ((q : ℕ) → weigh (one_at q) v.parts ≤ weigh (one_at q) w.parts) → (n : ℕ) (h : maybe.Option (Option P)) → Counted mg t (reverse J) (after s (turned n) (moved_to h) id w)
-    counted_more w debts claims out more n h = counted_beside mg t (reverse J) s cnt id v w at debts claims out more (p + 16) n (moved_to h) (omega arith) (length-set s.homes p h)
+    counted_more : (w : View G E P N F) → w.debts ≡ v.debts → w.claims ≡ v.claims → 0 < w.root + w.seat → ((q : ℕ) → weigh (one_at q) v.parts ≤ weigh (one_at q) w.parts) → ((q : ℕ) → IsBegunIn mg v q → IsBegunIn mg w q) → (n : ℕ) (h : maybe.Option (Option P)) → Counted mg t (reverse J) (after s (turned n) (moved_to h) id w)
+    counted_more w debts claims out more begun n h = counted_beside mg t (reverse J) s cnt id v w at debts claims out more begun (p + 16) n (moved_to h) (omega arith) (length-set s.homes p h)
 
     -- the part of a kept place is with the seat, not at home
     busy : 1 ≤ weigh (one_at p) v.parts → is_free (slice_index s.words (p + 16)) ≡ 0
@@ -173,6 +173,14 @@ module _ {G E P N F : Type 0} (mg : Meaning G E P N F) (t : Terms G) where
       took_one : Kept mg t J (after s (turned 1) (moved_to none) id taken)
       took_one = moved 1 (v.parts ++ (p, there.item) ∷ []) (Some p) none takes_moves
 
+      took_counted : Counted mg t (reverse J) (after s (turned 1) (moved_to none) id taken)
+      took_counted = counted_more taken refl refl is_out (λ q. let a = weigh_snoc (one_at q) v.parts p there.item in omega arith) (λ q b. b) 1 none
+
+      -- the history fits the view before and after
+      sees_taken : SeesBoth mg v taken
+      sees_taken t' terms unclosed = subst (λ q. (K : List E) × Fits mg q K v × Fits mg q K taken) (same_terms t t' (sym ((k.seated id v at).terms is_out) ∙ terms))
+          (J, fits mg t J s k id v at cnt unclosed, fits mg t J (after s (turned 1) (moved_to none) id taken) took_one id taken (stepped_at s.views id v taken at) took_counted unclosed)
+
       can_take_free : TakeGoal
       can_take_free =
           let is : tried (slice_index s.words (p + 16)) ≡ 1 = ap (λ b. either b 1 (slice_index s.words (p + 16))) (eq-eqb _ _ free) in (
@@ -182,8 +190,8 @@ module _ {G E P N F : Type 0} (mg : Meaning G E P N F) (t : Terms G) where
               (
                 there.home,
                 (
-                  record { history = J; kept = subst (λ (m : ℕ). Kept mg t J (after s (turned m) (moved_to none) id taken)) (sym is) took_one; counted = counted_more taken refl refl is_out (λ q. let a = weigh_snoc (one_at q) v.parts p there.item in omega arith) (tried (slice_index s.words (p + 16))) none },
-                  ((λ _. (p, there.item, refl, refl, refl, sees mg t J (after s (turned 1) (moved_to none) id taken) took_one id taken (stepped_at s.views id v taken at) is_out)), (λ ne. absurd (ne free))),
+                  record { history = J; kept = subst (λ (m : ℕ). Kept mg t J (after s (turned m) (moved_to none) id taken)) (sym is) took_one; counted = subst (λ (m : ℕ). Counted mg t (reverse J) (after s (turned m) (moved_to none) id taken)) (sym is) took_counted },
+                  ((λ _. (p, there.item, refl, refl, refl, sees_taken)), (λ ne. absurd (ne free))),
                 ),
               ),
             ),
@@ -223,7 +231,7 @@ module _ {G E P N F : Type 0} (mg : Meaning G E P N F) (t : Terms G) where
                     mine = omega arith;
                     cores = λ u runs. (seat.own u runs).1;
                   };
-                  counted = counted_more record v { carried = None } refl refl is_out (λ q. omega arith) (slice_index s.words (p + 16)) (some None);
+                  counted = counted_more record v { carried = None } refl refl is_out (λ q. omega arith) (λ q b. b) (slice_index s.words (p + 16)) (some None);
                 },
                 (refl, refl),
               ),
@@ -256,7 +264,7 @@ module _ {G E P N F : Type 0} (mg : Meaning G E P N F) (t : Terms G) where
                     mine = omega arith;
                     cores = λ u runs. (seat.own u runs).1;
                   };
-                  counted = counted_more record v { carried = Some p } refl refl is_out (λ q. omega arith) (slice_index s.words (p + 16)) none;
+                  counted = counted_more record v { carried = Some p } refl refl is_out (λ q. omega arith) (λ q b. b) (slice_index s.words (p + 16)) none;
                 },
                 (p, refl, refl, refl),
               ),
@@ -296,7 +304,7 @@ module _ {G E P N F : Type 0} (mg : Meaning G E P N F) (t : Terms G) where
                     cores = λ u runs. let o = (seat.own u runs).1 in let e = else (mg.core t.limit u) (rests u runs) in omega arith;
                   };
                   counted = counted_at mg t (reverse J) s cnt id v record v { parts = remove_at p v.parts; carried = None } at refl refl is_out
-                      (λ n q has is. let ne : q ≢ p = λ e. loose J (fits mg t J s k id v at was_open) n has (is ∙ ap Some e) in let held = (cnt.seated id v at).tied n q has is in let a = else q ne in omega arith)
+                      (λ n q has is. let ne : q ≢ p = λ e. loose J (fits mg t J s k id v at cnt was_open) n has (is ∙ ap Some e) in let held = (cnt.seated id v at).tied n q has is in let a = else q ne in omega arith) (λ q b. b)
                       (p + 16) 0 (moved_to (some (Some x))) (omega arith) (length-set s.homes p (some (Some x)));
                 },
                 (p, refl, refl, refl),
@@ -339,12 +347,30 @@ kept_last ps p x = let a = weigh_snoc (one_at p) ps p x in let b = one_here p in
 
 module _ {G E P N F : Type 0} where
   abbrev pub Took : Meaning G E P N F → ℕ → Me (Option P) (View G E P N F) → Me (Option P) (View G E P N F) → Type 0
-  Took mg p me w = (x : P) × (w.0 ≡ record me.0 { parts = me.0.parts ++ (p, x) ∷ []; carried = Some p }) × (w.1 ≡ (p, Some x) ∷ []) × Sees mg w.0
+  Took mg p me w = (x : P) × (w.0 ≡ record me.0 { parts = me.0.parts ++ (p, x) ∷ []; carried = Some p }) × (w.1 ≡ (p, Some x) ∷ []) × SeesBoth mg me.0 w.0
 
   pub took : (mg : Meaning G E P N F) (slots p : ℕ) (me w : Me (Option P) (View G E P N F)) (n : ℕ) → takes_part mg (step slots (p + 16) 0 1 none) me n w → n ≡ 0 → me.1 ≡ [] → Took mg p me w
   took mg slots p me w n tells found bare =
       let r = tells.0 found in let e : r.0 ≡ p = omega (arith, r.2) in
       (r.1, subst (λ q. w.0 ≡ record me.0 { parts = me.0.parts ++ (q, r.1) ∷ []; carried = Some q }) e r.3, subst (λ q. w.1 ≡ (q, Some r.1) ∷ []) e (r.4 ∙ ap (λ c. (r.0, Some r.1) ∷ c) bare), r.5)
+
+  -- once its empty slot has gone home, the seat has the part and carries nothing
+  pub taken_home : (mg : Meaning G E P N F) (p : ℕ) (me w z l : Me (Option P) (View G E P N F)) (held : Option P) (x : P) → me.0.carried ≡ None → Took mg p me w
+      → w.1 ≡ (p, held) ∷ rest w.1 → z ≡ (w.0, (p, None) ∷ rest w.1) → settles z l → held ≡ Some x → (l ≡ (with_part me.0 p x, [])) × SeesBoth mg me.0 l.0
+  taken_home mg p me w z l held x hand took swapped emptied settled is =
+      let same : x ≡ took.0 = (let e : Some x ≡ Some took.0 = sym is ∙ ap first_of (sym swapped ∙ took.2) in cc e) in
+      let home : l.0 ≡ record w.0 { carried = None } = settled.0 ∙ ap (λ (y : Me (Option P) (View G E P N F)). record y.0 { carried = None }) emptied in
+      let view : l.0 ≡ with_part me.0 p x = home ∙ (ap (λ (v : View G E P N F). record v { carried = None }) took.1 ∙ (λ i. record me.0 { parts = me.0.parts ++ (p, sym same i) ∷ []; carried = sym hand i })) in
+      let hands : l.1 ≡ [] = settled.1 ∙ (ap (λ (y : Me (Option P) (View G E P N F)). rest y.1) emptied ∙ ap rest took.2) in (
+        (λ i. (view i, hands i)),
+        λ t terms unclosed.
+            let s = took.3 t (sym (ap (λ (v : View G E P N F). v.terms) home) ∙ terms) (sym (ap (λ (v : View G E P N F). v.closed) home) ∙ unclosed) in
+            (s.0, s.1, subst (λ (v : View G E P N F). Fits mg t s.0 v) (sym home) (fits_carried mg t s.0 w.0 w.0.carried None s.2)),
+      )
+    where
+      first_of : List (ℕ × Option P) → Option P
+      first_of [] = None
+      first_of (y ∷ ys) = y.1
 
   pub fetched : (slots p : ℕ) (me w : Me (Option P) (View G E P N F)) → fetches (step slots (p + 16) 0 0 none) me w → me.1 ≡ [] → (w.0 ≡ record me.0 { carried = Some p }) × (w.1 ≡ (p, None) ∷ [])
   fetched slots p me w tells bare =

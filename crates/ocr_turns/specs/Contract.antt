@@ -1,15 +1,13 @@
 -- What the contracts of the table say.
-use Rattle.std.specs.Prelude.{◌≡◌, ◌≢◌, ℕ, ◌+◌, ◌*◌, ◌-◌, ◌<◌, ◌≤◌, ◌^◌, ◌⊎◌, reverse, Bool, true, false, leb, if◌then◌else◌, List, [], ◌∷◌, ◌++◌, length, Option, Some, None, MatchOption}
-use mathlib.Core.Option.{some}
-use lib.ListN.{get_elem?}
+use Rattle.std.specs.Prelude.{◌≡◌, ◌≢◌, ℕ, ◌+◌, ◌*◌, ◌<◌, ◌≤◌, ◌⊎◌, reverse, true, false, leb, if◌then◌else◌, List, [], ◌∷◌, ◌++◌, length, Option, Some, None, MatchOption}
 use Rattle.atomic_table.specs.Seated.{TableId}
 use Rattle.ocr_mail.specs.Mail.{Has}
 use Rattle.ocr_turns.specs.Counting.{Found, tied_to}
 use Rattle.ocr_turns.specs.Owing.{listed, times}
 use Rattle.ocr_turns.specs.Meaning.{Meaning, Run, Open, Ended}
-use Rattle.ocr_turns.specs.Rule.{Fits, PartsOf, FactsOf, RunsIn, LogOf, LogsOf, AllRise, OPEN}
-use Rattle.ocr_turns.specs.Steps.{Deed, deed, Sees, SeesOpen, SeesEnd, logged, ended_by, shut_by, with_drawn, filled_by, with_part, without_part, limit_of}
-use Rattle.ocr_turns.specs.Sums.{weigh, weigh_all, below, one_at, sum_of, made_sum, up_to, keys, find, replace, replace_all, remove_at, as_some, HasAll, Rises}
+use Rattle.ocr_turns.specs.Rule.{Fits, PartsOf, FactsOf, RunsIn, LogsOf, AllRise, OPEN}
+use Rattle.ocr_turns.specs.Steps.{Deed, deed, Sees, SeesBoth, SeesOpen, SeesEnd, logged, ended_by, shut_by, with_drawn, filled_by, with_part, without_part}
+use Rattle.ocr_turns.specs.Sums.{weigh, weigh_all, below, one_at, sum_of, made_sum, up_to, find, replace_all, remove_at, as_some, HasAll}
 use Rattle.ocr_turns.specs.declared.answers.Committed.{Committed}
 use Rattle.ocr_turns.specs.declared.answers.Committed.TheVariants as committed
 use Rattle.ocr_turns.specs.declared.answers.Drawn.{Drawn}
@@ -147,7 +145,7 @@ module _ {G E P N F : Type 0} where
   TakeTells m taken.Mine old new p = (x : P) × (old.view.closed ≡ None) × (new.table ≡ old.table) ×
       (new.view ≡ with_part old.view p x) × (new.parts ≡ old.parts ++ (p, Some x) ∷ []) ×
       (new.room ≡ old.room) × (new.spare + 1 ≡ old.spare) × (new.space ≡ old.space)
-      × Sees m new.view
+      × SeesBoth m old.view new.view
   TakeTells m (taken.Closed n) old new p = ClosedBy m n old new
 
   -- the part goes home; a closed clerk keeps it

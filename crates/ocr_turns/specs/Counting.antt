@@ -6,7 +6,7 @@ use Rattle.atomic_table.specs.Table.{State}
 use Rattle.ocr_mail.specs.Mail.{tally}
 use Rattle.ocr_turns.specs.Meaning.{Meaning, Run}
 use Rattle.ocr_turns.specs.Owing.{listed, times, of_edt, of_slot, owed_slots, making, no_debts}
-use Rattle.ocr_turns.specs.Sums.{total, weigh, below, one_at, sum_of, up_to, made_sum, is_among, is_free}
+use Rattle.ocr_turns.specs.Sums.{total, weigh, below, one_at, sum_of, up_to, made_sum, is_among, is_free, entries}
 use Rattle.ocr_turns.specs.declared.debts.Debts.{Debts}
 use Rattle.ocr_turns.specs.declared.view.View.{View}
 use Rattle.ocr_turns.specs.declared.view.Terms.{Terms}
@@ -102,6 +102,7 @@ module _ {G E P N F : Type 0} (m : Meaning G E P N F) (t : Terms G) where
         (k < d)
     pub rests : (n p : ℕ) → awaited past n ≡ Some p → (is_started past n ≡ false) ×
         (is_ended past n ≡ false) × ((d : ℕ) × (slots_of past n ≡ Some d))
+    pub ends : (n : ℕ) → is_ended past n ≡ true → is_started past n ≡ true
     pub facts : (n k x : ℕ) → payload_of past n k ≡ Some x → m.stands t.setting.value t.limit
         (reverse past) (m.counting.is_set n k x)
 
@@ -132,8 +133,10 @@ pub record CountingLaws {G E P N F : Type 0} (m : Meaning G E P N F) : Type 0 wh
       (one_at n) (m.counting.resumes t.setting.value t.limit (reverse past) e)
       → (sum_of (one_at n) (m.counting.resumes t.setting.value t.limit (reverse past) e) ≡ 1) ×
       ((p : ℕ) × (awaited m t past n ≡ Some p) × (1 ≤ m.touches t.limit e p))
+  -- an EDT that ends runs, and ends by an entry of its own
   pub ending : (t : Terms G) (past : List E) (e : E) (n : ℕ) → MayCome m t past e
-      → m.ends e n ≡ true → awaited m t past n ≡ None
+      → m.ends e n ≡ true → (m.runs e n ≡ true) × (is_started m t past n ≡ true) ×
+      (is_ended m t past n ≡ false)
 
 -- THE WORDS of an EDT, behind the turn words
 abbrev pub state_at : ℕ → ℕ → ℕ
@@ -178,12 +181,11 @@ pub record IsCounting (a : Account) : Type 0 where
   pub bare : a.claims + (a.resumes + (a.waits + a.started)) ≡ 0
   pub once : a.lasts ≡ is_free a.word
 
--- a view has its claim, or it has its end
+-- one view has its claim, or it has its end
 pub record IsBusy (a : Account) : Type 0 where
   pub word : a.word ≡ BUSY
   pub counted : a.making + (a.owed + a.unset) ≡ 0
-  pub one : a.claims ≤ 1
-  pub held : 1 ≤ a.claims + a.ended
+  pub held : a.claims + a.ended ≡ 1
   pub none : a.resumes ≡ 0
   pub once : a.lasts ≡ 1
 
@@ -215,6 +217,12 @@ debts_by m e rs one = record {
   lasts = [];
 }
 
+-- the EDT's first entry stands in one of the view's logs
+abbrev pub IsBegunIn : {G E P N F : Type 0} → Meaning G E P N F → View G E P N F → ℕ → Type 0
+IsBegunIn {E = E} m v n = (is_among (λ e. m.starts e n) (entries v.log) ≡ true) ⊎ ((j : ℕ) × (l
+    : List (ℕ × E)) × (get_elem? v.joined j ≡ some l) × (is_among (λ e. m.starts e n)
+    (entries l) ≡ true))
+
 -- the EDTs whose claim an entry ends
 abbrev pub leaves : {G E P N F : Type 0} → Meaning G E P N F → E → ℕ → Bool
 leaves m e n = m.runs e n && m.ends e n
@@ -244,6 +252,8 @@ module _ {G E P N F : Type 0} (m : Meaning G E P N F) (t : Terms G) where
     -- waits for
     pub tied : (n p : ℕ) → 1 ≤ times n v.claims → tied_to m t past n ≡ Some p → 1 ≤ weigh
         (one_at p) v.parts
+    -- and has its first entry, where it has started
+    pub begun : (n : ℕ) → 1 ≤ times n v.claims → is_started m t past n ≡ true → IsBegunIn m v n
     pub spent : v.root + v.seat ≡ 0 → (v.debts ≡ no_debts) × (v.claims ≡ [])
 
   pub record Counted (past : List E) (s : State (Option P) (View G E P N F)) : Type 0 where

@@ -5,8 +5,9 @@ use mathlib.Core.Option.{some}
 use lib.ListN.{get_elem?}
 use Rattle.atomic_table.specs.Table.{State}
 use Rattle.ocr_mail.specs.Mail.{tally, pending}
-use Rattle.ocr_turns.specs.Counting.{Counted, DRAW, TURNS}
+use Rattle.ocr_turns.specs.Counting.{Counted, IsBegunIn, IsSet, tied_to, is_started, is_ended, DRAW, TURNS}
 use Rattle.ocr_turns.specs.Meaning.{Meaning, Run, Open, Ended}
+use Rattle.ocr_turns.specs.Owing.{times}
 use Rattle.ocr_turns.specs.Sums.{total, weigh, weigh_all, below, one_at, sum_of, up_to, made_sum, is_free, picked, is_among, entries, load_of, Rises}
 use Rattle.ocr_turns.specs.declared.view.View.{View}
 use Rattle.ocr_turns.specs.declared.view.Terms.{Terms}
@@ -78,6 +79,15 @@ module _ {G E P N F : Type 0} (m : Meaning G E P N F) (t : Terms G) where
     pub least : 1 ≤ n
     pub most : n ≤ t.limit
 
+  -- What a view may rely on of an EDT that it has claimed: all its slots are set, it has not ended,
+  -- its first entry stands in the view's logs where it has started, and the view keeps the place
+  -- that its claim ties it to.
+  pub record Claimed (J : List E) (v : View G E P N F) (n : ℕ) : Type 0 where
+    pub set : IsSet m t (reverse J) n
+    pub unended : is_ended m t (reverse J) n ≡ false
+    pub begun : is_started m t (reverse J) n ≡ true → IsBegunIn m v n
+    pub tied : (p : ℕ) → tied_to m t (reverse J) n ≡ Some p → 1 ≤ weigh (one_at p) v.parts
+
   -- what a view may rely on: the history is such a one
   pub record Fits (J : List E) (v : View G E P N F) : Type 0 where
     pub limits : 2 ≤ t.limit
@@ -91,6 +101,7 @@ module _ {G E P N F : Type 0} (m : Meaning G E P N F) (t : Terms G) where
     pub sent : AllSent J v.owed
     pub parts : PartsOf (m.seen t.limit) (m.part t.setting.value t.limit J) v.parts
     pub facts : FactsOf (m.stands t.setting.value t.limit J) v.facts
+    pub claims : (n : ℕ) → 1 ≤ times n v.claims → Claimed J v n
     -- while no other seat is out, the root's logs are the whole history
     pub sole : v.root ≡ 1 → v.out ≡ 0 → (f : ℕ → ℕ) → weighed f v ≡ below f (length J)
     -- and it owes every message that is undelivered

@@ -188,6 +188,11 @@ module _ {G E P N F : Type 0} where
   abbrev pub Sees : Meaning G E P N F → View G E P N F → Type 0
   Sees m w = (t : Terms G) → w.terms ≡ Some t → w.closed ≡ None → (J : List E) × Fits m t J w
 
+  -- some history so far is one that both views fit
+  abbrev pub SeesBoth : Meaning G E P N F → View G E P N F → View G E P N F → Type 0
+  SeesBoth m v w = (t : Terms G) → w.terms ≡ Some t → w.closed ≡ None → (J : List E) × Fits m t J v
+      × Fits m t J w
+
   -- some history so far is one that the view fits, and it has not ended
   abbrev pub SeesOpen : Meaning G E P N F → View G E P N F → Type 0
   SeesOpen m w = (t : Terms G) → w.terms ≡ Some t → w.closed ≡ None → (J : List E) × Fits m t J w
@@ -225,7 +230,7 @@ module _ {G E P N F : Type 0} where
       × Sees mg w.0) ⊎ ((limit_of m.0.terms ≤ n) × (w.0 ≡ filled_by m.0 n)))
 
   -- A try to take a part: where the word was 0 the place is kept, with the part that stands there,
-  -- and its slot is carried.
+  -- and its slot is carried. The history is the same before and after.
   abbrev pub takes_part : Meaning G E P N F → Step (Option P) → Me (Option P) (View G E P N F) → ℕ
       → Me (Option P) (View G E P N F) → Type 0
   takes_part mg s m n w =
@@ -233,7 +238,7 @@ module _ {G E P N F : Type 0} where
         parts = m.0.parts ++
             (p, x) ∷ [];
         carried = Some p;
-      }) × (w.1 ≡ (p, Some x) ∷ m.1) × Sees mg w.0)
+      }) × (w.1 ≡ (p, Some x) ∷ m.1) × SeesBoth mg m.0 w.0)
       × (n ≢ 0 → w ≡ m)
 
   -- the carried slot goes home, empty

@@ -8,6 +8,7 @@ use Rattle.ocr_turns.specs.Counting.{IsSet, Found, slots_of, awaited, is_started
 use Rattle.ocr_turns.specs.Meaning.{Meaning, Run}
 use Rattle.ocr_turns.specs.Owing.{IsNumber, of_edt, times, put_debts, counted_debts, made_debts, resumed_debts}
 use Rattle.ocr_turns.specs.Rule.{Fits, LogOf, FactsOf}
+use Rattle.ocr_turns.specs.Steps.{Sees}
 use Rattle.ocr_turns.specs.Sums.{less_one}
 use Rattle.ocr_turns.specs.declared.view.View.{View}
 use Rattle.ocr_turns.specs.declared.view.Terms.{Terms}
@@ -107,7 +108,7 @@ module _ {G E P N F : Type 0} (m : Meaning G E P N F) where
       × SeesWord w n (x - 1)
   StepTells n (word.CountMade d) v x w = (w ≡ counting_made v n (x - (33 - d))) × (d ≤ 32) ×
       (33 - d ≤ x) × (x ≤ 33) × SeesWord w n (x - (33 - d))
-  StepTells n (word.Read k) v x w = w ≡ learning v (m.counting.is_set n k x)
+  StepTells n (word.Read k) v x w = (w ≡ learning v (m.counting.is_set n k x)) × Sees m w
   StepTells n word.Claim v x w = ((x ≡ READY) × (w ≡ claiming v n) × SeesReady w n) ⊎ ((x ≢ READY)
       × (w ≡ v) × SeesWord w n x)
   StepTells n word.Park v x w = w ≡ unclaiming v n

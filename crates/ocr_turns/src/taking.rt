@@ -1,6 +1,6 @@
 // Taking a part, and waiting for its turn.
 ghost use Rattle.std.specs.Prelude.{◌≡◌, ◌<◌, ◌≤◌, ◌+◌, ◌*◌, [], None, MatchOption};
-ghost use Rattle.ocr_turns.specs.Steps.{Sees, with_part};
+ghost use Rattle.ocr_turns.specs.Steps.{SeesBoth, with_part};
 ghost use Rattle.ocr_turns.specs.Contract.{TakeTells, IsOf};
 
 use crate::answers::Taken;
@@ -62,7 +62,7 @@ impl<M: Machine> Turns<M> {
         ensures table { (seat.new.table_id ≡ seat.old.table_id) × (seat.new.id ≡ seat.old.id) }
         ensures part { MatchOption result (seat.new.me ≡ seat.old.me)
             (λ x. (seat.new.me ≡ (with_part seat.old.me.0 place x, []))
-            × Sees M.meaning seat.new.me.0) }
+            × SeesBoth M.meaning seat.old.me.0 seat.new.me.0) }
     {
         let found = self
             .table

@@ -7,31 +7,25 @@ use Rattle.ocr_clerks.proofs.keeping.enter_kept.Goals as goal
 
 pub lift_parts-requires-clause-once : goal.lift_parts-requires-clause-once
 lift_parts-requires-clause-once g c =
-    let r = c.requires.1.1.1.1 in whole_once c.args.job.now.turns.now.1 c.args.clerk.now c.args.entry g.h c.args.places.now r.1.0 r.1.1
+    let r = c.requires.1.1 in whole_once c.args.job.now.turns.now.1 c.args.clerk.now c.args.entry g.h c.args.places.now r.1.0 r.1.1
 
 pub enter_at_work-requires : goal.enter_at_work-requires
 enter_at_work-requires g c =
-    let r = c.requires.1.1.1.1 in let e = c.in-Ok.ensures in
+    let r = c.requires.1.1 in let e = c.in-Ok.ensures in
     λ κs lives. (
       lives.0,
       (
         lives.1,
         (
-          c.requires.1.1.0,
-          (
-            c.requires.1.1.1.0,
-            (
-              lifted_work c.args.job.now.turns.now c.args.job.now.program.now c.args.clerk.now c.lift_parts.new.clerk r.0 e.same.0 e.same.1 e.same.2 (ap (λ (l : List (ℕ × Option Part)). length l) e.left ∙ lifted_length c.args.clerk.now.parts),
-              lifted_can c.args.job.now.turns.now.1 c.args.clerk.now c.lift_parts.new.clerk c.args.entry g.h c.in-Ok.parts.items e.same.1 e.parts r.1.1,
-            ),
-          ),
+          lifted_work c.args.job.now.turns.now c.args.job.now.program.now c.args.clerk.now c.lift_parts.new.clerk r.0 e.same.0 e.same.1 e.same.2 (ap (λ (l : List (ℕ × Option Part)). length l) e.left ∙ lifted_length c.args.clerk.now.parts),
+          lifted_can c.args.job.now.turns.now.1 c.args.clerk.now c.lift_parts.new.clerk c.args.entry g.h c.in-Ok.parts.items e.same.1 e.parts r.1.1,
         ),
       ),
     )
 
 pub returns-clause-entered : goal.returns-clause-entered
 returns-clause-entered g c =
-    let r = c.requires.1.1.1.1 in let e = c.in-Ok.ensures in
+    let r = c.requires.1.1 in let e = c.in-Ok.ensures in
     kept_on c.args.job.now.turns.now.1 c.args.clerk.now c.lift_parts.new.clerk c.enter_at_work.new.clerk c.args.entry g.h c.args.places.now r.1.0 r.1.1 e.same.1 e.left c.enter_at_work.result c.enter_at_work.ensures.entered
 
 pub returns-clause-resumed : goal.returns-clause-resumed

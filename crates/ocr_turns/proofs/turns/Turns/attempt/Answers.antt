@@ -1,5 +1,5 @@
-use Rattle.std.proofs.Common.{sym, ap, arith, ◌∙◌, ◌≡◌, ◌+◌, ◌-◌, ◌++◌, ◌∷◌, [], length, length-append, vec_capacity, refl, Some}
-use Rattle.ocr_turns.specs.Steps.{with_part}
+use Rattle.std.proofs.Common.{sym, ap, subst, arith, ◌∙◌, ◌≡◌, ◌+◌, ◌-◌, ◌++◌, ◌∷◌, [], length, length-append, vec_capacity, refl, Some}
+use Rattle.ocr_turns.specs.Steps.{SeesBoth, with_part}
 use Rattle.ocr_turns.proofs.Clerks.{true_same, took_true}
 use Rattle.ocr_turns.proofs.turns.Turns.attempt.Goals as goal
 
@@ -22,5 +22,5 @@ returns g c =
       ap (λ k. k.room) is ∙ room.0,
       spare,
       ap (λ k. k.space) is ∙ room.2,
-      took.1,
+      subst (λ v. SeesBoth g.M.Machine.meaning v c.try_take.new.seat.me.0) view took.1,
     )

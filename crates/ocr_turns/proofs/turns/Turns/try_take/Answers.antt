@@ -1,7 +1,7 @@
 use Rattle.std.proofs.Common.{sym, ap, subst, ◌∙◌, arith, ◌<◌, ◌≤◌, ◌+◌, ◌∷◌, Some, None}
 use Rattle.atomic_table.specs.Table.{rest}
 use Rattle.ocr_turns.specs.Sums.{weigh, one_at}
-use Rattle.ocr_turns.proofs.Takes.{allows_take, allows_settle, kept_last, took}
+use Rattle.ocr_turns.proofs.Takes.{allows_take, allows_settle, kept_last, taken_home, took}
 use Rattle.ocr_turns.proofs.Clerks.{place_fits}
 use Rattle.ocr_turns.proofs.turns.Turns.try_take.Goals as goal
 
@@ -40,3 +40,10 @@ load-requires g c =
           (ap (λ v. v.carried) view)
           (subst (λ v. 1 ≤ weigh (one_at p) v.parts) (sym view) (kept_last c.args.seat.now.me.0.parts p t.0)),
     )
+
+pub returns-clause-part : goal.returns-clause-part
+returns-clause-part g c =
+    let m = g.M.Machine.meaning in let me = c.args.seat.now.me in let p = c.args.place in
+    let old = c.compare_exchange-found.ensures in let ex = c.exchange-held.ensures in
+    let t = took m c.self.inside.table.shared.table_id.slots p me c.compare_exchange-found.new.seat.me c.compare_exchange-found.result old.2 c.if-found-ne0.false c.requires.hand.1 in
+    taken_home m p me c.compare_exchange-found.new.seat.me c.exchange-held.new.seat.me c.load.new.seat.me c.exchange-held.result c.in-Some.part c.requires.hand.0 t ex.2 ex.3 c.load.ensures.2 c.in-Some.is
