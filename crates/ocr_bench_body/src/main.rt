@@ -67,7 +67,7 @@ fn program(alloc: Global, turn: &str, turns: u64) -> io::Result<Checked> {
     }
     match check(alloc, program) {
         Ok(checked) => Ok(checked),
-        Err(_) => Err(Error::from(ErrorKind::Unsupported)), // rule 8 lets no load through yet
+        Err(_) => Err(Error::from(ErrorKind::Unsupported)),
     }
 }
 

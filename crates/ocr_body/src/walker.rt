@@ -3,10 +3,11 @@
 #![tactic(auto, using(crate::proofs::Rulesets::walking))]
 
 ghost use Rattle.std.specs.Prelude.{◌≡◌, ◌&&◌, ◌≤◌, ◌<◌, [], true, ℕ, IfOk, OnOk, OnErr, IfErr};
-ghost use Rattle.std.specs.Prelude.{IfSome, length, replicate, slice_index};
+ghost use Rattle.std.specs.Prelude.{IfSome, false, length, replicate, slice_index};
 ghost use Rattle.ocr_base.specs.Count.{Rose};
 ghost use Rattle.ocr_meaning.specs.Behaviour.{Behaviour, Ends, Stops, IsTrace};
 ghost use Rattle.ocr_meaning.specs.Body.{behaviour, says};
+ghost use Rattle.ocr_meaning.specs.Call.{is_access};
 ghost use Rattle.ocr_meaning.specs.Meaning.{with_variable, print_step};
 ghost use Rattle.ocr_meaning.specs.Meaning as meaning;
 ghost use Rattle.ocr_code.specs.Checked.{checked_tree};
@@ -456,6 +457,7 @@ fn go<A: Api>(
     requires ready { A.is_ready api.old }
     requires fits { Fits frame.now local.old }
     requires output { IfSome output (λ place. place < length frame.now.names.now) }
+    requires plain { way ≡ Way.Coded → is_access call.now ≡ false }
     requires begins { BeginsValue (next_of A.Api api.old)
         (way_part frame.now way call.now output (A.holds api.old) local.old) }
     ensures goes_on { GoesOn A.Api api.old api.new }
@@ -485,6 +487,7 @@ fn ask<A: Api>(
     requires ready { A.is_ready api.old }
     requires fits { Fits frame.now local.old }
     requires output { IfSome output (λ place. place < length frame.now.names.now) }
+    requires plain { is_access call.now ≡ false }
     requires begins { BeginsValue (next_of A.Api api.old)
         (ask_part frame.now call.now output (A.holds api.old) local.old) }
     ensures goes_on { GoesOn A.Api api.old api.new }

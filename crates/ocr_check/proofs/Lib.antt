@@ -5,7 +5,7 @@ pub mod Kept
 pub mod Judging
 pub mod Texts
 pub mod Parts
-pub mod Plain
+pub mod Outputs
 pub mod Outcomes
 pub mod Programs
 pub mod Rulesets

@@ -1,44 +1,36 @@
 // The calls that the program's runner cannot run yet.
 ghost use Rattle.std.specs.Prelude.{◌≡◌, ◌<◌, ◌+◌, ◌^◌, ◌&&◌, length, true, IfOk, IfSome, IfNone};
 ghost use Rattle.ocr_tree.specs.Built as built;
-ghost use Rattle.ocr_tree.specs.Built.{is_none, is_built, are_arguments_built, is_statement_built, are_built};
-ghost use Rattle.ocr_tree.specs.View.{expression_of, name_of, arguments_of, members_of, output_of, statement_of, statements_of, tree_of};
+ghost use Rattle.ocr_tree.specs.Built.{is_built, are_arguments_built, is_statement_built, are_built};
+ghost use Rattle.ocr_tree.specs.View.{expression_of, name_of, arguments_of, members_of, statement_of, statements_of, tree_of};
 ghost use Rattle.ocr_check.specs.Unbuilt.{IsUnbuilt};
 
 use crate::rules::CheckFault;
 use ocr_base::NoMemory;
-use ocr_tree::{Argument, Expr, Invoke, Name, Program, Stmt};
+use ocr_tree::{Argument, Expr, Invoke, Program, Stmt};
 use std::alloc::Global;
 
-// Whether a creation asks for no dependences and no output event.
-#[tactic(auto, using(crate::proofs::Plain::no_members, crate::proofs::Plain::no_output))]
-fn is_plain(deps: &[Expr], output: &Option<Name>) -> bool
-    ensures { result ≡ (is_none (members_of deps.now) && is_none (output_of output.now)) }
-{
-    deps.is_empty() && output.is_none()
-}
-
-// Whether a call can be made already.
+// Whether a call can be made already: no call of events, and no creation with an output event.
 fn is_call_built(call: &Invoke) -> bool
     ensures { result ≡ built.is_call_built (name_of call.now) (arguments_of call.now) }
 {
     match call {
-        Invoke::DbCreate { .. } => false,
-        Invoke::DbRelease { .. } => false,
-        Invoke::DbDestroy { .. } => false,
+        Invoke::DbCreate { .. } => true,
+        Invoke::DbRelease { .. } => true,
+        Invoke::DbDestroy { .. } => true,
         Invoke::EventCreate { .. } => false,
         Invoke::EventCreateParams { .. } => false,
         Invoke::EventDestroy { .. } => false,
         Invoke::Satisfy { .. } => false,
         Invoke::SatisfySlot { .. } => false,
-        Invoke::AddDependence { .. } => false,
+        Invoke::AddDependence { .. } => true,
         Invoke::TemplateCreate { .. } => true,
-        Invoke::TemplateDestroy { .. } => false,
-        Invoke::EdtCreate { deps, output, .. } => is_plain(deps, output),
+        Invoke::TemplateDestroy { .. } => true,
+        Invoke::EdtCreate { output, .. } => output.is_none(),
         Invoke::Shutdown => true,
         Invoke::Abort { .. } => true,
-        Invoke::Load { .. } => false,
-        Invoke::Store { .. } => false,
+        Invoke::Load { .. } => true,
+        Invoke::Store { .. } => true,
     }
 }
 

@@ -3,7 +3,7 @@ use Rattle.std.proofs.Common.{◌≡◌, ◌≤◌, ◌<◌, ◌+◌, ◌++◌, 
 use Rattle.std.specs.Prelude.{slice_index_or}
 use Rattle.std.proofs.lemmas.Bool.{and_parts, cond_both, leb-true}
 use Rattle.std.proofs.lemmas.List.{append-nil}
-use Rattle.ocr_tree.specs.Built.{is_call_built, is_plain_creation}
+use Rattle.ocr_tree.specs.Built.{is_call_built, is_creation_without_output}
 use Rattle.ocr_tree.specs.Constant.{value_of}
 use Rattle.ocr_tree.specs.Each.{is_each_call, is_each_call_of_all, is_each_call_in, is_each_call_in_all, is_each_call_of}
 use Rattle.ocr_tree.specs.Functions.{statements_at, number_named, numbers_in}
@@ -13,7 +13,7 @@ use Rattle.ocr_tree.specs.Tree.{Expression, Arguments, Statement, Statements, Fu
 use Rattle.ocr_meaning.specs.Behaviour.{Behaviour, Ends, Stops, Asks, Asked, after, after_answer}
 use Rattle.ocr_meaning.specs.Body.{behaviour}
 use Rattle.ocr_meaning.specs.Laws.{IsServed, IsBuilt, MakesOnly, ServedLaw, BuiltLaw}
-use Rattle.ocr_meaning.specs.Meaning.{Frame, State, Value, Given, nothing_given, with_value, with_list, values, is_output, state_after_answer, spend, with_variable, unary_value, call_of, outputs_of, made_step, eval, eval_all, turns, print_step, exec, exec_all}
+use Rattle.ocr_meaning.specs.Meaning.{Frame, State, Value, Given, nothing_given, with_value, with_list, is_output, state_after_answer, spend, with_variable, unary_value, call_of, outputs_of, made_step, eval, eval_all, turns, print_step, exec, exec_all}
 use Rattle.ocr_meaning.specs.declared.call.Answer.{Answer}
 use Rattle.ocr_meaning.specs.declared.call.Call.{Call}
 use Rattle.ocr_meaning.specs.declared.call.Call.TheVariants as call
@@ -178,24 +178,19 @@ served_calls program params depv name.EdtCreate xs g named short follows =
     two_within 16 g.lists (subst (λ (ls : List (List ℕ)). AreWithin 16 ls) (sym found.1) found.2)
 served_calls program params depv other xs g named short follows = tt
 
-none_of : (xs : List ℕ) → length xs ≤ 0 → xs ≡ []
-none_of [] le = refl
-none_of (x ∷ xs) le = absurd (omega (arith, le))
-
-plain_built : (xs : Arguments) (g : Given) → is_plain_creation xs ≡ true → Follows xs nothing_given g → (values g 1 ≡ []) × (is_output (names_in xs) ≡ false)
-plain_built (tree.value t (tree.value c (tree.list ps (tree.value d (tree.list tree.empty (tree.value f tree.empty)))))) g is follows =
-    let deps : List ℕ = follows.1.1.2.1.0 in
-    let second : deps ≡ values g 1 = ap (λ (of : Given). values of 1) follows.1.1.2.1.2.1 in
-    (sym second ∙ none_of deps follows.1.1.2.1.1, refl)
-plain_built other g is follows = cc is
+no_output : (xs : Arguments) → is_creation_without_output xs ≡ true → is_output (names_in xs) ≡ false
+no_output (tree.value t (tree.value c (tree.list ps (tree.value d (tree.list ds (tree.value f tree.empty)))))) is = refl
+no_output other is = cc is
 
 built_calls : (f : Frame) (made : CallName) (xs : Arguments) (g : Given) → is_call_built made xs ≡ true → is_call_built made xs ≡ true
     → Follows xs nothing_given g → IsAsked IsBuilt (call_of f made xs g)
-built_calls f name.TemplateCreate xs g is also follows = tt
-built_calls f name.EdtCreate xs g is also follows = plain_built xs g is follows
-built_calls f name.Shutdown xs g is also follows = tt
-built_calls f name.Abort xs g is also follows = tt
-built_calls f other xs g is also follows = cc is
+built_calls f name.EventCreate xs g is also follows = cc is
+built_calls f name.EventCreateParams xs g is also follows = cc is
+built_calls f name.EventDestroy xs g is also follows = cc is
+built_calls f name.Satisfy xs g is also follows = cc is
+built_calls f name.SatisfySlot xs g is also follows = cc is
+built_calls f name.EdtCreate xs g is also follows = no_output xs is
+built_calls f other xs g is also follows = tt
 
 pub served_law : ServedLaw
 served_law b log named short =

@@ -1,5 +1,5 @@
 -- What all bodies do, and how much a body can do.
-use Rattle.std.specs.Prelude.{◌≡◌, ◌≤◌, ◌<◌, ℕ, List, [], length, true, false}
+use Rattle.std.specs.Prelude.{◌≡◌, ◌≤◌, ◌<◌, ℕ, List, length, true, false}
 use Rattle.ocr_tree.specs.Built.{are_built}
 use Rattle.ocr_tree.specs.Rules.{are_functions_named, are_lists_short}
 use Rattle.ocr_meaning.specs.Behaviour.{Behaviour, Ends, Stops, Asks, Asked, IsTrace}
@@ -27,14 +27,17 @@ IsServed functions call.Shutdown = ⊥
 IsServed functions (call.Abort code) = ⊥
 IsServed functions other = Unit {0}
 
--- a call that rule 8 lets through: a print, or a creation of a template, or of an EDT without
--- dependences and without an output event
+-- a call that rule 8 lets through: all but those of events, and the creation of an EDT with an
+-- output event. A shutdown and an abort are no calls but stops
 abbrev pub IsBuilt : body.Call → Type 0
-IsBuilt (call.Print v) = Unit {0}
-IsBuilt (call.TemplateCreate function paramc depc) = Unit {0}
-IsBuilt (call.EdtCreate template paramc params depc deps flags output) =
-    (deps ≡ []) × (output ≡ false)
-IsBuilt other = ⊥
+IsBuilt (call.EventCreate kind flags) = ⊥
+IsBuilt (call.EventCreateParams kind flags max_gen nb_sat nb_deps) = ⊥
+IsBuilt (call.EventDestroy event) = ⊥
+IsBuilt (call.Satisfy event payload slot) = ⊥
+IsBuilt (call.EdtCreate template paramc params depc deps flags output) = output ≡ false
+IsBuilt call.Shutdown = ⊥
+IsBuilt (call.Abort code) = ⊥
+IsBuilt other = Unit {0}
 
 -- the body makes such calls alone, and then ends, or stops for a cause of its own, whatever the
 -- answers

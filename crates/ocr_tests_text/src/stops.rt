@@ -95,14 +95,18 @@ fn programs_stop_at_the_first_rule_that_they_break(rt: HostRuntime) {
             "fn mainEdt { ocrEdtCreate(1, 0, [], 0, [], 0, &o); }",
             Stop::Rule(4, 1),
         ),
-        ("fn mainEdt { ocrDbCreate(8, 0); }", Stop::Rule(8, 1)),
+        ("fn mainEdt { ocrEventCreate(1, 0); }", Stop::Rule(8, 1)),
+        (
+            "fn mainEdt { let o = 0; ocrEdtCreate(1, 0, [], 0, [], 0, &o); }",
+            Stop::Rule(8, 1),
+        ),
         // A call that can't be run yet is told only where no other rule is broken anywhere.
         (
-            "fn f { ocrDbCreate(8, 0); } fn mainEdt { print x; }",
+            "fn f { ocrEventDestroy(8); } fn mainEdt { print x; }",
             Stop::Rule(4, 2),
         ),
         (
-            "fn f { } fn g { if 1 { print 1 + load(1, 2); } } fn mainEdt { store(1, 2, 3); }",
+            "fn f { } fn g { if 1 { ocrEventDestroy(2); } } fn mainEdt { ocrEventDestroy(1); }",
             Stop::Rule(8, 2),
         ),
     ];
@@ -113,9 +117,20 @@ fn programs_stop_at_the_first_rule_that_they_break(rt: HostRuntime) {
             "in {text}"
         );
     }
-    let taken =
-        "fn other { } fn mainEdt { let y = 1; while y { let x = 0; y = x; } ocrShutdown(); }";
-    assert_eq!(rt; stop_of(rt.alloc(), taken.as_bytes()), None);
+}
+
+#[test]
+fn programs_with_all_calls_but_those_of_events_are_taken(rt: HostRuntime) {
+    let rows = [
+        "fn other { } fn mainEdt { let y = 1; while y { let x = 0; y = x; } ocrShutdown(); }",
+        "fn mainEdt { let d = ocrDbCreate(8, 0); ocrDbRelease(d); ocrDbDestroy(d); }",
+        "fn mainEdt { let t = ocrEdtTemplateCreate(mainEdt, 0, 1); ocrEdtTemplateDestroy(t); }",
+        "fn mainEdt { ocrAddDependence(1, ocrEdtCreate(3, 1, [7], 1, [2], 0), 0, DB_MODE_RW); }",
+        "fn mainEdt { store(depv[0], 0, load(depv[0], 0)); ocrAbort(1); }",
+    ];
+    for text in rows {
+        assert_eq!(rt; stop_of(rt.alloc(), text.as_bytes()), None, "in {text}");
+    }
 }
 
 // A creation of an EDT with this many parameters and dependences.
@@ -134,7 +149,7 @@ fn creation(alloc: Global, params: u32, deps: u32) -> Result<Vec<u8>, AllocError
 fn lists_have_at_most_16_and_32_members(rt: HostRuntime) -> Result<(), AllocError> {
     let alloc = rt.alloc();
     let enough = creation(alloc, 15, 31)?;
-    assert_eq!(rt; stop_of(alloc, enough.as_slice()), Some(Stop::Rule(8, 1)));
+    assert_eq!(rt; stop_of(alloc, enough.as_slice()), None);
     let many = creation(alloc, 16, 0)?;
     assert_eq!(rt; stop_of(alloc, many.as_slice()), Some(Stop::Rule(6, 1)));
     let many = creation(alloc, 0, 32)?;

@@ -19,7 +19,7 @@ go-requires-clause-begins g c =
     ≡ way_part c.args.frame.now c.way_of.result c.in-Ok.call c.output_of.result (g.A.Api.holds c.args.api.now) c.args.local.now k =
     λ k. made_alike numbers names f c.args.name xs (given_of c.args.given.now) c.name-named.result c.in-Ok.call c.way_of.result first
     (c.in-Ok.ensures f xs (wanted numbers names f xs c.name-named.result c.args.name c.number_of.result refl c.requires.named first c.number_of.ensures) (stands numbers names (names_in xs) c.name-named.result first ∙ sym c.is_some.ensures))
-    c.way_of.ensures st k
+    c.way_of.ensures.step st k
     ∙ ap (λ (o : Option ℕ). way_step c.way_of.result c.in-Ok.call (output_at names o) st k) (sym c.output_of.ensures) in
     begins_alike _ _ _ alike c.requires.begins
 
@@ -35,6 +35,6 @@ returns-clause-ok g c =
     ≡ way_part c.args.frame.now c.way_of.result c.in-Ok.call c.output_of.result (g.A.Api.holds c.args.api.now) c.args.local.now k =
     λ k. made_alike numbers names f c.args.name xs (given_of c.args.given.now) c.name-named.result c.in-Ok.call c.way_of.result first
     (c.in-Ok.ensures f xs (wanted numbers names f xs c.name-named.result c.args.name c.number_of.result refl c.requires.named first c.number_of.ensures) (stands numbers names (names_in xs) c.name-named.result first ∙ sym c.is_some.ensures))
-    c.way_of.ensures st k
+    c.way_of.ensures.step st k
     ∙ ap (λ (o : Option ℕ). way_step c.way_of.result c.in-Ok.call (output_at names o) st k) (sym c.output_of.ensures) in
     has_alike _ _ _ _ _ _ alike c.go.ensures.ok
