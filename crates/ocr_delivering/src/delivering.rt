@@ -21,7 +21,7 @@ use std::sync::Wait;
 /// where the run has ended, or is ended here: where the clerk's log would weigh more than its share
 /// with the delivery, and where memory is refused. Only where the push was refused the delivery
 /// stands.
-pub fn deliver_set<R: Wait + Sync, G: Gate>(
+pub fn deliver_set<R: Wait, G: Gate>(
     alloc: Global,
     job: &Job<R, G>,
     worker: u32,
@@ -49,7 +49,7 @@ pub fn deliver_set<R: Wait + Sync, G: Gate>(
 }
 
 /// Enters the delivery of a message that the clerk owes and that sets a slot, without a part.
-fn enter_delivery<R: Wait + Sync, G: Gate>(
+fn enter_delivery<R: Wait, G: Gate>(
     alloc: Global,
     job: &Job<R, G>,
     worker: u32,
@@ -76,7 +76,7 @@ fn enter_delivery<R: Wait + Sync, G: Gate>(
 
 /// Puts the payload of a slot that an entry of the clerk set, counts the slot, and pushes the EDT
 /// where nothing of it is left to be counted.
-fn settle<R: Wait + Sync, G: Gate>(
+fn settle<R: Wait, G: Gate>(
     alloc: Global,
     job: &Job<R, G>,
     worker: u32,
@@ -103,7 +103,7 @@ fn settle<R: Wait + Sync, G: Gate>(
 }
 
 /// Delivers the first message that the clerk owes. It answers as `deliver_set` does.
-pub fn deliver_owed<R: Wait + Sync, G: Gate>(
+pub fn deliver_owed<R: Wait, G: Gate>(
     alloc: Global,
     job: &Job<R, G>,
     worker: u32,

@@ -14,7 +14,7 @@ use std::sync::Wait;
 
 /// Pushes an EDT that is ready. Where memory is refused the run is ended, since the EDT would be
 /// lost.
-pub(crate) fn push_ready<R: Wait + Sync, G: Gate>(
+pub(crate) fn push_ready<R: Wait, G: Gate>(
     alloc: Global,
     job: &Job<R, G>,
     worker: u32,

@@ -1,20 +1,17 @@
 -- What a worker keeps once its EDT has acquired a block or passed it by.
-use Rattle.std.proofs.Common.{◌≡◌, ◌≢◌, ℕ, zero, suc, ◌+◌, ◌≤◌, Bool, true, false, ◌==◌, ◌&&◌, ◌||◌, if◌then◌else◌, List, [], ◌∷◌, ◌++◌, length, take, Option, Some, None, refl, ap, sym, ◌∙◌, subst, arith}
+use Rattle.std.proofs.Common.{◌≡◌, ◌≢◌, ℕ, ◌+◌, ◌≤◌, false, ◌||◌, List, [], ◌∷◌, ◌++◌, take, Option, Some, None, refl, ap, sym, ◌∙◌, subst}
 use Rattle.std.specs.List.{All}
-use Rattle.ocr_acquire.specs.declared.Mode.{Mode}
-use Rattle.ocr_code.specs.declared.checked.Checked.{Checked}
 use Rattle.ocr_edt.specs.declared.Edt.{Edt}
 use Rattle.ocr_edt.specs.declared.Edt.TheVariants as phase
-use Rattle.ocr_history.specs.declared.entry.Entry.{Entry}
 use Rattle.ocr_history.specs.declared.entry.Entry.TheVariants.{Acquire, StaleAcquire, Wait}
 use Rattle.ocr_parts.specs.declared.part.Core.{Core}
 use Rattle.ocr_parts.specs.declared.part.Part.{Part}
 use Rattle.ocr_parts.specs.declared.part.Part.TheVariants as part
 use Rattle.ocr_parts.specs.Effects.{acquired_edt, acquiring_core, awoken, changed, next_mode_on, ready_at, stale_edt, with_phase}
-use Rattle.ocr_parts.specs.Kinds.{on_core, size_on, words_on}
+use Rattle.ocr_parts.specs.Kinds.{size_on, words_on}
 use Rattle.ocr_parts.specs.Parts.{Parts}
-use Rattle.ocr_parts.specs.Taken.{as_core, core_in, is_within, parts_in}
-use Rattle.ocr_quiet.specs.Waits.{awaits, awaits_in}
+use Rattle.ocr_parts.specs.Taken.{as_core, parts_in}
+use Rattle.ocr_quiet.specs.Waits.{awaits_in}
 use Rattle.ocr_standing.specs.Kept.{kept_ready, plan_from}
 use Rattle.ocr_facts.specs.Clerks.{OcrTerms, OcrView}
 use Rattle.ocr_facts.specs.Ocr.{ends, starts}
@@ -122,7 +119,7 @@ module _ (t : OcrTerms) (edt d : ℕ) (a : Act) (payloads places : List ℕ) (h 
   h_parts : h.parts ≡ before
   h_parts = ap (λ (x : Hand). x.parts) m.before ∙ m.kept
 
-  later_keys : keys enters.later ≡ (t.limit + edt) ∷ places
+  pub later_keys : keys enters.later ≡ (t.limit + edt) ∷ places
   later_keys = turns_keys enters.later h.parts enters.step.same_keys ∙ (ap (λ (x : Hand). keys x.parts) m.before ∙ m.places_are)
 
   split : (x : Part) × (rest : List (ℕ × Part)) × (enters.later ≡ (t.limit + edt, x) ∷ rest) × (keys rest ≡ places)
@@ -136,12 +133,12 @@ module _ (t : OcrTerms) (edt d : ℕ) (a : Act) (payloads places : List ℕ) (h 
   ready_by act.Pass = refl
   ready_by act.Wait = refl
 
-  state_is : parts_in t.limit enters.later ≡ changed (entry_by a edt d) f
+  pub state_is : parts_in t.limit enters.later ≡ changed (entry_by a edt d) f
   state_is = enters.step.parts
       ∙ (ap (λ (x : Hand). changed (entry_by a edt d) (kept_ready t.limit x.members (entry_by a edt d) x.parts)) (m.before ∙ ap (λ (l : List (ℕ × Part)). record { members = plan_from m.slots payloads; parts = l }) m.kept)
       ∙ ap (changed (entry_by a edt d)) (ready_by a))
 
-  core_now : f.core edt ≡ part.Core (ready_with m.slots payloads m.core)
+  pub core_now : f.core edt ≡ part.Core (ready_with m.slots payloads m.core)
   core_now = rw (number_same edt, has.number, number_same (t.limit + edt)) refl
 
   pub record AwakeCore (x : Act) : Type 0 where

@@ -1,6 +1,5 @@
 -- A core that was made ready at hand, with the face of its EDT and a block.
-use Rattle.std.proofs.Common.{◌≡◌, ◌≢◌, ℕ, ◌+◌, ◌==◌, Bool, true, false, if◌then◌else◌, List, [], ◌∷◌, length, Option, Some, None, refl, ap, sym, ◌∙◌, subst}
-use Rattle.ocr_acquire.specs.declared.Mode.{Mode}
+use Rattle.std.proofs.Common.{◌≡◌, ◌≢◌, ℕ, ◌+◌, Bool, true, false, List, [], ◌∷◌, Option, Some, None, refl, ap, sym, ◌∙◌, subst}
 use Rattle.ocr_datablock.specs.Block as block
 use Rattle.ocr_slots.specs.declared.Slot.{Slot}
 use Rattle.ocr_parts.specs.declared.part.Core.{Core}
@@ -10,22 +9,15 @@ use Rattle.ocr_parts.specs.Kinds.{next_in, progress_in}
 use Rattle.ocr_parts.specs.Taken.{is_within}
 use Rattle.ocr_standing.specs.Kept.{plan_from}
 use Rattle.ocr_facts.specs.Clerks.{OcrTerms, OcrView}
-use Rattle.ocr_turns.specs.Sums.{as_some, find, keys, replace}
+use Rattle.ocr_turns.specs.Sums.{as_some, keys, replace}
 use Rattle.ocr_clerks.specs.Entering.{Hand, OcrKnown}
 use Rattle.ocr_clerks.specs.Work.{KnowsPayloads, ready_with}
 use Rattle.ocr_clerks.proofs.Hands.{number_same}
 use Rattle.ocr_waking.specs.Meeting.{CarriesOut, pair_of}
 use Rattle.ocr_waking.specs.Waking.{IsAble, Meets, PutReady, two_faces}
 use Rattle.ocr_waking.specs.declared.acting.Act.{Act}
-use Rattle.ocr_waking.proofs.Putting.{edt_same}
+use Rattle.ocr_waking.proofs.Putting.{core_same, edt_same}
 use Rattle.ocr_waking.proofs.Taking.{core_found, face_found, item_is}
-
-abbrev core_on : Part → Core → Core
-core_on (part.Core c) d = c
-core_on other d = d
-
-core_same : (c d : Core) → part.Core c ≡ part.Core d → c ≡ d
-core_same c d is = ap (λ (x : Part). core_on x c) is
 
 faces_are : (b : Bool) (t d : ℕ) (x y : Part) (slots : List Slot) (st : block.State) → x ≡ part.Edt slots → y ≡ part.Block st → pair_of b t d x y ≡ two_faces b t d slots st
 faces_are true t d x y slots st p q = (λ i. (d, q i) ∷ (t, p i) ∷ [])

@@ -1,5 +1,5 @@
 -- Payloads that are read, one after another.
-use Rattle.std.proofs.Common.{◌≡◌, ◌⊎◌, inl, inr, ⊎_elim, ℕ, zero, suc, ◌<◌, Bool, List, [], ◌∷◌, ◌++◌, length, reverse, true, Option, Some, None, refl, ap, sym, ◌∙◌, arith}
+use Rattle.std.proofs.Common.{◌≡◌, ◌⊎◌, inl, inr, ⊎_elim, ℕ, zero, suc, ◌<◌, List, [], ◌∷◌, ◌++◌, length, reverse, true, Option, Some, None, refl, ap, sym, ◌∙◌, arith}
 use Rattle.std.specs.Prelude.{slice_index_or}
 use Rattle.std.proofs.lemmas.List.{append-nil, append_assoc}
 use mathlib.Core.Option.{some}
@@ -9,7 +9,7 @@ use Rattle.ocr_datablock.specs.Block as block
 use Rattle.ocr_slots.specs.declared.Slot.{Slot}
 use Rattle.ocr_slots.specs.Slots as slot
 use Rattle.ocr_guid.specs.Target.{EventCall}
-use Rattle.ocr_history.specs.Made.{Made, MadeBlock, MadeTemplate, MadeEdt, made}
+use Rattle.ocr_history.specs.Made.{Made, MadeEdt, made}
 use Rattle.ocr_parts.specs.declared.part.Part.{Part}
 use Rattle.ocr_parts.specs.declared.part.Part.TheVariants as part
 use Rattle.ocr_parts.specs.Calls.{block_calls, event_calls, link_calls}

@@ -1,9 +1,16 @@
 pub mod Acts
 pub mod After
 pub mod Asked
+pub mod Awake
 pub mod Can
 pub mod Carries
+pub mod Faces
+pub mod Holding
 pub mod Learning
+pub mod Learnt
+pub mod Letting
+pub mod Parks
 pub mod Putting
+pub mod Standing
 pub mod Taking
 pub mod Three

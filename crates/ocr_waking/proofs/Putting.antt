@@ -1,7 +1,8 @@
 -- Parts of a hand that are found and replaced.
-use Rattle.std.proofs.Common.{◌≡◌, ◌≢◌, ℕ, ◌+◌, ◌==◌, Bool, true, false, if◌then◌else◌, List, [], ◌∷◌, length, Option, Some, None, refl, ap, sym, ◌∙◌, subst, arith}
+use Rattle.std.proofs.Common.{◌≡◌, ◌≢◌, ℕ, ◌==◌, true, false, if◌then◌else◌, List, [], ◌∷◌, length, Option, Some, refl, ap, subst, arith}
 use Rattle.std.proofs.lemmas.Bool.{eqb-true}
 use Rattle.ocr_slots.specs.declared.Slot.{Slot}
+use Rattle.ocr_parts.specs.declared.part.Core.{Core}
 use Rattle.ocr_parts.specs.declared.part.Part.{Part}
 use Rattle.ocr_parts.specs.declared.part.Part.TheVariants as part
 use Rattle.ocr_turns.specs.Sums.{find, replace}
@@ -43,3 +44,18 @@ slots_on other = []
 
 pub edt_same : (a b : List Slot) → part.Edt a ≡ part.Edt b → a ≡ b
 edt_same a b is = ap slots_on is
+
+abbrev core_on : Part → Core → Core
+core_on (part.Core c) d = c
+core_on other d = d
+
+pub core_same : (c d : Core) → part.Core c ≡ part.Core d → c ≡ d
+core_same c d is = ap (λ (x : Part). core_on x c) is
+
+-- the first part of a list is one core
+abbrev first_core : List (ℕ × Part) → Core → Core
+first_core [] d = d
+first_core (p ∷ rest) d = core_on p.1 d
+
+pub first_same : (p q : ℕ) (c d : Core) (xs ys : List (ℕ × Part)) → (p, part.Core c) ∷ xs ≡ (q, part.Core d) ∷ ys → c ≡ d
+first_same p q c d xs ys is = ap (λ (l : List (ℕ × Part)). first_core l c) is

@@ -1,7 +1,17 @@
 -- A worker takes the face of its EDT and a block.
-use Rattle.std.proofs.Common.{◌≡◌, ◌≢◌, ℕ, ◌+◌, ◌≤◌, ◌==◌, Bool, true, false, List, [], ◌∷◌, ◌++◌, length, Option, Some, refl, ap, sym, ◌∙◌, subst, arith}
+use Rattle.std.proofs.Common.{◌≡◌, ◌≢◌, ℕ, ◌+◌, ◌==◌, Bool, true, false, List, [], ◌∷◌, ◌++◌, length, Option, Some, None, refl, ap, sym, ◌∙◌, subst}
 use Rattle.ocr_facts.specs.Clerks.{OcrTerms, OcrView}
-use Rattle.ocr_facts.specs.Ocr.{ends, starts}
+use Rattle.ocr_facts.specs.Ocr.{ends, meaning, starts}
+use Rattle.ocr_acquire.specs.declared.Mode.{Mode}
+use Rattle.ocr_edt.specs.declared.Edt.{Edt}
+use Rattle.ocr_edt.specs.declared.Edt.TheVariants as phase
+use Rattle.ocr_edt.specs.Phases.{Progress, next_of}
+use Rattle.ocr_parts.specs.declared.part.Core.{Core}
+use Rattle.ocr_parts.specs.Effects.{made_ready}
+use Rattle.ocr_parts.specs.Kinds.{next_in, progress_in}
+use Rattle.ocr_quiet.specs.Waits.{awaits_in}
+use Rattle.ocr_standing.specs.Kept.{plan_from}
+use Rattle.ocr_turns.specs.Words.{SeesReady}
 use Rattle.ocr_history.specs.declared.entry.Entry.{Entry}
 use Rattle.ocr_parts.specs.declared.part.Part.{Part}
 use Rattle.ocr_parts.specs.declared.part.Part.TheVariants as part
@@ -11,19 +21,21 @@ use Rattle.ocr_turns.specs.Sums.{as_some, entries, find, is_among, keys}
 use Rattle.ocr_turns.specs.Contract.{SameHand}
 use Rattle.ocr_slots.specs.declared.Slot.{Slot}
 use Rattle.ocr_parts.specs.Taken.{is_within}
+use Rattle.std.specs.Option.{IfNone, IfSome}
 use mathlib.Core.Option.{some}
 use lib.ListN.{get_elem?}
 use Rattle.ocr_clerks.proofs.Hands.{apart_is, number_same}
 use Rattle.ocr_clerks.proofs.Seen.{core_apart}
 use Rattle.ocr_waking.specs.Waking.{KeepsFace, Learns}
-use Rattle.ocr_waking.proofs.Putting.{item_same}
+use Rattle.ocr_waking.proofs.Putting.{core_same, edt_same, first_same, item_same}
+use Rattle.ocr_waking.proofs.Standing.{face_at, kept_slots, sees_ready, stands_now}
 use Rattle.ocr_clerks.specs.Entering.{OcrKnown}
 use Rattle.ocr_clerks.specs.Work.{HasTakenOn, KnowsPayloads, Took}
-use Rattle.ocr_waking.specs.Meeting.{CanAct, HasThree, HoldsCore, IsFaceWith, KnowsThree, MayAct, pair_of}
+use Rattle.ocr_waking.specs.Meeting.{CanAct, HasThree, HoldsCore, IsOther, KnowsThree, MayAct, MeetsOther, StandsAtNext, WantsNext, WantsOther, pair_of}
 use Rattle.ocr_waking.specs.declared.acting.Act.{Act}
 
 -- two parts with these numbers
-two_items : (p q : ℕ) (ps : List (ℕ × Part)) → keys ps ≡ p ∷ q ∷ [] → (x : Part) × (y : Part) × (ps ≡ (p, x) ∷ (q, y) ∷ [])
+pub two_items : (p q : ℕ) (ps : List (ℕ × Part)) → keys ps ≡ p ∷ q ∷ [] → (x : Part) × (y : Part) × (ps ≡ (p, x) ∷ (q, y) ∷ [])
 two_items p q [] is = cc is
 two_items p q (a ∷ []) is = cc is
 two_items p q (a ∷ b ∷ []) is =
@@ -93,29 +105,26 @@ found_at false limit edt d x i y z wt wd off is =
     let here : find edt ((limit + edt, i) ∷ as_some (pair_of false edt d y z)) ≡ Some (Some y) = rw (a, number_same edt) refl in
     item_same x y (sym is ∙ here)
 
-slots_with : (x : Part) (n : ℕ) → IsFaceWith x n → (slots : List Slot) × (x ≡ part.Edt slots) × (n ≡ length slots)
-slots_with (part.Edt slots) n is = (slots, refl, is)
-slots_with other n is = absurd is
+pub three_slots : (t : OcrTerms) (edt d : ℕ) (first : Bool) (c : OcrKnown) (m : HasThree t edt d first c) → edt ≢ d → is_within t.limit d ≡ true → c.view.terms ≡ Some t → c.view.closed ≡ None → SeesReady meaning c.view edt → (x : Part) → find edt c.parts ≡ Some (Some x) → (slots : List Slot) × (x ≡ part.Edt slots)
+three_slots t edt d first c m off wd terms going ready x found =
+    let r = sees_ready t c.view edt terms going ready in
+    let at = face_at first (t.limit + edt) edt d (part.Core m.core) m.face m.other in
+    let there = kept_slots t r.0 c.view at.0 edt m.face r.1.fits m.taken.number (ap (λ (l : List (ℕ × Part)). get_elem? l at.0) m.kept ∙ at.1) r.1.set in
+    (there.0, found_at first t.limit edt d x (Some (part.Core m.core)) m.face m.other m.taken.number wd off (ap (find edt) (sym m.hand) ∙ found) ∙ there.1)
 
-module _ (t : OcrTerms) (edt d : ℕ) (first : Bool) (c : OcrKnown) (m : HasThree t edt d first c) (off : edt ≢ d) (wd : is_within t.limit d ≡ true) (x : Part) (count : ℕ) (found : find edt c.parts ≡ Some (Some x)) (with : IsFaceWith x count) where
-  face_is : x ≡ m.face
-  face_is = found_at first t.limit edt d x (Some (part.Core m.core)) m.face m.other m.taken.number wd off (ap (find edt) (sym m.hand) ∙ found)
-
-  its_slots : (slots : List Slot) × (x ≡ part.Edt slots) × (count ≡ length slots)
-  its_slots = slots_with x count with
-
-  its_face : m.face ≡ part.Edt its_slots.0
-  its_face = sym face_is ∙ its_slots.1
+module _ (t : OcrTerms) (edt d : ℕ) (first : Bool) (c : OcrKnown) (m : HasThree t edt d first c) (off : edt ≢ d) (wd : is_within t.limit d ≡ true) (x : Part) (slots : List Slot) (count : ℕ) (found : find edt c.parts ≡ Some (Some x)) (is_face : x ≡ part.Edt slots) (many : count ≡ length slots) where
+  its_face : m.face ≡ part.Edt slots
+  its_face = sym (found_at first t.limit edt d x (Some (part.Core m.core)) m.face m.other m.taken.number wd off (ap (find edt) (sym m.hand) ∙ found)) ∙ is_face
 
   pub keeps_three : KeepsFace c.view edt count
   keeps_three = by_order first m.kept
     where
       by_order : (b : Bool) → c.view.parts ≡ (t.limit + edt, part.Core m.core) ∷ pair_of b edt d m.face m.other → KeepsFace c.view edt count
-      by_order true is = record { place = 2; slots = its_slots.0; kept = ap (λ (l : List (ℕ × Part)). get_elem? l 2) is ∙ ap (λ (y : Part). some (edt, y)) its_face; count_is = sym its_slots.2 }
-      by_order false is = record { place = 1; slots = its_slots.0; kept = ap (λ (l : List (ℕ × Part)). get_elem? l 1) is ∙ ap (λ (y : Part). some (edt, y)) its_face; count_is = sym its_slots.2 }
+      by_order true is = record { place = 2; slots = slots; kept = ap (λ (l : List (ℕ × Part)). get_elem? l 2) is ∙ ap (λ (y : Part). some (edt, y)) its_face; count_is = sym many }
+      by_order false is = record { place = 1; slots = slots; kept = ap (λ (l : List (ℕ × Part)). get_elem? l 1) is ∙ ap (λ (y : Part). some (edt, y)) its_face; count_is = sym many }
 
   pub knows_three : (new : OcrKnown) → (payloads : List ℕ) → SameHand c new → Learns c.view new.view → length payloads ≡ count → KnowsPayloads new.view edt payloads → KnowsThree t edt d first payloads new
-  knows_three new payloads hand learns many knows = record {
+  knows_three new payloads hand learns read knows = record {
     three = record {
       taken = learnt_taken t edt c new m.taken learns;
       unstarted = ap (λ (v : OcrView). is_among (λ e. is_own e edt) (entries v.log)) learns.view ∙ m.unstarted;
@@ -125,11 +134,19 @@ module _ (t : OcrTerms) (edt d : ℕ) (first : Bool) (c : OcrKnown) (m : HasThre
       kept = ap (λ (v : OcrView). v.parts) learns.view ∙ m.kept;
       hand = hand.1 ∙ m.hand;
     };
-    slots = its_slots.0;
+    slots = slots;
     face_is = its_face;
-    count = many ∙ its_slots.2;
+    count = read ∙ many;
     facts = knows;
   }
+
+-- WHO WAITS waits for the block that comes next
+awake_by : (e : Edt) (members : List (ℕ × Mode)) (d : ℕ) → ((p : Progress) → progress_in e ≡ Some p → (m : Mode) × (next_of p ≡ Some (d, m))) → ((m : Mode) → next_in (progress_in (made_ready members e)) ≢ Some (d, m)) → awaits_in e ≡ None
+awake_by (phase.Filling i) members d wants other = refl
+awake_by (phase.Acquiring s) members d wants other = refl
+awake_by (phase.Waiting s) members d wants other = let w = wants s refl in absurd (other w.0 w.1)
+awake_by (phase.Running s) members d wants other = refl
+awake_by (phase.Ended i) members d wants other = refl
 
 -- THE THREE PARTS stand at hand
 pub three_there : (b : Bool) (limit edt d : ℕ) (i y z : Part) → is_within limit edt ≡ true → is_within limit d ≡ true → edt ≢ d
@@ -163,19 +180,36 @@ module _ (t : OcrTerms) (edt d : ℕ) (first : Bool) (c : OcrKnown) (m : HasThre
 pub item_is : (n : ℕ) (hands : List (ℕ × Option Part)) (x y : Part) → find n hands ≡ Some (Some x) → find n hands ≡ Some (Some y) → x ≡ y
 item_is n hands x y p q = item_same x y (sym p ∙ q)
 
-module _ (t : OcrTerms) (edt d : ℕ) (first : Bool) (payloads : List ℕ) (c : OcrKnown) (k : KnowsThree t edt d first payloads c) (off : edt ≢ d) (wd : is_within t.limit d ≡ true) where
-  pub face_with : (x : Part) → find edt c.parts ≡ Some (Some x) → IsFaceWith x (length payloads)
-  face_with x found =
-      let is : x ≡ part.Edt k.slots = item_is edt c.parts x k.three.face found (face_found t edt d first c k.three off wd) ∙ k.face_is in
-      subst (λ (y : Part). IsFaceWith y (length payloads)) (sym is) k.count
+module _ (t : OcrTerms) (edt d : ℕ) (first : Bool) (payloads : List ℕ) (c : OcrKnown) (k : KnowsThree t edt d first payloads c) (off : edt ≢ d) (wd : is_within t.limit d ≡ true) (x y z : Part) (fx : find (t.limit + edt) c.parts ≡ Some (Some x)) (fy : find edt c.parts ≡ Some (Some y))
+    (fz : find d c.parts ≡ Some (Some z)) where
+  its_core : x ≡ part.Core k.three.core
+  its_core = item_is (t.limit + edt) c.parts x (part.Core k.three.core) fx (core_found t edt d first c k.three off wd)
 
-  pub can_act : (a : Act) (x y z : Part) → find (t.limit + edt) c.parts ≡ Some (Some x) → find edt c.parts ≡ Some (Some y) → find d c.parts ≡ Some (Some z) → MayAct x y z edt d payloads a → CanAct t edt d first payloads a c
-  can_act a x y z fx fy fz may =
-      let ix : x ≡ part.Core k.three.core = item_is (t.limit + edt) c.parts x (part.Core k.three.core) fx (core_found t edt d first c k.three off wd) in
-      let iy : y ≡ k.three.face = item_is edt c.parts y k.three.face fy (face_found t edt d first c k.three off wd) in
-      let iz : z ≡ k.three.other = item_is d c.parts z k.three.other fz (other_found t edt d first c k.three off wd) in
+  the_face : y ≡ k.three.face
+  the_face = item_is edt c.parts y k.three.face fy (face_found t edt d first c k.three off wd)
+
+  the_other : z ≡ k.three.other
+  the_other = item_is d c.parts z k.three.other fz (other_found t edt d first c k.three off wd)
+
+  -- what the parts at hand tell is told by those that are kept
+  pub can_act : (o : Option Act) → IfSome o (λ a. MayAct x y z edt d payloads a) → IfSome o (λ a. CanAct t edt d first payloads a c)
+  can_act None may = tt
+  can_act (Some a) may = record { knows = k; may = subst (λ (l : Part × Part × Part). MayAct l.0 l.1 l.2 edt d payloads a) (λ i. (its_core i, the_face i, the_other i)) may }
+
+  pub stands_at : c.view.terms ≡ Some t → c.view.closed ≡ None → SeesReady meaning c.view edt → StandsAtNext x y z edt d payloads
+  stands_at terms going ready =
+      let r = sees_ready t c.view edt terms going ready in
+      subst (λ (l : Part × Part × Part). StandsAtNext l.0 l.1 l.2 edt d payloads) (λ i. (sym its_core i, sym the_face i, sym the_other i)) (stands_now t edt d first payloads c k wd r.0 r.1)
+
+  pub wants_other : WantsNext t edt d c → (o : Option Act) → IfNone o (MeetsOther x y d payloads) → IfNone o (WantsOther t edt d first payloads c)
+  wants_other wants (Some a) meets = tt
+  wants_other wants None meets =
+      let core = core_same meets.item k.three.core (sym meets.core_is ∙ its_core) in
+      let slots = edt_same meets.slots k.slots (sym meets.face_is ∙ (the_face ∙ k.face_is)) in
+      let first = first_same (t.limit + edt) (t.limit + edt) wants.core k.three.core _ _ (sym wants.kept ∙ k.three.kept) in
+      let other : IsOther k.three.core k.slots payloads d = subst (λ (l : Core × List Slot). IsOther l.0 l.1 payloads d) (λ i. (core i, slots i)) meets.other in
       record {
         knows = k;
-        may = subst (λ (q : Part). MayAct (part.Core k.three.core) k.three.face q edt d payloads a) iz
-            (subst (λ (q : Part). MayAct (part.Core k.three.core) q z edt d payloads a) iy (subst (λ (q : Part). MayAct q y z edt d payloads a) ix may));
+        other = other;
+        awake = awake_by k.three.core.edt (plan_from k.slots payloads) d (subst (λ (q : Core). (p : Progress) → progress_in q.edt ≡ Some p → (m : Mode) × (next_of p ≡ Some (d, m))) first wants.next) other;
       }

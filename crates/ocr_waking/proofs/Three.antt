@@ -59,7 +59,7 @@ placed_new p n (m ∷ ns) none = elim (nat_lt n m) as (λ b. nat_lt n m ≡ b �
       rw off (omega (arith, r))
 ] refl
 
-apart_one : (n m : ℕ) → n ≢ m → one_at n m ≡ 0
+pub apart_one : (n m : ℕ) → n ≢ m → one_at n m ≡ 0
 apart_one n m off = rw (apart_is n m off) refl
 
 pub footprint_sum : (limit t d p : ℕ) → is_within limit t ≡ true → is_within limit d ≡ true → t ≢ d

@@ -40,6 +40,10 @@ IsLet act.Acquire t m st = IsTaken t m st
 IsLet act.Pass t m st = block.is_gone st ≡ true
 IsLet act.Wait t m st = IsRefused t m st
 
+-- it lets it do something
+abbrev pub LetsAny : ℕ → Mode → block.State → Type 0
+LetsAny t m st = (a : Act) × IsLet a t m st
+
 abbrev pub entry_by : Act → ℕ → ℕ → Entry
 entry_by act.Acquire t d = an.Acquire t d
 entry_by act.Pass t d = an.StaleAcquire t d

@@ -1,10 +1,8 @@
 // What an EDT does with the block that it acquires next.
-ghost use Rattle.std.specs.Prelude.{◌≡◌, true, false, None, IfSome, OnOk, OnErr};
-ghost use Rattle.ocr_acquire.specs.Mode.{mode_in};
-ghost use Rattle.ocr_datablock.specs.Block.{is_gone};
+ghost use Rattle.std.specs.Prelude.{◌≡◌, OnOk, OnErr};
 ghost use Rattle.ocr_clerks.specs.Entering.{Hand};
 ghost use Rattle.ocr_clerks.specs.Work.{AtWork, EntersKept, HasTakenOn, IsGone, Stays};
-ghost use Rattle.ocr_waking.specs.Waking.{IsLet, Meets, entry_by};
+ghost use Rattle.ocr_waking.specs.Waking.{IsLet, LetsAny, Meets, entry_by};
 
 use ocr_acquire::Mode;
 use ocr_clerks::{Gate, Job, Ocr, Over, enter_kept};
@@ -26,48 +24,24 @@ pub enum Act {
     Wait,
 }
 
-/// What the block lets an EDT do that wants it in this mode; None where the EDT stands at it
-/// otherwise than one that acquires it.
-pub fn act_on(block: &Block, edt: Guid, mode: Mode) -> Option<Act>
-    ensures { IfSome result (λ act. IsLet act edt mode block.now) }
+/// What the block lets an EDT do that wants it in this mode.
+pub fn act_on(block: &Block, edt: Guid, mode: Mode) -> Act
+    requires { LetsAny edt mode block.now }
+    ensures { IsLet result edt mode block.now }
 {
     if block.is_gone() {
-        return Some(Act::Pass);
+        return Act::Pass;
     }
-    let free = block.borrower().is_none();
-    match block.mode_of(edt) {
-        Some(held) => {
-            if held == mode && free {
-                return Some(Act::Acquire);
-            }
-            None
-        }
-        None => act_of_newcomer(block, edt, mode, free),
+    // Who holds the block was granted it while it waited.
+    if block.mode_of(edt).is_some() || block.grantable(mode) {
+        return Act::Acquire;
     }
-}
-
-// What a block that is not gone lets an EDT do that does not hold it.
-fn act_of_newcomer(block: &Block, edt: Guid, mode: Mode, free: bool) -> Option<Act>
-    requires gone { is_gone block.now ≡ false }
-    requires no_holder { mode_in edt block.now.holders ≡ None }
-    requires free { free ≡ true → block.now.borrower ≡ None }
-    ensures { IfSome result (λ act. IsLet act edt mode block.now) }
-{
-    if mode == Mode::Null || block.waits(edt) {
-        return None;
-    }
-    if !block.grantable(mode) {
-        return Some(Act::Wait);
-    }
-    if free {
-        return Some(Act::Acquire);
-    }
-    None
+    Act::Wait
 }
 
 /// Enters what the block lets the EDT do, for which the worker keeps the EDT's core and face and
 /// the block.
-pub fn go_on<R: Wait + Sync, G: Gate>(
+pub fn go_on<R: Wait, G: Gate>(
     alloc: Global,
     job: &Job<R, G>,
     worker: u32,

@@ -15,7 +15,7 @@ use std::alloc::Global;
 use std::sync::Wait;
 
 /// Makes the EDT's core ready at hand, and enters what the block lets the EDT do.
-pub fn carry_out<R: Wait + Sync, G: Gate>(
+pub fn carry_out<R: Wait, G: Gate>(
     alloc: Global,
     job: &Job<R, G>,
     worker: u32,

@@ -1,5 +1,5 @@
-//! An EDT at the next block of its plan: it is made ready with the payloads of its slots, and
-//! acquires the block, finds it gone, or waits for it.
+//! An EDT that was claimed: it is made ready with the payloads of its slots, and acquires the blocks
+//! of its plan, finds one gone, or waits for one, until it may start or is parked.
 #![tactic(auto)]
 
 mod acting;
@@ -8,8 +8,11 @@ mod meeting;
 mod planning;
 mod reading;
 mod readying;
+mod rounds;
+mod waking;
 
 pub use acting::{Act, act_on, go_on};
 pub use carrying::carry_out;
 pub use reading::read_payloads;
 pub use readying::ready_core;
+pub use waking::{Woken, wake};

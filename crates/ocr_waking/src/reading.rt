@@ -2,9 +2,11 @@
 ghost use Rattle.std.specs.Prelude.{◌≡◌, ◌++◌, ℕ, List, true, length, None, IfOk};
 ghost use mathlib.Core.Option.{some};
 ghost use lib.ListN.{get_elem?};
+ghost use Rattle.ocr_facts.specs.Ocr.{meaning};
 ghost use Rattle.ocr_facts.specs.declared.fact.Fact.{Fact};
 ghost use Rattle.ocr_parts.specs.Taken.{is_within};
 ghost use Rattle.ocr_turns.specs.Contract.{IsOf, SameHand};
+ghost use Rattle.ocr_turns.specs.Steps.{Sees};
 ghost use Rattle.ocr_turns.specs.Words.{HasClaim};
 ghost use Rattle.ocr_clerks.specs.Work.{KnowsPayloads};
 ghost use Rattle.ocr_waking.specs.Waking.{KeepsFace, Learns};
@@ -30,8 +32,10 @@ pub fn read_payloads(
     requires claimed { HasClaim clerk.old.view edt }
     requires number { is_within turns.now.1.limit edt ≡ true }
     requires face { KeepsFace clerk.old.view edt count }
+    requires sees { Sees meaning clerk.old.view }
     ensures hand { SameHand clerk.old clerk.new }
     ensures learns { Learns clerk.old.view clerk.new.view }
+    ensures sees { Sees meaning clerk.new.view }
     ensures count { IfOk result (λ v. length v.items ≡ count) }
     ensures known { IfOk result (λ v. KnowsPayloads clerk.new.view edt v.items) }
 {

@@ -19,10 +19,10 @@ unreachable-requires g c =
     (owed_sets c.args.job.now.turns.now.1 seen.0 c.look.new.clerk.view m seen.1 (ap (λ (v : OcrView). get_elem? v.owed 0) tells.2 ∙ c.first_owed-message.ensures))
 
 pub deliver_set-requires-clause-owed : goal.deliver_set-requires-clause-owed
-deliver_set-requires-clause-owed g c κs within = (0, c.first_owed-message.ensures)
+deliver_set-requires-clause-owed g c = (0, c.first_owed-message.ensures)
 
 pub deliver_set-requires-clause-sets : goal.deliver_set-requires-clause-sets
-deliver_set-requires-clause-sets g c κs within = subst SetsSlot (sym c.in-Set.is) tt
+deliver_set-requires-clause-sets g c = subst SetsSlot (sym c.in-Set.is) tt
 
 pub returns-in-Set-clause-delivered : goal.returns-in-Set-clause-delivered
 returns-in-Set-clause-delivered g c =

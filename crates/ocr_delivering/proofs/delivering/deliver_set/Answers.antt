@@ -3,7 +3,7 @@ use Rattle.ocr_delivering.proofs.Delivered.{delivers, idle_after, on_ok, owes_pa
 use Rattle.ocr_delivering.proofs.delivering.deliver_set.Goals as goal
 
 pub settle-requires-clause-owes : goal.settle-requires-clause-owes
-settle-requires-clause-owes g c κs within =
+settle-requires-clause-owes g c =
     let set = c.slot_of-slot in
     owes_payload c.args.job.now.turns.now.1 c.args.clerk.now c.enter_delivery.new.clerk c.args.message set.result.0 set.result.1 set.result.2 c.requires.idle set.ensures c.in_ok-enter_delivery.ensures.entered
 

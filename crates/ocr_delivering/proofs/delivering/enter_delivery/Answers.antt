@@ -7,16 +7,10 @@ enter_kept-requires g c κs within = (
   (
     within.1,
     (
-      c.type_bounds.sync-R,
+      c.requires.work,
       (
-        c.type_bounds.sync-G,
-        (
-          c.requires.work,
-          (
-            idle_hand c.args.clerk.now c.requires.idle,
-            can_deliver c.args.job.now.turns.now c.args.job.now.program.now c.args.clerk.now c.args.message c.requires.work c.requires.idle c.requires.owed c.requires.sets,
-          ),
-        ),
+        idle_hand c.args.clerk.now c.requires.idle,
+        can_deliver c.args.job.now.turns.now c.args.job.now.program.now c.args.clerk.now c.args.message c.requires.work c.requires.idle c.requires.owed c.requires.sets,
       ),
     ),
   ),

@@ -34,7 +34,7 @@ pub push_ready-requires : goal.push_ready-requires
 push_ready-requires g c =
     let work = words_work c.args.clerk.now c.put_payload.new.clerk c.count_down.new.clerk c.args.edt c.args.slot c.payload.inside.0 0 c.put_payload.ensures.hand c.put_payload.ensures.view c.in-Last.ensures.hand c.in-Last.ensures.view
     c.args.job.now.turns.now c.args.job.now.program.now c.requires.work in
-    (c.type_bounds.sync-R, (c.type_bounds.sync-G, work))
+    record { work = work }
 
 pub returns-in-Last-clause-work : goal.returns-in-Last-clause-work
 returns-in-Last-clause-work g c =

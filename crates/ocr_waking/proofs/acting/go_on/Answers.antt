@@ -7,8 +7,8 @@ use Rattle.ocr_waking.proofs.acting.go_on.Goals as goal
 
 pub enter_kept-requires : goal.enter_kept-requires
 enter_kept-requires g c =
-    let r = c.requires.1.1.1.1 in let job = c.args.job.now in
+    let r = c.requires.1.1 in let job = c.args.job.now in
     let can = can_make job.turns.now job.program.now c.args.edt c.args.block c.args.act c.args.payloads.now c.args.places.now g.h c.args.clerk.now r.0 r.1.0 r.1.1 in
     let has = all_at_hand job.turns.now job.program.now c.args.edt c.args.block c.args.act c.args.payloads.now c.args.places.now g.h c.args.clerk.now r.0 r.1.0 r.1.1 in
     let now = subst (λ (e : Entry). CanMake job.turns.now.1 c.args.clerk.now.view e g.h (in_hand c.args.clerk.now.parts)) (sym c.entry_of-entry.ensures) can in
-    λ κs lives. (lives.0, (lives.1, (c.requires.1.1.0, (c.requires.1.1.1.0, (r.0, (has, now))))))
+    λ κs lives. (lives.0, (lives.1, (r.0, (has, now))))

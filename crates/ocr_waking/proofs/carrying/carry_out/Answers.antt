@@ -1,4 +1,4 @@
-use Rattle.std.proofs.Common.{◌≡◌, ◌+◌, ◌∷◌, [], ◌∙◌, ℕ, List, Bool, ap, sym}
+use Rattle.std.proofs.Common.{◌+◌, ◌∷◌, [], ◌∙◌, Bool, ap, sym}
 use Rattle.ocr_parts.specs.declared.part.Part.TheVariants as part
 use Rattle.ocr_turns.specs.Sums.{keys}
 use Rattle.ocr_clerks.proofs.Whole.{lifted_work}
@@ -9,22 +9,22 @@ use Rattle.ocr_waking.proofs.carrying.carry_out.Goals as goal
 
 pub go_on-requires : goal.go_on-requires
 go_on-requires g c =
-    let r = c.requires.1.1.1.1 in let job = c.args.job.now in let t = job.turns.now.1 in let old = c.args.clerk.now in let new = c.put_ready.new.clerk in let e = c.in-Ok.ensures in
+    let r = c.requires.1.1 in let job = c.args.job.now in let t = job.turns.now.1 in let old = c.args.clerk.now in let new = c.put_ready.new.clerk in let e = c.in-Ok.ensures in
     let carries = r.1.1.1 in
     let work = lifted_work job.turns.now job.program.now old new r.0 e.same.0 e.same.1 e.same.2 e.same.3 in
     let taken = taken_on_still t c.args.edt old new old.view.parts carries.can.knows.three.taken e.same.1 in
     let ready = ready_at_place old.parts new.parts (c.limit.result + c.edt.inside.0) (t.limit + c.args.edt) c.args.edt c.args.payloads.now (λ i. c.limit.ensures i + c.edt.view_is i) e.ready in
     let meets = meets_now t c.args.edt c.args.block c.args.first c.args.payloads.now c.args.act g.h old new _ r.1.0 r.1.1.0 carries e.same.1 ready
     (ap (λ (b : Bool). (t.limit + c.args.edt) ∷ keys (pair_of b c.args.edt c.args.block part.Vacant part.Vacant)) c.if-first.true ∙ (λ i. (sym c.limit.ensures i + sym c.edt.view_is i) ∷ sym c.block.view_is i ∷ sym c.edt-then-first.view_is i ∷ [])) in
-    λ κs lives. (lives.0, (lives.1, (c.requires.1.1.0, (c.requires.1.1.1.0, (work, (taken, meets))))))
+    λ κs lives. (lives.0, (lives.1, (work, (taken, meets))))
 
 pub go_on-requires-2 : goal.go_on-requires-2
 go_on-requires-2 g c =
-    let r = c.requires.1.1.1.1 in let job = c.args.job.now in let t = job.turns.now.1 in let old = c.args.clerk.now in let new = c.put_ready.new.clerk in let e = c.in-Ok.ensures in
+    let r = c.requires.1.1 in let job = c.args.job.now in let t = job.turns.now.1 in let old = c.args.clerk.now in let new = c.put_ready.new.clerk in let e = c.in-Ok.ensures in
     let carries = r.1.1.1 in
     let work = lifted_work job.turns.now job.program.now old new r.0 e.same.0 e.same.1 e.same.2 e.same.3 in
     let taken = taken_on_still t c.args.edt old new old.view.parts carries.can.knows.three.taken e.same.1 in
     let ready = ready_at_place old.parts new.parts (c.limit.result + c.edt.inside.0) (t.limit + c.args.edt) c.args.edt c.args.payloads.now (λ i. c.limit.ensures i + c.edt.view_is i) e.ready in
     let meets = meets_now t c.args.edt c.args.block c.args.first c.args.payloads.now c.args.act g.h old new _ r.1.0 r.1.1.0 carries e.same.1 ready
     (ap (λ (b : Bool). (t.limit + c.args.edt) ∷ keys (pair_of b c.args.edt c.args.block part.Vacant part.Vacant)) c.if-first.false ∙ (λ i. (sym c.limit.ensures i + sym c.edt.view_is i) ∷ sym c.edt-2.view_is i ∷ sym c.block-2.view_is i ∷ [])) in
-    λ κs lives. (lives.0, (lives.1, (c.requires.1.1.0, (c.requires.1.1.1.0, (work, (taken, meets))))))
+    λ κs lives. (lives.0, (lives.1, (work, (taken, meets))))

@@ -1,5 +1,7 @@
 use Rattle.std.proofs.Common.{◌≡◌, ◌≤◌, vec_len, vec_capacity}
+use Rattle.ocr_facts.specs.Ocr.{meaning}
 use Rattle.ocr_turns.specs.Contract.{SameHand}
+use Rattle.ocr_turns.specs.Steps.{Sees}
 use Rattle.ocr_clerks.specs.Work.{KnowsPayloads}
 use Rattle.ocr_waking.specs.Waking.{Learns}
 use Rattle.ocr_waking.proofs.reading.read_payloads.Given as goal
@@ -8,6 +10,7 @@ abbrev pub invariant-loop-slot : goal.invariant-loop-slot
 invariant-loop-slot l = record {
   hand : SameHand l.fn.clerk l.clerk;
   learns : Learns l.fn.clerk.view l.clerk.view;
+  sees : Sees meaning l.clerk.view;
   room : l.count ≤ vec_capacity l.payloads;
   many : vec_len l.payloads ≡ l.slot;
   known : KnowsPayloads l.clerk.view l.edt l.payloads.items;

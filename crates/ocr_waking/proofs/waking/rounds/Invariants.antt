@@ -1,0 +1,12 @@
+use Rattle.ocr_clerks.specs.Work.{AtWork, Stays}
+use Rattle.ocr_waking.specs.Meeting.{HoldsCore}
+use Rattle.ocr_waking.specs.Rounds.{IsWantedIf}
+use Rattle.ocr_waking.proofs.waking.rounds.Given as goal
+
+abbrev pub invariant-loop : goal.invariant-loop
+invariant-loop g l =
+    (goal.iterator-loop g).can_next l.iterator' × (goal.iterator-loop g).is_finite l.iterator'
+    × AtWork l.job.turns.now l.job.program.now l.clerk
+    × HoldsCore l.job.turns.now.1 l.edt l.clerk
+    × IsWantedIf l.job.turns.now.1 l.edt l.wanted l.clerk
+    × Stays l.fn.clerk l.clerk
