@@ -24,6 +24,7 @@ use Rattle.ocr_parts.specs.Legal.{carried}
 use Rattle.ocr_parts.specs.LegalOn.{IsLegalOn}
 use Rattle.ocr_parts.specs.Parts.{parts_of}
 use Rattle.ocr_parts.specs.Taken.{face_in, has, is_within, look, seen}
+use Rattle.ocr_legality.specs.Tests.{AnswersSo}
 use Rattle.ocr_standing.specs.Kept.{kept_ready}
 use Rattle.ocr_turns.specs.Owing.{times}
 use Rattle.ocr_turns.specs.Rule.{Fits}
@@ -178,8 +179,16 @@ not_claimed n edt rs none some = elim (n == edt) as (λ b. (n == edt) ≡ b → 
 pub runnable_in : (table : OcrTable) (program : Checked) (c : OcrKnown) → AtWork table program c → IsRunnable (checked_tree table.1.setting.value.program)
 runnable_in table program c work = subst (λ (q : Checked). IsRunnable (checked_tree q)) (sym work.program_is) work.runnable
 
+-- what it answers, but for its code and the value of a call that makes nothing
+pub record IsNumbered (v : OcrView) (c : body.Call) (a : Answer) : Type 0 where
+  pub new : is_creation c ≡ true → is_done a.code ≡ true → 1 ≤ times a.value v.drawn
+  pub refused : is_creation c ≡ true → is_done a.code ≡ false → a.value ≡ 0
+  pub no_scope : a.scope ≡ 0
+  pub no_output : a.output ≡ 0
+
 module _ (table : OcrTable) (program : Checked) (edt : ℕ) (b : Body) (old new : OcrKnown) (c : body.Call) (a : Answer) (private w : List (ℕ × ℕ)) (ps : List (ℕ × Part)) (work : AtWork table program new) (runs : Runs table.1 edt b old)
-    (lift : HasLifted table.1 edt old new (faces_of table.1.limit c ++ places_made table.1.limit c a) (drawn_for c a) ps) (next : IsNextWith c private (says b (own_log old.view.log edt))) (coded : IsCoded c) (answer : IsAnswer new.view c a)
+    (lift : HasLifted table.1 edt old new (faces_of table.1.limit c ++ places_made table.1.limit c a) (drawn_for c a) ps) (next : IsNextWith c private (says b (own_log old.view.log edt))) (answer : IsNumbered new.view c a)
+    (so : (J : List Entry) → Fits meaning table.1 J new.view → a.code ≡ code_of edt (parts_of (of_terms table.1) (reverse J)).face c → AnswersSo table.1.limit (parts_of (of_terms table.1) (reverse J)) edt c a)
     (is : a.code ≡ code_of edt (face_in table.1.limit ps) c) (writes : w ≡ carried (is_done a.code) private) where
   abbrev t : OcrTerms
   t = table.1
@@ -248,7 +257,7 @@ module _ (table : OcrTable) (program : Checked) (edt : ℕ) (b : Body) (old new 
       let found : a.code ≡ code_of edt (parts_of (of_terms table.1) (reverse J)).face c = is ∙ code_in table.1 new.view J ps edt c a w fits.1 at_hand covers in
       call_legal table.1 new.view J fits.1 ps edt c a w at_hand covers
       (subst (λ (l : List (ℕ × Part)). AreAtHand table.1.limit l new.view.parts → is_running ((parts_of (of_terms table.1) (reverse J)).core edt) ≡ true) (sym lift.parts) (runs_here table.1 new.view J fits.1 edt lift.core lift.taken within lift.is.running) at_hand)
-      found (answers table.1 new.view J fits.1 edt c a coded found answer) answer.no_scope answer.no_output
+      found (so J fits.1 found) answer.no_scope answer.no_output
 
   resumed_apart : times edt (wakes table.1.limit (Call edt 0 c a w) new.view.parts) ≡ 0
   resumed_apart =
@@ -258,8 +267,8 @@ module _ (table : OcrTable) (program : Checked) (edt : ℕ) (b : Body) (old new 
       let runs_now = subst (λ (l : List (ℕ × Part)). AreAtHand table.1.limit l new.view.parts → is_running ((parts_of (of_terms table.1) (reverse J)).core edt) ≡ true) (sym lift.parts) (runs_here table.1 new.view J fits.1 edt lift.core lift.taken within lift.is.running) at_hand in
       ap (times edt) (sym (wakes_are table.1 new.view J (Call edt 0 c a w) new.view.parts fits.1 kept covered)) ∙ call_wakes (of_terms table.1) (reverse J) edt c a w (is_run table.1 new.view J fits.1) runs_now
 
-  pub can_call : CanMake table.1 new.view (Call edt 0 c a w) (record { members = []; parts = ps }) ps
-  can_call = record {
+  pub can_answer : CanMake table.1 new.view (Call edt 0 c a w) (record { members = []; parts = ps }) ps
+  can_answer = record {
     goes = refl;
     owes = tt;
     drawn = subst (HasAll (makes (Call edt 0 c a w))) (sym (ap (λ (v : OcrView). v.drawn) lift.view)) (has_drawn (is_creation c && is_done a.code) a.value);
@@ -275,8 +284,8 @@ module _ (table : OcrTable) (program : Checked) (edt : ℕ) (b : Body) (old new 
   }
 
   -- the places of what it names but the core
-  pub others_are : AreOthers table.1 edt (faces_of table.1.limit c ++ places_made table.1.limit c a)
-  others_are = all_from (λ p. (p ≢ table.1.limit + edt) × (p ≤ table.1.limit + table.1.limit)) (faces_of table.1.limit c ++ places_made table.1.limit c a) (λ p at. (apart p at, low p at))
+  pub others_in : AreOthers table.1 edt (faces_of table.1.limit c ++ places_made table.1.limit c a)
+  others_in = all_from (λ p. (p ≢ table.1.limit + edt) × (p ≤ table.1.limit + table.1.limit)) (faces_of table.1.limit c ++ places_made table.1.limit c a) (λ p at. (apart p at, low p at))
     where
       behind : (p : ℕ) → weigh (one_at p) ps ≡ one_at p (table.1.limit + edt) + sum_of (one_at p) (faces_of table.1.limit c ++ places_made table.1.limit c a)
       behind p = keys_at p ps ∙ ap (sum_of (one_at p)) listed
@@ -286,3 +295,16 @@ module _ (table : OcrTable) (program : Checked) (edt : ℕ) (b : Body) (old new 
 
       low : (p : ℕ) → 1 ≤ sum_of (one_at p) (faces_of table.1.limit c ++ places_made table.1.limit c a) → p ≤ table.1.limit + table.1.limit
       low p at = let b = behind p in let r = (places_good table.1.limit (Call edt 0 c a w)).range p (there p (omega (arith, b, at))) in let high = r.1 in omega (arith, high)
+
+-- OF A CALL that its code answers
+module _ (table : OcrTable) (program : Checked) (edt : ℕ) (b : Body) (old new : OcrKnown) (c : body.Call) (a : Answer) (private w : List (ℕ × ℕ)) (ps : List (ℕ × Part)) (work : AtWork table program new) (runs : Runs table.1 edt b old)
+    (lift : HasLifted table.1 edt old new (faces_of table.1.limit c ++ places_made table.1.limit c a) (drawn_for c a) ps) (next : IsNextWith c private (says b (own_log old.view.log edt))) (coded : IsCoded c) (answer : IsAnswer new.view c a)
+    (is : a.code ≡ code_of edt (face_in table.1.limit ps) c) (writes : w ≡ carried (is_done a.code) private) where
+  numbered : IsNumbered new.view c a
+  numbered = record { new = answer.new; refused = answer.refused; no_scope = answer.no_scope; no_output = answer.no_output }
+
+  pub can_call : CanMake table.1 new.view (Call edt 0 c a w) (record { members = []; parts = ps }) ps
+  can_call = can_answer table program edt b old new c a private w ps work runs lift next numbered (λ J fits found. answers table.1 new.view J fits edt c a coded found answer) is writes
+
+  pub others_are : AreOthers table.1 edt (faces_of table.1.limit c ++ places_made table.1.limit c a)
+  others_are = others_in table program edt b old new c a private w ps work runs lift next numbered (λ J fits found. answers table.1 new.view J fits edt c a coded found answer) is writes

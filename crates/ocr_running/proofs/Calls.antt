@@ -1,9 +1,9 @@
 -- A call of a running EDT, on the parts at hand.
-use Rattle.std.proofs.Common.{◌≡◌, ℕ, ◌≤◌, true, List, [], reverse, None, refl, sym, ◌∙◌, ap, subst}
+use Rattle.std.proofs.Common.{◌≡◌, ℕ, ◌≤◌, true, false, List, [], reverse, None, refl, sym, ◌∙◌, ap, subst}
 use Rattle.std.proofs.lemmas.List.{reverse-reverse}
 use Rattle.ocr_guid.specs.Code.{number_of}
 use Rattle.ocr_meaning.specs.Behaviour.{Asks, Behaviour, Ends, IsNextWith, Stops}
-use Rattle.ocr_meaning.specs.Call.{is_creation}
+use Rattle.ocr_meaning.specs.Call.{is_access, is_creation}
 use Rattle.ocr_meaning.specs.Laws.{IsBuilt, MakesOnly}
 use Rattle.ocr_meaning.specs.declared.call.Answer.{Answer}
 use Rattle.ocr_meaning.specs.declared.call.Call as body
@@ -34,12 +34,19 @@ use Rattle.ocr_running.specs.Calls.{IsAnswer, IsCoded}
 use Rattle.ocr_running.proofs.Parts.{hand_alike, is_run, legal_on_hand}
 use Rattle.ocr_running.proofs.Unmade.{unmade}
 
--- A BODY of a program that may be run makes only calls of the kinds that there are
-pub built_coded : (c : body.Call) → IsBuilt c → IsCoded c
-built_coded (call.Print v) built = tt
-built_coded (call.TemplateCreate f pc dc) built = tt
-built_coded (call.EdtCreate from pc ps dc ds fl output) built = built.1
-built_coded other built = absurd built
+-- A BODY of a program that may be run makes, besides loads and stores, only calls of the kinds that
+-- there are
+pub built_coded : (c : body.Call) → IsBuilt c → is_access c ≡ false → IsCoded c
+built_coded (call.EdtCreate from pc ps dc ds fl output) built plain = built
+built_coded (call.Load d k) built plain = cc plain
+built_coded (call.Store d k v) built plain = cc plain
+built_coded (call.EventCreate kind fl) built plain = absurd built
+built_coded (call.EventCreateParams kind fl gen sat deps) built plain = absurd built
+built_coded (call.EventDestroy e) built plain = absurd built
+built_coded (call.Satisfy e p k) built plain = absurd built
+built_coded call.Shutdown built plain = absurd built
+built_coded (call.Abort c) built plain = absurd built
+built_coded other built plain = tt
 
 pub next_of : (IsSuch : body.Call → Type 0) (b : Behaviour) (c : body.Call) (private : List (ℕ × ℕ)) → MakesOnly IsSuch b → IsNextWith c private b → IsSuch c
 next_of IsSuch (Ends g holds) c private only next = absurd next

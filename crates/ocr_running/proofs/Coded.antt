@@ -11,6 +11,7 @@ use Rattle.ocr_history.specs.declared.entry.Entry.TheVariants.{Call}
 use Rattle.ocr_history.specs.declared.entry.Stop.TheVariants as by
 use Rattle.ocr_parts.specs.declared.part.Part.{Part}
 use Rattle.ocr_parts.specs.Codes.{code_of}
+use Rattle.ocr_parts.specs.Footprint.{Covers}
 use Rattle.ocr_parts.specs.Legal.{IsStop}
 use Rattle.ocr_parts.specs.Parts.{parts_of}
 use Rattle.ocr_parts.specs.Taken.{face_in, is_within}
@@ -49,8 +50,11 @@ module _ (table : OcrTable) (program : Checked) (edt : ℕ) (b : Body) (old new 
       never : (limit : ℕ) → is_within limit 0 ≡ true → ⊥
       never limit is = cc is
 
+  pub covers : Covers table.1.limit (Call edt 0 c blank []) ps
+  covers = covers_at table.1.limit (Call edt 0 c blank []) ps back
+
   coded : (J : List Entry) → Fits meaning table.1 J new.view → code_of edt (face_in table.1.limit ps) c ≡ code_of edt (parts_of (of_terms table.1) (reverse J)).face c
-  coded J fits = code_in table.1 new.view J ps edt c blank [] fits at_hand (covers_at table.1.limit (Call edt 0 c blank []) ps back)
+  coded J fits = code_in table.1 new.view J ps edt c blank [] fits at_hand covers
 
   serves : Serves table.1 new.view edt b
   serves = serves_same table.1 old.view new.view edt b runs.serves (ap (λ (v : OcrView). v.log) lift.view) (ap (λ (v : OcrView). v.facts) lift.view)

@@ -1,3 +1,4 @@
+pub mod Accessed
 pub mod Answered
 pub mod Asked
 pub mod Back
@@ -9,15 +10,20 @@ pub mod Cores
 pub mod Ended
 pub mod Entered
 pub mod Entering
+pub mod Found
+pub mod Kept
 pub mod Loaned
 pub mod Logs
+pub mod Makes
 pub mod Own
 pub mod Parts
 pub mod Places
 pub mod Served
 pub mod Settled
+pub mod Shared
 pub mod Started
 pub mod Starting
 pub mod Stops
+pub mod Stored
 pub mod Taken
 pub mod Unmade

@@ -39,6 +39,7 @@ fits_debts t J v d f = record {
   sent = f.sent;
   parts = f.parts;
   facts = f.facts;
+  claims = λ n has. let c = f.claims n has in record { set = c.set; unended = c.unended; begun = c.begun; tied = c.tied };
   sole = f.sole;
   alone = f.alone;
 }

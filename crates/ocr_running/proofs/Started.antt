@@ -1,5 +1,5 @@
 -- The Start as a clerk makes it, and what it has then.
-use Rattle.std.proofs.Common.{◌≡◌, ◌≢◌, ◌⊎◌, inl, inr, ⊎_elim, ℕ, ◌+◌, ◌-◌, ◌≤◌, Bool, true, false, ◌==◌, ◌&&◌, if◌then◌else◌, List, [], ◌∷◌, ◌++◌, length, take, refl, ap, sym, ◌∙◌, subst, arith}
+use Rattle.std.proofs.Common.{◌≡◌, ◌≢◌, ◌⊎◌, inl, inr, ⊎_elim, ℕ, ◌+◌, ◌-◌, ◌≤◌, Bool, true, false, ◌==◌, ◌&&◌, if◌then◌else◌, List, [], ◌∷◌, ◌++◌, length, take, Option, Some, refl, ap, sym, ◌∙◌, subst, arith}
 use Rattle.std.specs.List.{All}
 use Rattle.std.proofs.lemmas.Bool.{eqb-true}
 use Rattle.std.proofs.lemmas.List.Elements.{All-cons, All-nil}
@@ -33,10 +33,10 @@ use Rattle.ocr_facts.proofs.Places.{named_place, within_is}
 use Rattle.ocr_facts.proofs.Slots.{number_same}
 use Rattle.ocr_clerks.specs.Entering.{CanMake, Hand, OcrKnown}
 use Rattle.ocr_clerks.specs.Work.{AtWork, CanRun, EntersKept, HasAllAtHand, OcrTable, RunsOnly, in_hand, ready_with}
-use Rattle.ocr_running.specs.Running.{HasEntered, IsBegun, hand_at, slots_in}
+use Rattle.ocr_running.specs.Running.{HasEntered, IsBegun, first_in, hand_at, slots_in}
 use Rattle.ocr_running.specs.Serving.{IsKnown, Serves, own_log}
 use Rattle.ocr_running.proofs.Called.{runnable_in}
-use Rattle.ocr_running.proofs.Cores.{core_first}
+use Rattle.ocr_running.proofs.Cores.{core_first, first_core}
 use Rattle.ocr_running.proofs.Logs.{claims_stay, now_known, own_fresh, own_start, runs_back, starts_now, still_known}
 use Rattle.ocr_running.proofs.Places.{core_from, face_from, same_places}
 use Rattle.ocr_running.proofs.Back.{runs_again}
@@ -199,10 +199,13 @@ module _ (table : OcrTable) (program : Checked) (edt : ℕ) (payloads : List ℕ
     | false ↦ λ other. can.taken.only u (runs_back old.view.log done.number u (Start edt) other (subst (λ (l : List (ℕ × Entry)). RunsIn starts ends l u) log_is runs))
   ] refl
 
-  running_later : is_running ((parts_in table.1.limit done.later).core edt) ≡ true
-  running_later =
+  pub core_later : (parts_in table.1.limit done.later).core edt ≡ part.Core (with_phase started_edt (ready_with can.slots payloads can.core))
+  core_later =
       let ready = ready_is table.1.limit edt work.limits.0 can.taken.number can.core can.slots (plan_from can.slots payloads) in
-      ap (λ (f : Parts). is_running (f.core edt)) done.step.parts ∙ (ap is_running (start_core (ready_at edt (plan_from can.slots payloads) (parts_in table.1.limit (kept_pair table.1.limit edt can.core can.slots))) edt ∙ ap (λ (x : Part). on_core x (with_phase started_edt)) ready) ∙ acquiring_starts (ready_with can.slots payloads can.core).edt can.acquiring (ready_with can.slots payloads can.core) refl)
+      ap (λ (f : Parts). f.core edt) done.step.parts ∙ (start_core (ready_at edt (plan_from can.slots payloads) (parts_in table.1.limit (kept_pair table.1.limit edt can.core can.slots))) edt ∙ ap (λ (x : Part). on_core x (with_phase started_edt)) ready)
+
+  running_later : is_running ((parts_in table.1.limit done.later).core edt) ≡ true
+  running_later = ap is_running core_later ∙ acquiring_starts (ready_with can.slots payloads can.core).edt can.acquiring (ready_with can.slots payloads can.core) refl
 
   pub start_leaves : HasEntered table.1 edt began_body new (edt ∷ []) [] []
   start_leaves =
@@ -248,10 +251,16 @@ module _ (table : OcrTable) (program : Checked) (edt : ℕ) (payloads : List ℕ
       apart limit n enough is = let low = (within_is limit n is) in let high = low.1 in ((λ same. absurd (omega (arith, same, enough))), omega (arith, high))
 
   -- with its core alone
-  pub begun : (last : OcrKnown) → last.view ≡ record new.view { parts = take 1 new.view.parts } → last.parts ≡ take 1 new.parts → IsBegun table.1 edt payloads last
+  pub begun : (last : OcrKnown) → last.view ≡ record new.view { parts = take 1 new.view.parts } → last.parts ≡ take 1 new.parts → IsBegun table.1 edt payloads old last
   begun last view hand = record {
     slots = can.slots;
-    core = settled_core can.core;
-    runs = runs_again table.1 edt (began_body table program edt payloads old new work can done_so) new last (edt ∷ []) begun_leaves view hand;
+    core = can.core;
+    was = can.kept;
+    is =
+        let leaves = begun_leaves in
+        ap first_in hand ∙ (ap (λ (ps : List (ℕ × Option Part)). first_in (take 1 ps)) leaves.hand
+        ∙ (sym (ap (λ (ps : List (ℕ × Part)). (parts_in table.1.limit ps).core edt) leaves.keeps ∙ first_core table.1.limit edt leaves.core leaves.rest can.taken.number)
+        ∙ (ap (λ (ps : List (ℕ × Part)). (parts_in table.1.limit ps).core edt) done_so.kept ∙ core_later table program edt payloads old new work can done_so)));
+    runs = runs_again table.1 edt (began_body table program edt payloads old new work can done_so) new last (edt ∷ []) begun_leaves (ap (λ (v : OcrView). v.terms) done_so.view ∙ work.of_table.1) view hand;
     calls = ap (λ (v : OcrView). own_log v.log edt) view ∙ start_calls table program edt payloads old new work can done_so;
   }

@@ -37,7 +37,7 @@ lifted_end : (ps : List (ℕ × Part)) (p : ℕ) (x : Part) → lifted (as_some 
 lifted_end [] p x = refl
 lifted_end (y ∷ ps) p x = ap (λ (l : List (ℕ × Option Part)). (y.0, None) ∷ l) (lifted_end ps p x)
 
-one_part : (ps : List (ℕ × Part)) (p : ℕ) → keys ps ≡ p ∷ [] → (x : Part) × (ps ≡ (p, x) ∷ [])
+pub one_part : (ps : List (ℕ × Part)) (p : ℕ) → keys ps ≡ p ∷ [] → (x : Part) × (ps ≡ (p, x) ∷ [])
 one_part [] p is = absurd (let l = ap (λ (ns : List ℕ). length ns) is in omega (arith, l))
 one_part (x ∷ []) p is = (x.1, (let same : x.0 ≡ p = cc is in ap (λ (n : ℕ). (n, x.1) ∷ []) same))
 one_part (x ∷ y ∷ ps) p is = absurd (let l = ap (λ (ns : List ℕ). length ns) is in omega (arith, l))

@@ -12,7 +12,7 @@ use Rattle.ocr_history.specs.declared.entry.Entry.{Entry}
 use Rattle.ocr_parts.specs.declared.part.Core.{Core}
 use Rattle.ocr_parts.specs.declared.part.Part.{Part}
 use Rattle.ocr_parts.specs.declared.part.Part.TheVariants as part
-use Rattle.ocr_parts.specs.Effects.{settled_core}
+use Rattle.ocr_parts.specs.Effects.{settled_core, started_edt, with_phase}
 use Rattle.ocr_parts.specs.Footprint.{makes_core}
 use Rattle.ocr_parts.specs.Kinds.{holds_of, is_running, work_of}
 use Rattle.ocr_parts.specs.Taken.{is_within, look}
@@ -28,7 +28,7 @@ use Rattle.ocr_facts.specs.Ocr.{counts, meaning}
 use Rattle.ocr_steal.specs.declared.hand.Hand as deque
 use Rattle.ocr_steal.specs.Hand.{IsSame, knows, misses_of}
 use Rattle.ocr_clerks.specs.Entering.{Hand, OcrKnown}
-use Rattle.ocr_clerks.specs.Work.{HasTakenOn, RunsOnly, lifted}
+use Rattle.ocr_clerks.specs.Work.{HasTakenOn, RunsOnly, lifted, ready_with}
 use Rattle.ocr_running.specs.Serving.{Serves, holds_in, own_log}
 
 -- THE CORE stands first among the parts at hand
@@ -131,13 +131,15 @@ hand_at c edt payloads = record {
   parts = c.view.parts;
 }
 
--- it is in the log, and made no call
-pub record IsBegun (t : OcrTerms) (edt : ℕ) (payloads : List ℕ) (c : OcrKnown) : Type 0 where
+-- it is in the log, the core that was kept has started, and the EDT made no call
+pub record IsBegun (t : OcrTerms) (edt : ℕ) (payloads : List ℕ) (old new : OcrKnown) : Type 0 where
   pub slots : List Slot
   pub core : Core
+  pub was : old.view.parts ≡ (t.limit + edt, part.Core core) ∷ (edt, part.Edt slots) ∷ []
   pub runs : Runs t edt
-      (body_by (checked_tree t.setting.value.program) slots core payloads) c
-  pub calls : own_log c.view.log edt ≡ []
+      (body_by (checked_tree t.setting.value.program) slots (settled_core core) payloads) new
+  pub is : first_in new.parts ≡ part.Core (with_phase started_edt (ready_with slots payloads core))
+  pub calls : own_log new.view.log edt ≡ []
 
 -- the EDT that an entry makes, with its slots, as they are owed to the words that count
 abbrev pub made_by : ℕ → Entry → List (ℕ × Part) → List (ℕ × ℕ)

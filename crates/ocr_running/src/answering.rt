@@ -11,6 +11,7 @@ ghost use Rattle.ocr_parts.specs.Taken.{face_in};
 ghost use Rattle.ocr_clerks.specs.Entering.{OcrKnown};
 ghost use Rattle.ocr_clerks.specs.Work.{AtWork, IsGone, Stays};
 ghost use Rattle.ocr_running.specs.Calls.{IsAnswer, faces_of};
+ghost use Rattle.ocr_running.specs.Making.{HasMore};
 ghost use Rattle.ocr_running.specs.Running.{HasLifted, Runs, drawn_for, places_made};
 ghost use Rattle.ocr_running.specs.Serving.{own_log};
 
@@ -24,7 +25,7 @@ use std::sync::Wait;
 
 /// The answer of the call. A creation that is not refused answers a number that is drawn for it,
 /// and the parts of what it makes are taken and lifted.
-pub(crate) fn answer<R: Wait + Sync, G: Gate>(
+pub(crate) fn answer<R: Wait, G: Gate>(
     job: &Job<R, G>,
     worker: u32,
     clerk: &mut Clerk<Ocr>,
@@ -45,6 +46,7 @@ pub(crate) fn answer<R: Wait + Sync, G: Gate>(
     ensures stays { Stays clerk.old clerk.new }
     ensures work { OnOk result (AtWork job.now.turns.now job.now.program.now clerk.new) }
     ensures same { asked.new.call ≡ asked.old.call }
+    ensures more { OnOk result (HasMore asked.old.parts.items asked.new.parts.items) }
     ensures code { IfOk result (λ a. a.code ≡ asked.old.code) }
     ensures answer { IfOk result (λ a. IsAnswer clerk.new.view asked.old.call a) }
     ensures lifted { IfOk result (λ a. HasLifted job.now.turns.now.1 edt g.1 clerk.new
@@ -62,7 +64,7 @@ pub(crate) fn answer<R: Wait + Sync, G: Gate>(
 }
 
 // The answer of a creation that is not refused.
-fn make<R: Wait + Sync, G: Gate>(
+fn make<R: Wait, G: Gate>(
     job: &Job<R, G>,
     worker: u32,
     clerk: &mut Clerk<Ocr>,
@@ -84,6 +86,7 @@ fn make<R: Wait + Sync, G: Gate>(
     ensures stays { Stays clerk.old clerk.new }
     ensures work { OnOk result (AtWork job.now.turns.now job.now.program.now clerk.new) }
     ensures same { asked.new.call ≡ asked.old.call }
+    ensures more { OnOk result (HasMore asked.old.parts.items asked.new.parts.items) }
     ensures code { IfOk result (λ a. a.code ≡ asked.old.code) }
     ensures answer { IfOk result (λ a. IsAnswer clerk.new.view asked.old.call a) }
     ensures lifted { IfOk result (λ a. HasLifted job.now.turns.now.1 edt g.1 clerk.new
@@ -132,7 +135,7 @@ fn plain_answer(call: &Call, code: Code) -> Answer
 }
 
 // Takes and lifts the part of a place more.
-fn take_new<R: Wait + Sync, G: Gate>(
+fn take_new<R: Wait, G: Gate>(
     job: &Job<R, G>,
     worker: u32,
     clerk: &mut Clerk<Ocr>,
@@ -149,6 +152,7 @@ fn take_new<R: Wait + Sync, G: Gate>(
     ensures stays { Stays clerk.old clerk.new }
     ensures work { OnOk result (AtWork job.now.turns.now job.now.program.now clerk.new) }
     ensures same { (asked.new.call ≡ asked.old.call) × (asked.new.code ≡ asked.old.code) }
+    ensures more { OnOk result (HasMore asked.old.parts.items asked.new.parts.items) }
     ensures lifted { OnOk result (HasLifted job.now.turns.now.1 edt g clerk.new
         (drop 1 asked.old.places.items ++ place ∷ []) clerk.old.view.drawn asked.new.parts.items) }
     ensures places { OnOk result (asked.new.places.items ≡ asked.old.places.items ++ place ∷ []) }

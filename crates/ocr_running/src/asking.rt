@@ -28,7 +28,7 @@ pub(crate) struct Asked {
 }
 
 /// Takes what the call names, lifts it with the core, and decides the call.
-pub(crate) fn ask<R: Wait + Sync, G: Gate>(
+pub(crate) fn ask<R: Wait, G: Gate>(
     alloc: Global,
     job: &Job<R, G>,
     worker: u32,

@@ -12,7 +12,7 @@ use std::alloc::Global;
 use std::sync::Wait;
 
 /// Enters the Start of an EDT whose plan is done, and keeps its core alone.
-pub(crate) fn start<R: Wait + Sync, G: Gate>(
+pub fn start<R: Wait, G: Gate>(
     alloc: Global,
     job: &Job<R, G>,
     worker: u32,
@@ -26,7 +26,8 @@ pub(crate) fn start<R: Wait + Sync, G: Gate>(
     requires can { CanRun job.now.turns.now.1 edt payloads.now clerk.old }
     ensures stays { Stays clerk.old clerk.new }
     ensures work { OnOk result (AtWork job.now.turns.now job.now.program.now clerk.new) }
-    ensures begun { OnOk result (IsBegun job.now.turns.now.1 edt payloads.now clerk.new) }
+    ensures begun { OnOk result (IsBegun job.now.turns.now.1 edt payloads.now
+        clerk.old clerk.new) }
     ensures gone { OnErr result (IsGone job.now.turns.now worker clerk.new) }
 {
     let places = [job.turns.limit() + edt.0, edt.0];

@@ -24,7 +24,7 @@ use std::sync::Wait;
 
 /// Enters a call of the body with its answer and the private writes of the hold that it ends. Gives
 /// the EDTs that it resumes.
-pub(crate) fn enter_call<R: Wait + Sync, G: Gate>(
+pub(crate) fn enter_call<R: Wait, G: Gate>(
     alloc: Global,
     job: &Job<R, G>,
     worker: u32,

@@ -20,7 +20,7 @@ use std::sync::Wait;
 
 /// Enters the End of an EDT on these parts, its core and the face that it returns, where there is
 /// one, and gives them back.
-pub(crate) fn end<R: Wait + Sync, G: Gate>(
+pub fn end<R: Wait, G: Gate>(
     alloc: Global,
     job: &Job<R, G>,
     worker: u32,

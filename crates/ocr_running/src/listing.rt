@@ -24,7 +24,7 @@ use std::alloc::Global;
 
 /// The private writes of the hold of a block, by the core of the EDT that holds it; none where it
 /// does not hold the block in EW or CONST. The loan of the block is listed then.
-pub(crate) fn listed_writes(alloc: Global, core: &mut Core, block: Guid) -> Result<Writes, NoMemory>
+pub fn listed_writes(alloc: Global, core: &mut Core, block: Guid) -> Result<Writes, NoMemory>
     ensures core { core.new ≡ core_after after_list_writes block core.old }
     ensures writes { IfOk result (λ w. w ≡ private_in (holds_in (part.Core core.old) block)) }
 {

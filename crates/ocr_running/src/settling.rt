@@ -4,7 +4,7 @@ ghost use Rattle.std.specs.Prelude.{◌≡◌, ◌∷◌, [], List, ℕ, OnOk, O
 ghost use Rattle.ocr_meaning.specs.Body.{Body};
 ghost use Rattle.ocr_clerks.specs.Work.{AtWork, IsGone, Stays};
 ghost use Rattle.ocr_turns.specs.Owing.{listed};
-ghost use Rattle.ocr_running.specs.Running.{AreOthers, HasEntered, IsPushed, Runs, holds_at};
+ghost use Rattle.ocr_running.specs.Running.{AreOthers, HasEntered, IsPushed, Runs, first_in, holds_at};
 
 use ocr_clerks::{Gate, Job, Ocr, Over, close_memory, give_faces};
 use ocr_count::{Down, count_made, resume};
@@ -15,7 +15,7 @@ use std::alloc::Global;
 use std::sync::Wait;
 
 /// Makes the EDTs ready that the clerk's entry resumed, and pushes them.
-pub(crate) fn resume_all<R: Wait + Sync, G: Gate>(
+pub(crate) fn resume_all<R: Wait, G: Gate>(
     alloc: Global,
     job: &Job<R, G>,
     worker: u32,
@@ -46,7 +46,7 @@ pub(crate) fn resume_all<R: Wait + Sync, G: Gate>(
 
 /// Counts the making of the EDT that the clerk's entry made with so many slots, and pushes it where
 /// nothing is left to be counted.
-pub(crate) fn count_new<R: Wait + Sync, G: Gate>(
+pub(crate) fn count_new<R: Wait, G: Gate>(
     alloc: Global,
     job: &Job<R, G>,
     worker: u32,
@@ -81,7 +81,7 @@ pub(crate) fn count_new<R: Wait + Sync, G: Gate>(
 }
 
 // Counts the making of what the clerk's entry made, if it is an EDT.
-fn count_any<R: Wait + Sync, G: Gate>(
+fn count_any<R: Wait, G: Gate>(
     alloc: Global,
     job: &Job<R, G>,
     worker: u32,
@@ -110,7 +110,7 @@ fn count_any<R: Wait + Sync, G: Gate>(
 
 /// Settles what an entry of a running EDT left: what it made is counted, those that it resumed are
 /// made ready, and all parts but the core are given back.
-pub(crate) fn settle<R: Wait + Sync, G: Gate>(
+pub fn settle<R: Wait, G: Gate>(
     alloc: Global,
     job: &Job<R, G>,
     worker: u32,
@@ -132,6 +132,7 @@ pub(crate) fn settle<R: Wait + Sync, G: Gate>(
     ensures runs { OnOk result (Runs job.now.turns.now.1 edt s.0 clerk.new) }
     ensures log { OnOk result (clerk.new.view.log ≡ clerk.old.view.log) }
     ensures holds { OnOk result (holds_at clerk.new ≡ holds_at clerk.old) }
+    ensures core { OnOk result (first_in clerk.new.parts ≡ first_in clerk.old.parts) }
     ensures hand { IsPushed hand.old hand.new }
     ensures gone { OnErr result (IsGone job.now.turns.now worker clerk.new) }
 {

@@ -15,7 +15,7 @@ use ocr_turns::Clerk;
 use std::sync::Wait;
 
 /// Ends the run where the body of the EDT says so: a shutdown, an abort or a fault.
-pub(crate) fn stop_run<R: Wait + Sync, G: Gate>(
+pub fn stop_run<R: Wait, G: Gate>(
     job: &Job<R, G>,
     worker: u32,
     clerk: &mut Clerk<Ocr>,

@@ -10,14 +10,14 @@ use Rattle.ocr_running.proofs.Asked.{faces_few, faces_low, lifted_is, rest_is, t
 use Rattle.ocr_running.proofs.asking.ask.Goals as goal
 
 pub take_parts-requires-clause-places : goal.take_parts-requires-clause-places
-take_parts-requires-clause-places g c κs within =
+take_parts-requires-clause-places g c =
     let L = c.args.job.now.turns.now.1.limit in let call = c.args.call.now in
     let listed : c.deref.result.now ≡ (L + c.args.edt) ∷ faces_of L call = c.deref.ensures.value ∙ (c.in-Ok.ensures.places ∙ ap (λ (n : ℕ). (n + c.args.edt) ∷ faces_of n call) c.limit-limit.ensures) in
     subst (All (λ p. p ≤ L + L)) (sym (rest_is c.deref.result.now (L + c.args.edt) (faces_of L call) listed)) (faces_low L call)
 
 pub take_parts-requires-clause-room : goal.take_parts-requires-clause-room
-take_parts-requires-clause-room g c κs within =
-    let L = c.args.job.now.turns.now.1.limit in let call = c.args.call.now in let r = c.requires.1.1.1.1 in
+take_parts-requires-clause-room g c =
+    let L = c.args.job.now.turns.now.1.limit in let call = c.args.call.now in let r = c.requires.1.1 in
     let listed : c.deref.result.now ≡ (L + c.args.edt) ∷ faces_of L call = c.deref.ensures.value ∙ (c.in-Ok.ensures.places ∙ ap (λ (n : ℕ). (n + c.args.edt) ∷ faces_of n call) c.limit-limit.ensures) in
     let one = ap (λ (l : List (ℕ × Option Part)). length l) r.1.0.hand in
     let rest = ap (λ (l : List ℕ). length l) (rest_is c.deref.result.now (L + c.args.edt) (faces_of L call) listed) in
@@ -25,14 +25,14 @@ take_parts-requires-clause-room g c κs within =
 
 pub lift_parts-requires-clause-hand : goal.lift_parts-requires-clause-hand
 lift_parts-requires-clause-hand g c =
-    let t = c.args.job.now.turns.now.1 in let L = t.limit in let call = c.args.call.now in let r = c.requires.1.1.1.1 in
+    let t = c.args.job.now.turns.now.1 in let L = t.limit in let call = c.args.call.now in let r = c.requires.1.1 in
     let named = c.in-Ok.ensures.places ∙ ap (λ (n : ℕ). (n + c.args.edt) ∷ faces_of n call) c.limit-limit.ensures in
     let took = subst (Took c.args.clerk.now c.take_parts.new.clerk) (rest_is c.deref.result.now (L + c.args.edt) (faces_of L call) (c.deref.ensures.value ∙ named)) c.in_ok-take_parts.ensures.took in
     taken_at_hand t c.args.edt c.args.clerk.now c.take_parts.new.clerk (faces_of L call) c.deref-2.result.now (took_is t c.args.edt g.b c.args.clerk.now c.take_parts.new.clerk (faces_of L call) r.1.0 took) (c.deref-2.ensures.value ∙ named)
 
 pub lift_parts-requires-clause-once : goal.lift_parts-requires-clause-once
 lift_parts-requires-clause-once g c =
-    let t = c.args.job.now.turns.now.1 in let L = t.limit in let call = c.args.call.now in let r = c.requires.1.1.1.1 in
+    let t = c.args.job.now.turns.now.1 in let L = t.limit in let call = c.args.call.now in let r = c.requires.1.1 in
     let named = c.in-Ok.ensures.places ∙ ap (λ (n : ℕ). (n + c.args.edt) ∷ faces_of n call) c.limit-limit.ensures in
     let took = subst (Took c.args.clerk.now c.take_parts.new.clerk) (rest_is c.deref.result.now (L + c.args.edt) (faces_of L call) (c.deref.ensures.value ∙ named)) c.in_ok-take_parts.ensures.took in
     taken_once c.args.job.now.turns.now c.args.job.now.program.now c.args.edt c.args.clerk.now c.take_parts.new.clerk (faces_of L call) (took_is t c.args.edt g.b c.args.clerk.now c.take_parts.new.clerk (faces_of L call) r.1.0 took) c.in_ok-take_parts.ensures.work
@@ -44,7 +44,7 @@ returns-clause-work g c =
 
 pub returns-clause-lifted : goal.returns-clause-lifted
 returns-clause-lifted g c =
-    let t = c.args.job.now.turns.now.1 in let L = t.limit in let call = c.args.call.now in let r = c.requires.1.1.1.1 in
+    let t = c.args.job.now.turns.now.1 in let L = t.limit in let call = c.args.call.now in let r = c.requires.1.1 in
     let e = c.in-Ok-lift_parts.ensures in
     let named = c.in-Ok.ensures.places ∙ ap (λ (n : ℕ). (n + c.args.edt) ∷ faces_of n call) c.limit-limit.ensures in
     let took = subst (Took c.args.clerk.now c.take_parts.new.clerk) (rest_is c.deref.result.now (L + c.args.edt) (faces_of L call) (c.deref.ensures.value ∙ named)) c.in_ok-take_parts.ensures.took in

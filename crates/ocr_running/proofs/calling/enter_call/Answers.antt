@@ -11,27 +11,21 @@ use Rattle.ocr_running.proofs.calling.enter_call.Goals as goal
 
 pub enter_at_work-requires : goal.enter_at_work-requires
 enter_at_work-requires g c = λ κs lives.
-    let r = c.requires.1.1.1.1 in (
+    let r = c.requires.1.1 in (
       lives.0,
       (
         lives.1,
         (
-          c.requires.1.1.0,
-          (
-            c.requires.1.1.1.0,
-            (
-              r.0,
-              can_call c.args.job.now.turns.now c.args.job.now.program.now c.args.edt g.s.0 g.s.1 c.args.clerk.now c.args.call c.args.answer (private_of c.args.call (holds_at g.s.1)) c.args.writes c.args.parts.items
-                  r.0 r.1.0 r.1.1.0 r.1.1.1.0 r.1.1.1.1.0 r.1.1.1.1.1.0 r.1.1.1.1.1.1.0 r.1.1.1.1.1.1.1,
-            ),
-          ),
+          r.0,
+          can_call c.args.job.now.turns.now c.args.job.now.program.now c.args.edt g.s.0 g.s.1 c.args.clerk.now c.args.call c.args.answer (private_of c.args.call (holds_at g.s.1)) c.args.writes c.args.parts.items
+              r.0 r.1.0 r.1.1.0 r.1.1.1.0 r.1.1.1.1.0 r.1.1.1.1.1.0 r.1.1.1.1.1.1.0 r.1.1.1.1.1.1.1,
         ),
       ),
     )
 
 pub returns-clause-entered : goal.returns-clause-entered
 returns-clause-entered g c =
-    let r = c.requires.1.1.1.1 in let t = c.args.job.now.turns.now.1 in
+    let r = c.requires.1.1 in let t = c.args.job.now.turns.now.1 in
     let e = Call c.args.edt 0 c.args.call c.args.answer c.args.writes in
     let can = can_call c.args.job.now.turns.now c.args.job.now.program.now c.args.edt g.s.0 g.s.1 c.args.clerk.now c.args.call c.args.answer (private_of c.args.call (holds_at g.s.1)) c.args.writes c.args.parts.items
     r.0 r.1.0 r.1.1.0 r.1.1.1.0 r.1.1.1.1.0 r.1.1.1.1.1.0 r.1.1.1.1.1.1.0 r.1.1.1.1.1.1.1 in
@@ -43,7 +37,7 @@ returns-clause-entered g c =
 
 pub returns-clause-called : goal.returns-clause-called
 returns-clause-called g c =
-    let r = c.requires.1.1.1.1 in let t = c.args.job.now.turns.now.1 in
+    let r = c.requires.1.1 in let t = c.args.job.now.turns.now.1 in
     let e = Call c.args.edt 0 c.args.call c.args.answer c.args.writes in
     let can = can_call c.args.job.now.turns.now c.args.job.now.program.now c.args.edt g.s.0 g.s.1 c.args.clerk.now c.args.call c.args.answer (private_of c.args.call (holds_at g.s.1)) c.args.writes c.args.parts.items
     r.0 r.1.0 r.1.1.0 r.1.1.1.0 r.1.1.1.1.0 r.1.1.1.1.1.0 r.1.1.1.1.1.1.0 r.1.1.1.1.1.1.1 in
@@ -52,7 +46,7 @@ returns-clause-called g c =
 
 pub returns-clause-others : goal.returns-clause-others
 returns-clause-others g c =
-    let r = c.requires.1.1.1.1 in let t = c.args.job.now.turns.now.1 in
+    let r = c.requires.1.1 in let t = c.args.job.now.turns.now.1 in
     let e = Call c.args.edt 0 c.args.call c.args.answer c.args.writes in
     ok_then c.enter_at_work.result (EntersAs t c.args.clerk.now c.enter_at_work.new.clerk e (record { members = []; parts = c.args.parts.items })) (AreOthers t c.args.edt (faces_of t.limit c.args.call ++ places_made t.limit c.args.call c.args.answer)) c.enter_at_work.ensures.entered
     (λ done. others_are c.args.job.now.turns.now c.args.job.now.program.now c.args.edt g.s.0 g.s.1 c.args.clerk.now c.args.call c.args.answer (private_of c.args.call (holds_at g.s.1)) c.args.writes c.args.parts.items

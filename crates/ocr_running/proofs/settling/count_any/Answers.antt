@@ -5,19 +5,13 @@ use Rattle.ocr_running.proofs.settling.count_any.Goals as goal
 
 pub count_new-requires : goal.count_new-requires
 count_new-requires g c κs within =
-    let r = c.requires.1.1.1.1 in let t = c.args.job.now.turns.now.1 in (
+    let r = c.requires.1.1 in let t = c.args.job.now.turns.now.1 in (
       within.0,
       (
         within.1,
         (
-          c.requires.1.1.0,
-          (
-            c.requires.1.1.1.0,
-            (
-              r.0,
-              subst (λ (m : Option (ℕ × ℕ)). HasEntered t c.args.edt g.s.0 c.args.clerk.now g.s.1.0 (listed m) g.s.1.1) c.in-Some.is r.1,
-            ),
-          ),
+          r.0,
+          subst (λ (m : Option (ℕ × ℕ)). HasEntered t c.args.edt g.s.0 c.args.clerk.now g.s.1.0 (listed m) g.s.1.1) c.in-Some.is r.1,
         ),
       ),
     )

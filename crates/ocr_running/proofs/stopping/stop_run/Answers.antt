@@ -2,11 +2,11 @@ use Rattle.ocr_running.proofs.Stops.{stop_own, stops_so}
 use Rattle.ocr_running.proofs.stopping.stop_run.Goals as goal
 
 pub close-requires-clause-may : goal.close-requires-clause-may
-close-requires-clause-may g c κs within =
-    let r = c.requires.1.1.1.1 in
+close-requires-clause-may g c =
+    let r = c.requires.1.1 in
     stops_so c.args.job.now.turns.now.1 c.args.clerk.now.view c.args.edt g.b r.1.0 c.args.stop c.stop_of.result r.1.1.0 r.1.1.1 c.stop_of.ensures
 
 pub close-requires-clause-own : goal.close-requires-clause-own
-close-requires-clause-own g c κs within =
-    let r = c.requires.1.1.1.1 in
+close-requires-clause-own g c =
+    let r = c.requires.1.1 in
     stop_own c.args.job.now.turns.now.1 c.args.worker c.args.clerk.now.view c.args.edt c.args.stop c.stop_of.result r.1.1.0 c.stop_of.ensures

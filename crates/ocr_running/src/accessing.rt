@@ -1,0 +1,164 @@
+// What the loads and stores of a body come to, by the core of its EDT.
+ghost use Rattle.std.specs.Prelude.{◌≡◌, ◌<◌, ◌^◌, ◌∷◌, [], Some, None, IfSome, IfNone};
+ghost use Rattle.ocr_acquire.specs.Mode.{mode_in};
+ghost use Rattle.ocr_meaning.specs.Holds.{is_isolated, is_writable, load_of, store_of};
+ghost use Rattle.ocr_parts.specs.declared.part.Core.{Core};
+ghost use Rattle.ocr_parts.specs.declared.part.Part.TheVariants as part;
+ghost use Rattle.ocr_parts.specs.Bodies.{hold_of};
+ghost use Rattle.ocr_parts.specs.Kinds.{holds_of, work_in};
+ghost use Rattle.ocr_parts.specs.Loans.{kept_in};
+ghost use Rattle.ocr_running.specs.Accesses.{IfDone, IsFit, IsFitCore, access_of};
+ghost use Rattle.ocr_running.specs.Serving.{holds_in};
+
+use ocr_acquire::Mode;
+use ocr_clerks::{Ocr, Over};
+use ocr_edt::Edt;
+use ocr_guid::Guid;
+use ocr_meaning::BodyStop;
+use ocr_parts::{Core, Kept, Part};
+use ocr_turns::Clerk;
+
+/// Why a load or a store was not done: it is a fault of the body, or the run has ended.
+#[derive(Clone, Copy, Debug)]
+pub enum Refusal {
+    Fault(BodyStop),
+    Over(Over),
+}
+
+impl From<Over> for Refusal {
+    ghost use Rattle.std.specs.Prelude.{◌≡◌};
+    ghost use Rattle.ocr_running.specs.declared.accessing.Refusal.TheVariants as refusal;
+
+    ghost from_gives = { λ over r. r ≡ refusal.Over over };
+
+    fn from(over: Over) -> Self {
+        Refusal::Over(over)
+    }
+}
+
+/// What a load or a store comes to.
+#[derive(Clone, Copy)]
+pub(crate) enum Found {
+    Refused(BodyStop),
+    /// It is no entry, and has this value.
+    Silent(u64),
+    Entered,
+}
+
+/// The core at hand of a clerk that keeps it alone.
+pub(crate) fn core_at(clerk: &Clerk<Ocr>, place: u64) -> &Core
+    requires { (core : Core) × (clerk.now.parts ≡ (place, Some (part.Core core)) ∷ []) }
+    ensures { clerk.now.parts ≡ (place, Some (part.Core result.now)) ∷ [] }
+{
+    match clerk.part(place) {
+        Part::Core(core) => core,
+        _ => unreachable!(),
+    }
+}
+
+/// What a load of a word comes to. It is refused as `NotHeld` where the EDT does not hold the
+/// block, and as `BadIndex` where the block has no such word.
+pub(crate) fn find_load(core: &Core, block: Guid, word: u64) -> Found
+    requires { IsFitCore core.now }
+    ensures { access_of result ≡ load_of (holds_in (part.Core core.now) block) word }
+{
+    let Some(mode) = mode_of(&core.edt, block) else {
+        return Found::Refused(BodyStop::NotHeld);
+    };
+    let Some(kept) = find_kept(core.loans.as_slice(), block) else {
+        return Found::Refused(BodyStop::NotHeld);
+    };
+    load_in(mode, kept, word)
+}
+
+/// What a store in a word comes to. It is refused as `NotHeld` where the EDT does not hold the
+/// block, then as `NotWritable` where it holds it in `Null`, `Ro` or `Const`, then as `BadIndex`
+/// where the block has no such word.
+pub(crate) fn find_store(core: &Core, block: Guid, word: u64) -> Found
+    ensures found { access_of result ≡ store_of (holds_in (part.Core core.now) block) word }
+    ensures small { IfDone result (word < 2 ^ 32) }
+{
+    let Some(mode) = mode_of(&core.edt, block) else {
+        return Found::Refused(BodyStop::NotHeld);
+    };
+    let Some(kept) = find_kept(core.loans.as_slice(), block) else {
+        return Found::Refused(BodyStop::NotHeld);
+    };
+    store_in(mode, kept, word)
+}
+
+// What a load of a word of a hold comes to.
+fn load_in(mode: Mode, kept: &Kept, word: u64) -> Found
+    requires { IsFit (Some mode) (Some kept.now) }
+    ensures { access_of result ≡ load_of (hold_of (Some mode) (Some kept.now)) word }
+{
+    if word >= u64::from(kept.size) {
+        return Found::Refused(BodyStop::BadIndex);
+    }
+    if !is_isolated(mode) {
+        return Found::Entered;
+    }
+    match &kept.loan {
+        Some(loan) => Found::Silent(loan.load(word as u32)),
+        None => unreachable!(),
+    }
+}
+
+// What a store in a word of a hold comes to.
+fn store_in(mode: Mode, kept: &Kept, word: u64) -> Found
+    ensures found { access_of result ≡ store_of (hold_of (Some mode) (Some kept.now)) word }
+    ensures small { IfDone result (word < 2 ^ 32) }
+{
+    if !is_writable(mode) {
+        return Found::Refused(BodyStop::NotWritable);
+    }
+    if word >= u64::from(kept.size) {
+        return Found::Refused(BodyStop::BadIndex); // after a mode that cannot be written
+    }
+    if is_isolated(mode) {
+        return Found::Silent(0);
+    }
+    Found::Entered
+}
+
+// The mode in which a running EDT holds the block.
+fn mode_of(edt: &Edt, block: Guid) -> Option<Mode>
+    ensures { result ≡ mode_in block (holds_of (work_in edt.now)) }
+{
+    match edt {
+        Edt::Running(work) => work.mode(block),
+        _ => None,
+    }
+}
+
+// What is kept with the block.
+fn find_kept(items: &[(Guid, Kept)], block: Guid) -> Option<&Kept>
+    ensures some { IfSome result (λ k. kept_in block items.now ≡ Some k.now) }
+    ensures none { IfNone result (kept_in block items.now ≡ None) }
+{
+    for (held, kept) in items {
+        if *held == block {
+            return Some(kept);
+        }
+    }
+    None
+}
+
+// In these modes loads and stores are no entries.
+fn is_isolated(mode: Mode) -> bool
+    ensures { result ≡ is_isolated mode }
+{
+    match mode {
+        Mode::Ew | Mode::Const => true,
+        Mode::Null | Mode::Ro | Mode::Rw => false,
+    }
+}
+
+fn is_writable(mode: Mode) -> bool
+    ensures { result ≡ is_writable mode }
+{
+    match mode {
+        Mode::Ew | Mode::Rw => true,
+        Mode::Null | Mode::Ro | Mode::Const => false,
+    }
+}
