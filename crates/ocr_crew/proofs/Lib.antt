@@ -1,0 +1,5 @@
+pub mod Weights
+pub mod Numbers
+pub mod Whole
+pub mod Seated
+pub mod Opening

@@ -1,0 +1,36 @@
+-- The run of a program by workers, and how it ended.
+use Rattle.std.specs.Prelude.{◌≡◌, ◌⊎◌, ◌≤◌, ℕ, List, length, true}
+use Rattle.ocr_tree.specs.Built.{are_built}
+use Rattle.ocr_tree.specs.Tree.{FunctionTree}
+use Rattle.ocr_tree.specs.Runnable.{IsRunnable}
+use Rattle.ocr_code.specs.Checked.{checked_tree}
+use Rattle.ocr_facts.specs.declared.setting.Setting as facts
+use Rattle.ocr_history.specs.declared.entry.Entry.{Entry}
+use Rattle.ocr_history.specs.History.{History, Setting, history_of, is_stopped}
+use Rattle.ocr_parts.specs.Legal.{IsRun}
+use Rattle.ocr_parts.specs.Runs.{IsQuiet}
+use Rattle.ocr_crew.specs.declared.limits.Limits.{Limits}
+use Rattle.ocr_crew.specs.Limits.{IsLimited}
+
+-- a program with its arguments, and how many objects it may make
+abbrev pub setting_of : List FunctionTree → List ℕ → ℕ → Setting
+setting_of program args objects = record { program = program; args = args; limit = objects }
+
+-- the run was stopped, or nothing is left to do
+abbrev pub IsFinished : Setting → History → Type 0
+IsFinished s past = (is_stopped past ≡ true) ⊎ IsQuiet s past
+
+-- what may be run: a program whose calls are all built, with its arguments, within these limits
+pub record CanRun (setting : facts.Setting) (limits : Limits) : Type 0 where
+  pub runnable : IsRunnable (checked_tree setting.program)
+  pub built : are_built (checked_tree setting.program) ≡ true
+  pub args : length setting.args.items ≤ 32
+  pub workers : (1 ≤ limits.workers) × (limits.workers ≤ 64)
+  pub objects : (2 ≤ limits.objects) × (limits.objects ≤ 65536)
+  pub share : (1 ≤ limits.share) × (limits.share ≤ 16000000)
+
+-- the journal is a run of it that came to its end and kept the limits
+pub record IsWhole (s : Setting) (workers share : ℕ) (journal : List Entry) : Type 0 where
+  pub run : IsRun s (history_of journal)
+  pub finished : IsFinished s (history_of journal)
+  pub limited : IsLimited s workers share (history_of journal)

@@ -1,0 +1,4 @@
+pub mod Limits
+pub mod Ended
+pub mod Logs
+pub mod Seats

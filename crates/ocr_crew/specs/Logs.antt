@@ -1,0 +1,46 @@
+-- What the logs of workers have to do with the limits of the run.
+use Rattle.std.specs.Prelude.{◌≡◌, ◌≤◌, ◌<◌, ℕ, ◌+◌, ◌*◌, List, ◌∷◌, length, true, Some, is_some, reverse, MatchOption}
+use Rattle.std.specs.List.{All}
+use mathlib.Core.Option.{some}
+use lib.ListN.{get_elem?}
+use Rattle.ocr_clerks.specs.Work.{stop_in}
+use Rattle.ocr_facts.specs.Clerks.{OcrTerms, OcrView, of_terms}
+use Rattle.ocr_facts.specs.Ocr.{meaning}
+use Rattle.ocr_history.specs.declared.entry.Entry.{Entry}
+use Rattle.ocr_history.specs.declared.entry.Stop as run
+use Rattle.ocr_history.specs.declared.entry.Stop.TheVariants as by
+use Rattle.ocr_history.specs.Weight.{weight_of}
+use Rattle.ocr_parts.specs.Runs.{IsQuiet}
+use Rattle.ocr_turns.specs.Rule.{Fits}
+use Rattle.ocr_turns.specs.Sums.{load_of}
+
+-- one of the workers ended the run, where its log would have passed its share
+abbrev pub EndsBy : ℕ → ℕ → List (ℕ × Entry) → run.Stop → Type 0
+EndsBy workers share log (by.Events worker k) =
+    (1 ≤ worker) × (worker ≤ workers) × (share < load_of weight_of log + k)
+EndsBy workers share log other = Unit {0}
+
+-- the log of a worker: it weighs at most a share, and its Stop has its cause
+pub record IsLog (workers share : ℕ) (log : List (ℕ × Entry)) : Type 0 where
+  pub light : load_of weight_of log ≤ share
+  pub ends : MatchOption (stop_in log) (Unit {0}) (EndsBy workers share log)
+
+-- one of the logs ends the run since no number was left
+abbrev pub IsAnyShort : List (List (ℕ × Entry)) → Type 0
+IsAnyShort logs = (j : ℕ) × (log : List (ℕ × Entry)) × (get_elem? logs j ≡ some log)
+    × (stop_in log ≡ Some by.Objects)
+
+-- What the root knows of so many joined logs, and of its own: each is a worker's, and where one of
+-- them ends the run for want of numbers, the others hold back three each at most.
+pub record HasLogs (workers share joined : ℕ) (v : OcrView) : Type 0 where
+  pub each : All (IsLog workers share) (v.log ∷ v.joined)
+  pub many : length v.joined ≡ joined
+  pub few : length v.drawn ≤ 3 * joined
+  pub short : IsAnyShort (v.log ∷ v.joined) → (length v.drawn + 3 ≤ 3 * joined)
+      × (is_some v.reached ≡ true)
+
+-- what the root knows of the end: it was told that the run has ended, or it is quiet
+pub data KnowsEnd (t : OcrTerms) (v : OcrView) : Type 0 where
+  read : is_some v.closed ≡ true → KnowsEnd t v
+  quiet : (history : List Entry) → v.root ≡ 1 → v.out ≡ 0 → Fits meaning t history v
+      → IsQuiet (of_terms t) (reverse history) → KnowsEnd t v

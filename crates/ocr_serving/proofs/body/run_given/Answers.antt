@@ -1,0 +1,50 @@
+use Rattle.std.specs.Prelude.{OnOk}
+use Rattle.std.proofs.Common.{◌≡◌, ◌∙◌, is_some, ap, sym, subst, refl}
+use Rattle.ocr_base.specs.Count.{Rose}
+use Rattle.ocr_body.specs.Serving.{StoppedBy}
+use Rattle.ocr_meaning.specs.Behaviour.{Behaviour, Ends}
+use Rattle.ocr_clerks.specs.Entering.{OcrKnown}
+use Rattle.ocr_clerks.specs.Work.{Stays}
+use Rattle.ocr_running.specs.Running.{holds_at}
+use Rattle.ocr_serving.specs.Given.{body_given}
+use Rattle.ocr_serving.specs.Serving.{EndsNow}
+use Rattle.ocr_serving.proofs.Returns.{ends_after}
+use Rattle.ocr_serving.proofs.Desks.{body_cause, err_then, holds_on, ok_then, on_ok_then, pushed_so, said_now, walked}
+use Rattle.ocr_serving.proofs.body.run_given.Goals as goal
+
+pub returns-in-Some-clause-hand : goal.returns-in-Some-clause-hand
+returns-in-Some-clause-hand g c = let e = c.walk-ending.ensures in pushed_so _ _ _ _ ((λ i. (e.kept i).3.now) ∙ c.of-pushed.ensures) (c.in-Some.hand-1-own.given.1 (λ i. (sym e.kept i).3.ghost_name)) e.ready.2
+
+pub end_body-requires : goal.end_body-requires
+end_body-requires g c κs within =
+    let J = c.args.job.now in let e = c.walk-ending.ensures in let d = c.walk-ending.new.api in let body = c.requires.1.1.0 in
+    let own = body_given d.job.now.program.now d.given.now in
+    let edts : d.edt ≡ c.args.edt = λ i. (e.kept i).4 in
+    let at = walked d.over d.job.now.turns.now J.turns.now d.job.now.program.now J.program.now d.worker d.edt c.args.edt own g.b d.clerk.now d.closings c.in_default.is
+    (λ i. (e.kept i).0.now.turns.now) (λ i. (e.kept i).0.now.program.now) edts (e.serves ∙ sym body) e.ready.0 in
+    let said = said_now d.over g.b (body_given J.program.now c.args.given.now) d.edt c.args.edt d.clerk.now d.last.value c.in_default.is (sym body) edts in
+    let holds = holds_on d.over d.clerk.now (ap is_some c.in_default.is) in (
+      within.0,
+      (
+        within.1,
+        (
+          at.work,
+          (
+            at.runs.serves,
+            (
+              ok_then c.walk-ending.result _ _ (λ r ok. record { holds = holds_at d.clerk.now; runs = at.runs; ends = sym said ∙ (ok ∙ ap (Ends r) holds); left = λ h some. refl }) e.ok,
+              err_then c.walk-ending.result _ _ (λ stop err. body_cause J.turns.now J.program.now c.args.edt g.b d.clerk.now 0 d.closings stop at refl (subst (λ (x : Behaviour). StoppedBy x (Rose 0 d.closings) stop) said err)) e.err,
+            ),
+          ),
+        ),
+      ),
+    )
+
+pub returns-clause-ended : goal.returns-clause-ended
+returns-clause-ended g c =
+    let e = c.walk-ending.ensures in let d = c.walk-ending.new.api in let a = c.args in
+    let began : d.given.now.begun.value ≡ a.clerk.now = (λ i. (e.kept i).2.now) ∙ c.requires.1.1.1.1.begun in
+    let stays = subst (λ (k : OcrKnown). Stays k d.clerk.now) began e.ready.1 in
+    let last : c.clerk-2-1.given.0 ≡ c.end_body.new.clerk = c.clerk-2-1.given.1 (λ i. (sym e.kept i).2.ghost_name) in
+    subst (λ (k : OcrKnown). OnOk c.end_body.result (EndsNow a.edt a.clerk.now k)) (sym last)
+    (on_ok_then c.end_body.result (EndsNow a.edt d.clerk.now c.end_body.new.clerk) _ (ends_after a.edt a.clerk.now d.clerk.now c.end_body.new.clerk stays) c.end_body.ensures.ended)

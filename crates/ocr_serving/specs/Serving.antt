@@ -1,0 +1,103 @@
+-- A clerk that runs the body of an EDT, from its start to its end.
+use Rattle.std.specs.Prelude.{◌≡◌, ◌<◌, ◌≤◌, ℕ, List, [], ◌∷◌, ◌++◌, Bool, true, false, length, Option, Some, None, is_some}
+use Rattle.ocr_acquire.specs.Mode.{mode_in}
+use Rattle.ocr_code.specs.Checked.{checked_tree}
+use Rattle.ocr_code.specs.declared.checked.Checked.{Checked}
+use Rattle.ocr_meaning.specs.Behaviour.{Behaviour, Ends}
+use Rattle.ocr_meaning.specs.Body.{Body, says}
+use Rattle.ocr_meaning.specs.Holds.{Holds, no_holds}
+use Rattle.ocr_meaning.specs.declared.call.BodyStop.{BodyStop}
+use Rattle.ocr_meaning.specs.declared.call.BodyStop.TheVariants as stop
+use Rattle.ocr_history.specs.declared.entry.Entry.{Entry}
+use Rattle.ocr_history.specs.declared.entry.Entry.TheVariants as an
+use Rattle.ocr_parts.specs.declared.part.Core.{Core}
+use Rattle.ocr_parts.specs.declared.part.Part.TheVariants as part
+use Rattle.ocr_parts.specs.Kinds.{work_in}
+use Rattle.ocr_turns.specs.Contract.{SameRoom}
+use Rattle.ocr_facts.specs.Clerks.{OcrTerms}
+use Rattle.ocr_clerks.specs.Entering.{OcrKnown}
+use Rattle.ocr_clerks.specs.Work.{AtWork, IsGone, OcrTable}
+use Rattle.ocr_running.specs.Running.{Runs, held_at, holds_at}
+use Rattle.ocr_running.specs.Serving.{own_log}
+use Rattle.ocr_serving.specs.Given.{body_given, stale_with, values_by}
+use Rattle.ocr_serving.specs.declared.given.Given.{Given}
+
+-- THE CORE at hand is the only part there
+abbrev pub HasCore : ℕ → Core → OcrKnown → Type 0
+HasCore place core c = c.parts ≡ (place, Some (part.Core core)) ∷ []
+
+-- it was changed so, and nothing else
+pub record StepsCore (place : ℕ) (step : Core → Core) (old new : OcrKnown) : Type 0 where
+  pub table : new.table ≡ old.table
+  pub view : new.view ≡ old.view
+  pub room : SameRoom old new
+  pub core : (core : Core) → HasCore place core old → HasCore place (step core) new
+
+-- this was read of it
+pub record IsRead (place : ℕ) (used : List Bool) (payloads : List ℕ) (g : Given) (c : OcrKnown)
+    : Type 0 where
+  pub core : Core
+  pub at_hand : HasCore place core c
+  pub function : g.function ≡ core.function
+  pub params : g.params.items ≡ core.params
+  pub depv : g.depv.items ≡ values_by (stale_with (work_in core.edt)) used payloads
+  pub begun : g.begun.value ≡ c
+
+-- STARTED: the clerk runs the body that is given this, which made no call yet
+pub record IsGiven (t : OcrTerms) (program : Checked) (edt : ℕ) (g : Given) (c : OcrKnown)
+    : Type 0 where
+  pub runs : Runs t edt (body_given program g) c
+  pub begun : g.begun.value ≡ c
+  pub calls : own_log c.view.log edt ≡ []
+  pub exists : (0 < g.function) × (g.function ≤ length (checked_tree program))
+
+-- AT THE DESK, while the run was not found ended
+pub record AtDesk (table : OcrTable) (program : Checked) (edt : ℕ) (b : Body) (c : OcrKnown)
+    (closings : ℕ) : Type 0 where
+  pub work : AtWork table program c
+  pub runs : Runs table.1 edt b c
+  pub unclosed : closings ≡ 0
+
+-- and after it
+abbrev pub IsReady : {A : Type 0} → Option A → OcrTable → Checked → (worker edt : ℕ) → Body
+    → OcrKnown → ℕ → Type 0
+IsReady None table program worker edt b c closings = AtDesk table program edt b c closings
+IsReady (Some over) table program worker edt b c closings = IsGone table worker c
+
+-- the clerk now, or before the call in which the run was found ended
+abbrev pub state_in : {A : Type 0} → Option A → (now last : OcrKnown) → OcrKnown
+state_in None now last = now
+state_in (Some over) now last = last
+
+-- what the EDT holds: nothing any more once the run has ended
+abbrev pub holds_while : {A : Type 0} → Option A → OcrKnown → Holds
+holds_while None c = holds_at c
+holds_while (Some over) c = no_holds
+
+-- the body stopped for want of memory
+abbrev pub is_for_memory : BodyStop → Bool
+is_for_memory stop.NoMemory = true
+is_for_memory other = false
+
+-- what the EDT holds where its body ends so
+abbrev pub end_holds : Behaviour → Holds
+end_holds (Ends g holds) = holds
+end_holds other = no_holds
+
+-- RETURNED: the body has ended, and what the EDT still holds it holds as it did then
+abbrev pub AreLeft : Holds → OcrKnown → Type 0
+AreLeft holds c = (d : ℕ) → is_some (mode_in d (held_at c)) ≡ true → holds_at c d ≡ holds d
+
+pub record HasReturned (t : OcrTerms) (edt : ℕ) (b : Body) (returned : ℕ) (c : OcrKnown)
+    : Type 0 where
+  pub holds : Holds
+  pub runs : Runs t edt b c
+  pub ends : says b (own_log c.view.log edt) ≡ Ends returned holds
+  pub left : AreLeft holds c
+
+-- ENDED: the newest entry of the log is the End of the EDT, which returned this
+pub record EndsNow (edt : ℕ) (old new : OcrKnown) : Type 0 where
+  pub returned : ℕ
+  pub more : List (ℕ × Entry)
+  pub number : ℕ
+  pub log : new.view.log ≡ old.view.log ++ more ++ (number, an.End edt returned) ∷ []

@@ -1,0 +1,5 @@
+pub mod Ended
+pub mod Missed
+pub mod Coming
+pub mod Rounds
+pub mod Still

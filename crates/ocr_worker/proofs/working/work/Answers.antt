@@ -1,0 +1,42 @@
+use Rattle.std.proofs.Common.{subst, sym}
+use Rattle.ocr_clerks.specs.Entering.{OcrKnown}
+use Rattle.ocr_clerks.specs.Work.{HasLeft, Stays}
+use Rattle.ocr_worker.specs.Leaving.{WorkLeaves}
+use Rattle.ocr_worker.specs.declared.leaving.Leave.{Leave}
+use Rattle.ocr_clerks.proofs.Going.{stays_both, work_left}
+use Rattle.ocr_worker.proofs.working.work.Goals.{in-Ok, in-Err}
+use Rattle.ocr_worker.proofs.working.work.Goals as goal
+
+pub returns-clause-stays : goal.returns-clause-stays
+returns-clause-stays g c =
+    let stays = c.work_on.ensures.stays in (
+      elim c.match-work_on.branch [
+        | in-Ok w ↦ subst (Stays c.args.clerk) (sym w.clerk-is) stays.0
+        | in-Err w ↦ subst (Stays c.args.clerk) (sym w.clerk-is) (stays_both c.args.clerk c.work_on.new.clerk w.closing_word.new.clerk stays.0 w.closing_word.ensures.stays)
+      ],
+      stays.1,
+    )
+
+pub returns-clause-leaves : goal.returns-clause-leaves
+returns-clause-leaves g c =
+    let table = c.args.job.now.turns.now in let program = c.args.job.now.program.now in
+    elim c.match-work_on.branch [
+      | in-Ok w ↦
+          subst (λ (k : OcrKnown). WorkLeaves table program c.args.job.now.pool.now c.args.worker c.match-work_on.leave k c.work_on.new.hand) (sym w.clerk-is)
+          (subst (λ (l : Leave). WorkLeaves table program c.args.job.now.pool.now c.args.worker l c.work_on.new.clerk c.work_on.new.hand) (sym w.leave-is) w.in-Ok.ensures.idle)
+      | in-Err w ↦
+          subst (λ (k : OcrKnown). WorkLeaves table program c.args.job.now.pool.now c.args.worker c.match-work_on.leave k c.work_on.new.hand) (sym w.clerk-is)
+          (subst (λ (l : Leave). WorkLeaves table program c.args.job.now.pool.now c.args.worker l w.closing_word.new.clerk c.work_on.new.hand) (sym w.leave-is) (record {
+            past = w.closing_word.ensures.closed.0;
+            read = w.closing_word.ensures.closed.1;
+            left = w.closing_word.ensures.left c.args.worker w.in-Err.ensures.left.0;
+          }))
+    ]
+
+pub returns-clause-own : goal.returns-clause-own
+returns-clause-own g c =
+    let table = c.args.job.now.turns.now in let program = c.args.job.now.program.now in
+    elim c.match-work_on.branch [
+      | in-Ok w ↦ subst (HasLeft table c.args.worker) (sym w.clerk-is) (work_left table program c.args.worker c.work_on.new.clerk w.in-Ok.ensures.idle.0.work)
+      | in-Err w ↦ subst (HasLeft table c.args.worker) (sym w.clerk-is) (w.closing_word.ensures.left c.args.worker w.in-Err.ensures.left.0)
+    ]

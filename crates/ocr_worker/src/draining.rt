@@ -1,0 +1,125 @@
+// One worker drains what is left.
+ghost use Rattle.std.specs.Prelude.{◌≡◌, false, IfOk, OnErr, OnOk};
+ghost use Rattle.ocr_clerks.specs.Work.{HasLeft, IsGone, Stays};
+ghost use Rattle.ocr_drained.specs.Drained.{IsUnready};
+ghost use Rattle.ocr_steal.specs.Hand.{IsSame};
+ghost use Rattle.ocr_turns.specs.Owing.{IsNumber};
+ghost use Rattle.ocr_worker.specs.declared.leaving.Leave.TheVariants as leave;
+ghost use Rattle.ocr_worker.specs.Leaving.{AllUnready, DrainLeaves, HasDelivered, HasRested};
+ghost use Rattle.ocr_worker.specs.Leaving.{IsAlone, IsAtRest, SeesQuiet};
+ghost use Rattle.ocr_worker.specs.Working.{IsBetween};
+
+use crate::advancing::{Advanced, advance, advance_found};
+use crate::delivering::deliver_all;
+use crate::leaving::{Leave, Worked, closing_word, look_on};
+use ocr_clerks::{Gate, Job, Ocr, Over};
+use ocr_guid::Guid;
+use ocr_steal::Hand;
+use ocr_turns::Clerk;
+use std::alloc::Global;
+use std::sync::Wait;
+
+/// Works with nobody else at work: takes on the EDTs that are given, delivers what its clerk owes,
+/// takes on what its deque has, and then claims each EDT of the table, until no claim is won. It
+/// leaves with `Idle` exactly where the history is quiet, else with `Closed`, as the run has ended.
+pub fn drain<R: Wait, G: Gate>(
+    alloc: Global,
+    job: &Job<R, G>,
+    worker: u32,
+    mut clerk: Clerk<Ocr>,
+    mut hand: Hand,
+    ready: Vec<Guid>,
+) -> Worked
+    requires between { IsBetween job.now.turns.now job.now.program.now clerk }
+    requires alone { IsAlone clerk }
+    ensures stays { Stays clerk result.clerk × IsSame hand result.hand }
+    ensures own { HasLeft job.now.turns.now worker result.clerk }
+    ensures exact { SeesQuiet job.now.turns.now clerk → result.leave ≡ leave.Idle }
+    ensures leaves { DrainLeaves job.now.turns.now job.now.program.now worker result.leave
+        result.clerk }
+{
+    let leave = match drain_on(alloc, job, worker, &mut clerk, &mut hand, ready.as_slice()) {
+        Ok(()) => Leave::Idle,
+        Err(_) => Leave::Closed(closing_word(job.turns, &mut clerk)),
+    };
+    Worked { clerk, hand, leave }
+}
+
+fn drain_on<R: Wait, G: Gate>(
+    alloc: Global,
+    job: &Job<R, G>,
+    worker: u32,
+    clerk: &mut Clerk<Ocr>,
+    hand: &mut Hand,
+    ready: &[Guid],
+) -> Result<(), Over>
+    requires between { IsBetween job.now.turns.now job.now.program.now clerk.old }
+    requires alone { IsAlone clerk.old }
+    ensures stays { Stays clerk.old clerk.new × IsSame hand.old hand.new }
+    ensures idle { OnOk result (IsBetween job.now.turns.now job.now.program.now clerk.new
+        × HasDelivered clerk.new × SeesQuiet job.now.turns.now clerk.new) }
+    ensures rests { IsAtRest job.now.turns.now clerk.old → HasRested result clerk.old clerk.new }
+    ensures left { OnErr result (IsGone job.now.turns.now worker clerk.new) }
+{
+    advance_each(alloc, job, worker, clerk, hand, ready)?;
+    for _ in job.rt.forever() {
+        deliver_all(alloc, job, worker, clerk, hand)?;
+        match hand.take() {
+            Some(edt) => advance_found(alloc, job, worker, clerk, hand, edt)?,
+            None => {
+                if !advance_all(alloc, job, worker, clerk, hand)? {
+                    return look_on(job, worker, clerk);
+                }
+            }
+        }
+    }
+    unreachable!()
+}
+
+/// Takes these EDTs on.
+fn advance_each<R: Wait, G: Gate>(
+    alloc: Global,
+    job: &Job<R, G>,
+    worker: u32,
+    clerk: &mut Clerk<Ocr>,
+    hand: &mut Hand,
+    ready: &[Guid],
+) -> Result<(), Over>
+    requires between { IsBetween job.now.turns.now job.now.program.now clerk.old }
+    ensures stays { Stays clerk.old clerk.new × IsSame hand.old hand.new }
+    ensures done { OnOk result (IsBetween job.now.turns.now job.now.program.now clerk.new) }
+    ensures rests { IsAtRest job.now.turns.now clerk.old → HasRested result clerk.old clerk.new }
+    ensures left { OnErr result (IsGone job.now.turns.now worker clerk.new) }
+{
+    for edt in ready {
+        advance_found(alloc, job, worker, clerk, hand, *edt)?;
+    }
+    Ok(())
+}
+
+/// Takes on each EDT of the table that is ready: whether there was one.
+fn advance_all<R: Wait, G: Gate>(
+    alloc: Global,
+    job: &Job<R, G>,
+    worker: u32,
+    clerk: &mut Clerk<Ocr>,
+    hand: &mut Hand,
+) -> Result<bool, Over>
+    requires between { IsBetween job.now.turns.now job.now.program.now clerk.old }
+    ensures stays { Stays clerk.old clerk.new × IsSame hand.old hand.new }
+    ensures done { OnOk result (IsBetween job.now.turns.now job.now.program.now clerk.new) }
+    ensures none { IfOk result (λ any. any ≡ false → (clerk.new ≡ clerk.old)
+        × AllUnready job.now.turns.now.1.limit clerk.new) }
+    ensures rests { IsAtRest job.now.turns.now clerk.old → HasRested result clerk.old clerk.new }
+    ensures left { OnErr result (IsGone job.now.turns.now worker clerk.new) }
+{
+    let mut any = false;
+    for number in 0..job.turns.limit() {
+        match advance(alloc, job, worker, clerk, hand, Guid(number + 1)) {
+            Advanced::Lost(_) => {}
+            Advanced::Closed(word) => return Err(Over(word)),
+            _ => any = true,
+        }
+    }
+    Ok(any)
+}
