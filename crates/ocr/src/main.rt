@@ -1,8 +1,9 @@
-//! The program: `ocr run` reads a task program on standard input, runs it, and writes what it prints.
+//! The program: `ocr run` reads a task program on standard input, runs it by workers in threads of
+//! their own, and writes what it prints.
 #![tactic(auto)]
 
 use ocr_io::{Sink, StderrSink, StdinSource, StdoutSink, write_all};
-use ocr_run::ocr_main;
+use ocr_run::{NoGate, ocr_main};
 use std::io::ErrorKind;
 use std::process::ExitCode;
 use std::{env, io};
@@ -12,7 +13,18 @@ fn main(rt: HostRuntime) -> ExitCode {
     let mut out = StdoutSink::new(rt.stdout());
     let mut err = StderrSink::new(rt.stderr());
     let status = match words(&rt) {
-        Ok(words) => ocr_main(rt.alloc(), &words, &mut input, &mut out, &mut err).status,
+        Ok(words) => {
+            ocr_main(
+                &rt,
+                rt.alloc(),
+                &words,
+                &mut input,
+                &mut out,
+                &mut err,
+                &NoGate,
+            )
+            .status
+        }
         Err(error) if error.kind() == ErrorKind::OutOfMemory => {
             refuse(&mut err, 9, b"want of memory\n")
         }

@@ -4,11 +4,9 @@ use Rattle.std.specs.Prelude.{IfOk}
 use Rattle.ocr_tree.specs.Tree.{FunctionTree}
 use Rattle.ocr_history.specs.declared.entry.Entry.{Entry}
 use Rattle.ocr_history.specs.History.{Setting, history_of}
-use Rattle.ocr_parts.specs.Legal.{IsRun}
 use Rattle.ocr_parts.proofs.Starts.{start_law, set_law}
 use Rattle.ocr_quiet.proofs.Sleeping.{quiet_law}
-use Rattle.ocr_serial.specs.Limits.{IsLimited}
-use Rattle.ocr_serial.specs.UnderWay.{setting_of, IsFinished}
+use Rattle.ocr_crew.specs.Ended.{IsWhole, setting_of}
 use Rattle.ocr_words.specs.declared.wanted.Options.{Options}
 use Rattle.ocr_words.specs.declared.wanted.Reports.{Reports}
 use Rattle.ocr_run.specs.declared.execute.Executed.{Executed}
@@ -23,30 +21,28 @@ IsTextOf program args reports journal text =
     (s : Setting) → s.program ≡ program → s.args ≡ args → text ≡ output_of s (history_of journal) reports
 
 run_here : (program : List FunctionTree) (options : Options) (args : List ℕ) (journal : List Entry) (text : List ℕ) (status : ℕ)
-    → IsRun (setting_of program args options.objects) (history_of journal) → IsFinished (setting_of program args options.objects) (history_of journal)
-    → IsLimited (setting_of program args options.objects) options.events (history_of journal)
+    → IsWhole (setting_of program args options.objects) options.workers options.events journal
     → IsTextOf program args options.reports journal text → status ≡ end_status (end_of (history_of journal)) → IsRunOf program options args journal text status
-run_here program options args journal text status run finished limited told ends =
+run_here program options args journal text status is told ends =
     let s = setting_of program args options.objects in
     let past = history_of journal in
     record {
-      run = run;
-      finished = finished;
-      once = start_law s past run;
-      set = set_law s past run;
-      left = λ quiet. quiet_law s past quiet run;
-      limited = limited;
+      run = is.run;
+      finished = is.finished;
+      once = start_law s past is.run;
+      set = set_law s past is.run;
+      left = λ quiet. quiet_law s past quiet is.run;
+      limited = is.limited;
       output = told s refl refl;
       ending = ends ∙ sym (status_of_end past);
     }
 
 pub run_of : (E : Type 0) (program : List FunctionTree) (options : Options) (args : List ℕ) (journal : List Entry) (result : Result Executed E)
-    → IsRun (setting_of program args options.objects) (history_of journal) → IsFinished (setting_of program args options.objects) (history_of journal)
-    → IsLimited (setting_of program args options.objects) options.events (history_of journal)
+    → IsWhole (setting_of program args options.objects) options.workers options.events journal
     → IfOk result (λ e. e.journal ≡ journal) → IfOk result (λ e. IsTextOf program args options.reports journal e.text.items)
     → IfOk result (λ e. e.status ≡ end_status (end_of (history_of journal)))
     → IfOk result (λ e. IsRunOf program options args e.journal e.text.items e.status)
-run_of E program options args journal (Ok e) run finished limited same told ends =
+run_of E program options args journal (Ok e) is same told ends =
     subst (λ (j : List Entry). IsRunOf program options args j e.text.items e.status) (sym same)
-    (run_here program options args journal e.text.items e.status run finished limited told ends)
-run_of E program options args journal (Err why) run finished limited same told ends = tt
+    (run_here program options args journal e.text.items e.status is told ends)
+run_of E program options args journal (Err why) is same told ends = tt

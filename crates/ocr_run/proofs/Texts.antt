@@ -1,5 +1,5 @@
 -- Bytes are at most one program, have at most one fault, and never both.
-use Rattle.std.proofs.Common.{◌≡◌, ◌∙◌, ℕ, ◌+◌, List, length, true, sym, ap, subst}
+use Rattle.std.proofs.Common.{◌≡◌, ℕ, List, true, sym, ap, subst}
 use Rattle.ocr_text.specs.Tokens.{AreTokens}
 use Rattle.ocr_text.proofs.Laws.{tokens_law}
 use Rattle.ocr_text.specs.declared.token.Token.{Token}

@@ -210,11 +210,11 @@ checked_status status (inr (inr (inr is))) = status_at 9 status is headline.out_
 -- THE WORDS
 pub servable : (words : List (List ℕ)) (wanted : Wanted) → IsAsked words wanted → IsServable wanted
 servable [] wanted asked = absurd asked
-servable (command ∷ rest) (want.Run options args) (line, of, (is, run)) = (
-  rw (run.args_are, length-map (given_in line).numbers value) run.few,
-  run.options_are.objects_from,
-  run.options_are.objects_to,
-)
+servable (command ∷ rest) (want.Run options args) (line, of, (is, run)) =
+    let o = run.options_are in (
+      rw (run.args_are, length-map (given_in line).numbers value) run.few,
+      record { workers = (o.workers_from, o.workers_to); objects = (o.objects_from, o.objects_to); events = (o.events_from, o.events_to) },
+    )
 servable (command ∷ rest) want.Check asked = tt
 servable (command ∷ rest) (want.Load number options) (line, of, (is, load)) = load.not_built
 

@@ -15,14 +15,14 @@ use Rattle.ocr_words.specs.declared.wanted.Options.{Options}
 use Rattle.ocr_words.specs.declared.wanted.Wanted.{Wanted}
 use Rattle.ocr_words.specs.declared.wanted.Wanted.TheVariants as want
 use Rattle.ocr_run.specs.declared.text.TextFault.{TextFault}
-use Rattle.ocr_serial.specs.Limits.{IsLimited}
+use Rattle.ocr_crew.specs.Ended.{setting_of, IsFinished}
+use Rattle.ocr_crew.specs.Limits.{IsLimited}
 use Rattle.ocr_run.specs.Lines.{ending_line, fault_line}
 use Rattle.ocr_run.specs.Output.{output_of}
 use Rattle.ocr_run.specs.ProgramText.{IsProgramText, IsCanonicalOf, IsNoProgram, most_bytes}
-use Rattle.ocr_serial.specs.UnderWay.{setting_of, IsFinished}
 
--- this is the journal of a run of the program with these options and arguments that came to its end
--- and kept the limits, this text is the run's output, and this is its status
+-- this is the journal of a run of the program by workers, with these options and arguments, that
+-- came to its end and kept the limits, this text is the run's output, and this is its status
 pub record IsRunOf (program : List FunctionTree) (options : Options) (args : List ℕ)
     (journal : List Entry) (text : List ℕ) (status : ℕ) : Type 0 where
   pub run : IsRun (setting_of program args options.objects) (history_of journal)
@@ -31,7 +31,7 @@ pub record IsRunOf (program : List FunctionTree) (options : Options) (args : Lis
   pub set : StartsSet (setting_of program args options.objects) (history_of journal)
   pub left : IsQuiet (setting_of program args options.objects) (history_of journal)
       → LeavesOpen (setting_of program args options.objects) (history_of journal)
-  pub limited : IsLimited (setting_of program args options.objects) options.events
+  pub limited : IsLimited (setting_of program args options.objects) options.workers options.events
       (history_of journal)
   pub output : text ≡ output_of (setting_of program args options.objects) (history_of journal)
       options.reports

@@ -1,14 +1,20 @@
 -- What is wanted, as the top call hands it on.
 use Rattle.std.specs.Prelude.{◌≤◌, ℕ, List, Option, length}
 use Rattle.ocr_history.specs.declared.entry.Entry.{Entry}
+use Rattle.ocr_words.specs.declared.wanted.Options.{Options}
 use Rattle.ocr_words.specs.declared.wanted.Wanted.{Wanted}
 use Rattle.ocr_words.specs.declared.wanted.Wanted.TheVariants as want
 use Rattle.ocr_run.specs.Headline.{IsAnswered, IsRead}
 
+-- the options of a run are within their ranges
+pub record AreWithin (options : Options) : Type 0 where
+  pub workers : (1 ≤ options.workers) × (options.workers ≤ 64)
+  pub objects : (2 ≤ options.objects) × (options.objects ≤ 65536)
+  pub events : (1 ≤ options.events) × (options.events ≤ 16000000)
+
 -- a run within its bounds, or a check
 abbrev pub IsServable : Wanted → Type 0
-IsServable (want.Run options args) =
-    (length args ≤ 32) × (2 ≤ options.objects) × (options.objects ≤ 65536)
+IsServable (want.Run options args) = (length args ≤ 32) × AreWithin options
 IsServable want.Check = Unit {0}
 IsServable (want.Load number options) = ⊥
 

@@ -2,7 +2,6 @@
 ghost use Rattle.std.specs.Prelude.{◌≡◌, length, IfOk};
 ghost use Rattle.ocr_history.specs.History.{history_of};
 ghost use Rattle.ocr_history.specs.Output.{left_edts};
-ghost use Rattle.ocr_serial.specs.UnderWay.{IsEndedBy};
 ghost use Rattle.ocr_run.specs.Lines.{end_of, end_status};
 ghost use Rattle.ocr_run.specs.Wants.{IsMet};
 
@@ -45,15 +44,13 @@ fn left_count(alloc: Global, entries: &[Entry]) -> Result<u64, NoMemory>
     Ok(left.len() as u64)
 }
 
-/// How a run ended that has these entries, the last of which is this Stop, if any.
-#[tactic(auto, using(crate::proofs::Ends::end_count))]
-pub fn ending_of(alloc: Global, entries: &[Entry], stop: Option<Stop>) -> Result<Ending, NoMemory>
-    requires { IsEndedBy stop (history_of entries.now) }
+/// How a run ended that has these entries.
+pub fn ending_of(alloc: Global, entries: &[Entry]) -> Result<Ending, NoMemory>
     ensures { IfOk result (λ ending. ending ≡ end_of (history_of entries.now)) }
 {
-    match stop {
-        Some(stop) => Ok(Ending::Stopped(stop)),
-        None => {
+    match entries.last() {
+        Some(Entry::Stop(stop)) => Ok(Ending::Stopped(*stop)),
+        _ => {
             let count = left_count(alloc, entries)?;
             Ok(Ending::Quiet(count))
         }

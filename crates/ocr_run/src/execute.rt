@@ -2,29 +2,31 @@
 ghost use Rattle.std.specs.Prelude.{◌≡◌, ◌≤◌, IfOk, IfErr, length, true};
 ghost use Rattle.ocr_tree.specs.Built.{are_built};
 ghost use Rattle.ocr_code.specs.Checked.{checked_tree};
-ghost use Rattle.ocr_history.specs.History.{Setting, history_of};
-ghost use Rattle.ocr_serial.specs.UnderWay.{IsEndedBy};
+ghost use Rattle.ocr_history.specs.History as history;
+ghost use Rattle.ocr_history.specs.History.{history_of};
 ghost use Rattle.ocr_run.specs.ProgramText.{IsTextStop, most_bytes};
 ghost use Rattle.ocr_run.specs.Headline.{IsExecuted, IsRunOf};
 ghost use Rattle.ocr_run.specs.Lines.{end_of, end_status, ending_line};
 ghost use Rattle.ocr_run.specs.Output.{output_of};
-ghost use Rattle.ocr_run.specs.Wants.{IsMet};
+ghost use Rattle.ocr_run.specs.Wants.{AreWithin, IsMet};
 
 use crate::ending::ending_of;
 use crate::lines::line_of_ending;
 use crate::output::output;
 use crate::text::{TextStop, program_of};
 use ocr_base::NoMemory;
-use ocr_code::Checked;
-use ocr_history::{Journal, Stop};
-use ocr_serial::{Done, Terms, run};
+use ocr_clerks::Gate;
+use ocr_crew::{Limits, Merged, run};
+use ocr_facts::Setting;
 use ocr_words::{Options, Reports};
 use std::alloc::Global;
+use std::sync::Wait;
+use std::thread::Threads;
 
 /// What a run came to: its journal, what it prints, its status, and the line that goes with it.
 #[derive(Drop)]
 pub struct Executed {
-    pub journal: Journal,
+    pub journal: Merged,
     pub text: Vec<u8>,
     pub status: u8,
     pub line: Vec<u8>,
@@ -32,75 +34,77 @@ pub struct Executed {
 
 /// Runs the program that these bytes are, with these options and arguments; or tells the first
 /// thing that is wrong with the bytes.
-pub fn execute(
+pub fn execute<R: Threads + Wait + Sync, G: Gate + Sync>(
+    rt: &R,
     alloc: Global,
     options: Options,
-    args: &[u64],
+    args: Vec<u64>,
     bytes: &[u8],
+    gate: &G,
 ) -> Result<Executed, TextStop>
     requires size { length bytes.now ≤ most_bytes }
-    requires args { length args.now ≤ 32 }
-    requires some { 2 ≤ options.objects }
-    requires most { options.objects ≤ 65536 }
+    requires args { length args.items ≤ 32 }
+    requires options { AreWithin options }
     ensures ran { IfOk result
-        (λ e. IsExecuted options args.now bytes.now e.journal e.text.items e.status) }
+        (λ e. IsExecuted options args.items bytes.now e.journal e.text.items e.status) }
     ensures line { IfOk result (λ e. e.line.items ≡ ending_line (history_of e.journal)) }
     ensures met { IfOk result (λ e. IsMet e.status) }
     ensures stop { IfErr result (IsTextStop bytes.now) }
 {
-    let checked = program_of(alloc, bytes)?;
-    match run_checked(alloc, options, args, &checked) {
+    let program = program_of(alloc, bytes)?;
+    let setting = Setting { program, args };
+    match run_checked(rt, alloc, options, &setting, gate) {
         Ok(executed) => Ok(executed),
         Err(_) => Err(TextStop::NoMemory),
     }
 }
 
 // Runs a program that is ready to be run.
-fn run_checked(
+fn run_checked<R: Threads + Wait + Sync, G: Gate + Sync>(
+    rt: &R,
     alloc: Global,
     options: Options,
-    args: &[u64],
-    checked: &Checked,
+    setting: &Setting,
+    gate: &G,
 ) -> Result<Executed, NoMemory>
-    requires built { are_built (checked_tree checked.now) ≡ true }
-    requires args { length args.now ≤ 32 }
-    requires some { 2 ≤ options.objects }
-    requires most { options.objects ≤ 65536 }
-    ensures ran { IfOk result (λ e. IsRunOf (checked_tree checked.now) options args.now e.journal
-        e.text.items e.status) }
+    requires built { are_built (checked_tree setting.now.program) ≡ true }
+    requires args { length setting.now.args.items ≤ 32 }
+    requires options { AreWithin options }
+    ensures ran { IfOk result (λ e. IsRunOf (checked_tree setting.now.program) options
+        setting.now.args.items e.journal e.text.items e.status) }
     ensures line { IfOk result (λ e. e.line.items ≡ ending_line (history_of e.journal)) }
     ensures met { IfOk result (λ e. IsMet e.status) }
 {
-    let terms = Terms {
-        program: checked,
-        args,
+    let limits = Limits {
+        workers: options.workers,
         objects: options.objects,
         share: options.events,
     };
-    let Done { journal, stop } = run(alloc, terms)?;
-    told(alloc, options.reports, args, checked, journal, stop)
+    setting.program.runnable_law();
+    let journal = run(rt, alloc, setting, limits, gate)?;
+    told(alloc, options.reports, setting, journal)
 }
 
-// What is told of a run that ended so.
+// What is told of a run with this journal.
 fn told(
     alloc: Global,
     reports: Reports,
-    args: &[u64],
-    checked: &Checked,
-    journal: Journal,
-    stop: Option<Stop>,
+    setting: &Setting,
+    journal: Merged,
 ) -> Result<Executed, NoMemory>
-    requires { IsEndedBy stop (history_of journal) }
     ensures journal { IfOk result (λ e. e.journal ≡ journal) }
-    ensures text { IfOk result (λ e. (s : Setting) → s.program ≡ checked_tree checked.now
-        → s.args ≡ args.now → e.text.items ≡ output_of s (history_of journal) reports) }
+    ensures text { IfOk result (λ e. (s : history.Setting)
+        → s.program ≡ checked_tree setting.now.program → s.args ≡ setting.now.args.items
+        → e.text.items ≡ output_of s (history_of journal) reports) }
     ensures status { IfOk result (λ e. e.status ≡ end_status (end_of (history_of journal))) }
     ensures line { IfOk result (λ e. e.line.items ≡ ending_line (history_of journal)) }
     ensures met { IfOk result (λ e. IsMet e.status) }
 {
-    let ending = ending_of(alloc, journal.entries(), stop)?;
+    let entries = journal.journal();
+    let ending = ending_of(alloc, entries.entries())?;
     let line = line_of_ending(alloc, &ending)?;
-    let text = output(alloc, checked.program(), args, &journal, reports)?;
+    let program = setting.program.program();
+    let text = output(alloc, program, setting.args.as_slice(), entries, reports)?;
     Ok(Executed {
         journal,
         text,

@@ -10,15 +10,18 @@ ghost use Rattle.ocr_words.specs.Wanted.{IsAsked};
 ghost use Rattle.ocr_run.specs.Lines.{ending_line};
 ghost use Rattle.ocr_run.specs.ProgramText.{IsProgramText, IsNoProgram, most_bytes};
 ghost use Rattle.ocr_run.specs.Headline.{IsHeadline, IsAnswered, IsCopied, IsCheckedText, IsWritten, IsCheck, IsComplete, IsCaused, CameTo, AreRefused, IsTooBig, IsNotBuilt, IsRefusedText, IsLine, IsTold, IsStatus, is_silent};
-ghost use Rattle.ocr_run.specs.Wants.{IsMet, IsServable, IsAnsweredAs, IsReadAs};
+ghost use Rattle.ocr_run.specs.Wants.{AreWithin, IsMet, IsServable, IsAnsweredAs, IsReadAs};
 
 use crate::execute::{Executed, execute};
 use crate::lines::line_of_fault;
 use crate::text::{TextFault, TextStop, canonical_of};
-use ocr_history::Journal;
+use ocr_clerks::Gate;
+use ocr_crew::Merged;
 use ocr_io::{ReadStop, Sink, Source, read_all, write_all};
 use ocr_words::{Options, Wanted, WordsStop, command};
 use std::alloc::Global;
+use std::sync::Wait;
+use std::thread::Threads;
 
 /// The most bytes that a program has.
 const MOST_BYTES: usize = 1_048_576;
@@ -28,7 +31,7 @@ const MOST_BYTES: usize = 1_048_576;
 #[derive(Drop)]
 pub struct Ended {
     pub status: u8,
-    pub journal: Option<Journal>,
+    pub journal: Option<Merged>,
 }
 
 // Writes a line to `err`. A write that fails there changes nothing else.
@@ -114,21 +117,22 @@ fn finish<O: Sink, E: Sink>(executed: Executed, out: &mut O, err: &mut E) -> End
 }
 
 // Runs the program that these bytes are, and writes its output.
-fn answer_run<O: Sink, E: Sink>(
+fn answer_run<R: Threads + Wait + Sync, O: Sink, E: Sink, G: Gate + Sync>(
+    rt: &R,
     alloc: Global,
     options: Options,
-    args: &[u64],
+    args: Vec<u64>,
     bytes: &[u8],
     out: &mut O,
     err: &mut E,
+    gate: &G,
 ) -> Ended
     requires size { length bytes.now ≤ most_bytes }
-    requires args { length args.now ≤ 32 }
-    requires some { 2 ≤ options.objects }
-    requires most { options.objects ≤ 65536 }
+    requires args { length args.items ≤ 32 }
+    requires options { AreWithin options }
     ensures status { IsStatus result.status }
     ensures accepted { (result.status ≢ 2) × (result.status ≢ 7) }
-    ensures ran { IfSome result.journal (IsAnswered options args.now bytes.now (O.taken out.old)
+    ensures ran { IfSome result.journal (IsAnswered options args.items bytes.now (O.taken out.old)
         (O.taken out.new) (Rose (O.failures out.old) (O.failures out.new)) result.status) }
     ensures unrun { IfNone result.journal
         (((result.status ≡ 3) ⊎ (result.status ≡ 9)) × Keeps (O.taken out.old) (O.taken out.new)) }
@@ -146,7 +150,7 @@ fn answer_run<O: Sink, E: Sink>(
     ensures write_fault { result.status ≡ 8 → Rose (O.failures out.old) (O.failures out.new) }
     ensures memory { result.status ≡ 9 → Keeps (O.taken out.old) (O.taken out.new) }
 {
-    match execute(alloc, options, args, bytes) {
+    match execute(rt, alloc, options, args, bytes, gate) {
         Ok(executed) => finish(executed, out, err),
         Err(TextStop::Fault(found)) => refuse_text(alloc, err, found),
         Err(TextStop::NoMemory) => refuse(err, 9, b"want of memory\n"),
@@ -209,12 +213,14 @@ fn answer_check<O: Sink, E: Sink>(alloc: Global, bytes: &[u8], out: &mut O, err:
 }
 
 // Does with these bytes what is wanted.
-fn answer<O: Sink, E: Sink>(
+fn answer<R: Threads + Wait + Sync, O: Sink, E: Sink, G: Gate + Sync>(
+    rt: &R,
     alloc: Global,
     wanted: Wanted,
     bytes: &[u8],
     out: &mut O,
     err: &mut E,
+    gate: &G,
 ) -> Ended
     requires size { length bytes.now ≤ most_bytes }
     requires servable { IsServable wanted }
@@ -243,7 +249,7 @@ fn answer<O: Sink, E: Sink>(
 {
     match wanted {
         Wanted::Run { options, args } => {
-            answer_run(alloc, options, args.as_slice(), bytes, out, err)
+            answer_run(rt, alloc, options, args.into_vec(), bytes, out, err, gate)
         }
         Wanted::Check => answer_check(alloc, bytes, out, err),
         Wanted::Load { .. } => unreachable!(),
@@ -251,12 +257,14 @@ fn answer<O: Sink, E: Sink>(
 }
 
 // Reads the input, and does with it what is wanted.
-fn serve<S: Source, O: Sink, E: Sink>(
+fn serve<R: Threads + Wait + Sync, S: Source, O: Sink, E: Sink, G: Gate + Sync>(
+    rt: &R,
     alloc: Global,
     wanted: Wanted,
     input: &mut S,
     out: &mut O,
     err: &mut E,
+    gate: &G,
 ) -> Ended
     requires { IsServable wanted }
     ensures status { IsStatus result.status }
@@ -293,7 +301,7 @@ fn serve<S: Source, O: Sink, E: Sink>(
         (IsNotBuilt (S.left input.old) (S.left input.new)) result.journal result.status line) }
 {
     match read_all(alloc, input, MOST_BYTES) {
-        Ok(bytes) => answer(alloc, wanted, &bytes, out, err),
+        Ok(bytes) => answer(rt, alloc, wanted, &bytes, out, err, gate),
         Err(ReadStop::Failed) => refuse(err, 7, b"read fault\n"),
         Err(ReadStop::TooBig) => refuse(err, 3, b"text too big\n"),
         Err(ReadStop::NoMemory) => refuse(err, 9, b"want of memory\n"),
@@ -306,17 +314,19 @@ fn serve<S: Source, O: Sink, E: Sink>(
 /// The words have one of the forms of docs/SPECIFICATION.md, "The words", which tells the statuses
 /// too; the line that goes with a status is written to `err`. For `run` the journal is given with
 /// each of the statuses 0, 4, 5, 6, 8 and 10, may be given with 9, and is not given with 2, 3 and
-/// 7. `check` gives none.
-pub fn ocr_main<S: Source, O: Sink, E: Sink>(
+/// 7. `check` gives none. Each worker of a run passes the gate before it enters an entry.
+pub fn ocr_main<R: Threads + Wait + Sync, S: Source, O: Sink, E: Sink, G: Gate + Sync>(
+    rt: &R,
     alloc: Global,
     words: &[String],
     input: &mut S,
     out: &mut O,
     err: &mut E,
+    gate: &G,
 ) -> Ended
-    // The headline: the words ask for a run, all bytes of the source are a program, the journal is
-    // a run of it that came to its end and kept the limits, and the bytes written are the journal's
-    // output.
+    // The headline, for any number of workers and whatever order their steps come in: the words ask
+    // for a run, all bytes of the source are a program, the journal is a run of it that came to its
+    // end and kept the limits, and the bytes written are the journal's output.
     ensures headline { IfSome result.journal
         (IsHeadline (texts_of words.now) (S.left input.old) (S.left input.new) (O.taken out.old)
         (O.taken out.new) (Rose (O.failures out.old) (O.failures out.new)) result.status) }
@@ -366,7 +376,7 @@ pub fn ocr_main<S: Source, O: Sink, E: Sink>(
         (IsNotBuilt (S.left input.old) (S.left input.new)) result.journal result.status line) }
 {
     match command(alloc, words) {
-        Ok(wanted) => serve(alloc, wanted, input, out, err),
+        Ok(wanted) => serve(rt, alloc, wanted, input, out, err, gate),
         Err(WordsStop::Refused) => refuse(err, 2, b"words refused\n"),
         Err(WordsStop::NoMemory) => refuse(err, 9, b"want of memory\n"),
     }

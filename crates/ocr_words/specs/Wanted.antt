@@ -67,9 +67,9 @@ given_in l = record {
 
 -- ---- the commands
 
--- the number of workers that is taken where none is given: 1, until there are several
+-- the number of workers that is taken where none is given
 abbrev pub default_workers : ℕ
-default_workers = 1
+default_workers = 4
 
 -- the options of `run`
 pub record IsRunOptions (t : Texts) (options : Options) : Type 0 where
@@ -84,8 +84,6 @@ pub record IsRunOptions (t : Texts) (options : Options) : Type 0 where
   pub events_to : options.events ≤ 16000000
   pub share : options.workers * options.events ≤ 16000000
   pub reports : options.reports ≡ t.reports
-  -- until there are several workers
-  pub one_worker : options.workers ≤ 1
   -- until that report is built
   pub no_races : options.reports.races ≡ false
 

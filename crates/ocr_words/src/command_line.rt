@@ -10,10 +10,9 @@ use crate::wanted::{Options, Reports, Wanted, WordsStop};
 use ocr_base::Seq;
 use std::alloc::Global;
 
-/// There is one worker as yet.
-const MAX_WORKERS: u64 = 1;
+const MAX_WORKERS: u64 = 64;
 
-const DEFAULT_WORKERS: u64 = 1;
+const DEFAULT_WORKERS: u64 = 4;
 
 const MAX_OBJECTS: u64 = 65_536;
 
@@ -85,8 +84,7 @@ fn is_check(given: &Given<'_>) -> bool
 
 /// What the words after the program's name ask for. `Refused` exactly where they are in none of the
 /// forms `run [--workers N] [--objects N] [--events N] [REPORT..] [NUMBER..]`, `check` and
-/// `load NUMBER [--workers N] [REPORT..]`. As yet `--workers` takes 1 alone, and `--races` and
-/// `load` are refused.
+/// `load NUMBER [--workers N] [REPORT..]`. As yet `--races` and `load` are refused.
 pub fn command(alloc: Global, words: &[String]) -> Result<Wanted, WordsStop>
     ensures ok { IfOk result (λ w. IsAsked (texts_of words.now) w) }
     ensures only { IfOk result

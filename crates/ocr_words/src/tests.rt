@@ -33,6 +33,7 @@ fn letters(reports: Reports) -> [char; 7] {
 
 struct Row {
     line: &'static str,
+    workers: u32,
     objects: u64,
     events: u64,
     reports: [char; 7],
@@ -41,9 +42,10 @@ struct Row {
 
 const NONE: [char; 7] = ['-', '-', '-', '-', '-', '-', '-'];
 
-static RUNS: [Row; 18] = [
+static RUNS: [Row; 21] = [
     Row {
         line: "run",
+        workers: 4,
         objects: 4096,
         events: 200_000,
         reports: NONE,
@@ -51,6 +53,7 @@ static RUNS: [Row; 18] = [
     },
     Row {
         line: "run --",
+        workers: 4,
         objects: 4096,
         events: 200_000,
         reports: NONE,
@@ -58,6 +61,7 @@ static RUNS: [Row; 18] = [
     },
     Row {
         line: "run 5",
+        workers: 4,
         objects: 4096,
         events: 200_000,
         reports: NONE,
@@ -65,6 +69,7 @@ static RUNS: [Row; 18] = [
     },
     Row {
         line: "run 3 0 3",
+        workers: 4,
         objects: 4096,
         events: 200_000,
         reports: NONE,
@@ -72,6 +77,7 @@ static RUNS: [Row; 18] = [
     },
     Row {
         line: "run -- 1 2",
+        workers: 4,
         objects: 4096,
         events: 200_000,
         reports: NONE,
@@ -79,6 +85,7 @@ static RUNS: [Row; 18] = [
     },
     Row {
         line: "run 1 -- 2",
+        workers: 4,
         objects: 4096,
         events: 200_000,
         reports: NONE,
@@ -86,6 +93,7 @@ static RUNS: [Row; 18] = [
     },
     Row {
         line: "run --workers 1",
+        workers: 1,
         objects: 4096,
         events: 200_000,
         reports: NONE,
@@ -93,13 +101,39 @@ static RUNS: [Row; 18] = [
     },
     Row {
         line: "run --workers=01 7",
+        workers: 1,
         objects: 4096,
         events: 200_000,
         reports: NONE,
         args: &[7],
     },
     Row {
+        line: "run --workers 64 --events 250000",
+        workers: 64,
+        objects: 4096,
+        events: 250_000,
+        reports: NONE,
+        args: &[],
+    },
+    Row {
+        line: "run 7 --workers=2",
+        workers: 2,
+        objects: 4096,
+        events: 200_000,
+        reports: NONE,
+        args: &[7],
+    },
+    Row {
+        line: "run --events 4000000",
+        workers: 4,
+        objects: 4096,
+        events: 4_000_000,
+        reports: NONE,
+        args: &[],
+    },
+    Row {
         line: "run --objects 2",
+        workers: 4,
         objects: 2,
         events: 200_000,
         reports: NONE,
@@ -107,6 +141,7 @@ static RUNS: [Row; 18] = [
     },
     Row {
         line: "run --objects=65536",
+        workers: 4,
         objects: 65_536,
         events: 200_000,
         reports: NONE,
@@ -114,13 +149,15 @@ static RUNS: [Row; 18] = [
     },
     Row {
         line: "run --events 1",
+        workers: 4,
         objects: 4096,
         events: 1,
         reports: NONE,
         args: &[],
     },
     Row {
-        line: "run --events=16000000",
+        line: "run --workers=1 --events=16000000",
+        workers: 1,
         objects: 4096,
         events: 16_000_000,
         reports: NONE,
@@ -128,6 +165,7 @@ static RUNS: [Row; 18] = [
     },
     Row {
         line: "run --events 00000000000000000005",
+        workers: 4,
         objects: 4096,
         events: 5,
         reports: NONE,
@@ -135,6 +173,7 @@ static RUNS: [Row; 18] = [
     },
     Row {
         line: "run 18446744073709551615",
+        workers: 4,
         objects: 4096,
         events: 200_000,
         reports: NONE,
@@ -142,6 +181,7 @@ static RUNS: [Row; 18] = [
     },
     Row {
         line: "run 007 --objects=10 --summary 8 --events 20 -- 9",
+        workers: 4,
         objects: 10,
         events: 20,
         reports: ['s', '-', '-', '-', '-', '-', '-'],
@@ -149,6 +189,7 @@ static RUNS: [Row; 18] = [
     },
     Row {
         line: "run --journal 1 --left --stale 2",
+        workers: 4,
         objects: 4096,
         events: 200_000,
         reports: ['-', 'l', 't', '-', '-', '-', 'j'],
@@ -156,6 +197,7 @@ static RUNS: [Row; 18] = [
     },
     Row {
         line: "run --blocks --refused",
+        workers: 4,
         objects: 4096,
         events: 200_000,
         reports: ['-', '-', '-', 'r', '-', 'b', '-'],
@@ -163,6 +205,7 @@ static RUNS: [Row; 18] = [
     },
     Row {
         line: "run --summary --left --stale --refused --blocks --journal",
+        workers: 4,
         objects: 4096,
         events: 200_000,
         reports: ['s', 'l', 't', 'r', '-', 'b', 'j'],
@@ -183,7 +226,7 @@ fn words_of_a_run_give_its_options_and_numbers(rt: HostRuntime) -> Result<(), Fa
             events,
             reports,
         } = options;
-        assert_eq!(rt; workers, 1);
+        assert_eq!(rt; workers, row.workers);
         assert_eq!(rt; objects, row.objects);
         assert_eq!(rt; events, row.events);
         assert_eq!(rt; letters(reports), row.reports);
@@ -220,12 +263,12 @@ static REFUSED: [&str; 33] = [
     "run --worker 1",
     "run --workers 65",
     "run --workers 0",
-    "run --workers 2",
     "run --workers 2 --workers 3",
     "run --workers 64 --events 250001",
     "run --workers 1 --workers 1",
     "run --objects 65537",
-    "run --events 16000001",
+    "run --events 4000001",
+    "run --workers 1 --events 16000001",
     "run --summary --summary",
     "run --summary=true",
     "run --races",

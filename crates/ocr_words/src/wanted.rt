@@ -24,7 +24,7 @@ pub struct Reports {
 /// How a run is to be made.
 #[derive(Clone, Copy, PartialEq, Eq, Debug)]
 pub struct Options {
-    /// The number of workers.
+    /// The number of workers, from 1 to 64.
     pub workers: u32,
     /// How many objects may be made, from 2 to 65,536.
     pub objects: u64,

@@ -3,7 +3,6 @@ use Rattle.ocr_run.proofs.Runs.{run_of}
 use Rattle.ocr_run.proofs.execute.run_checked.Goals as goal
 
 pub returns-clause-ran : goal.returns-clause-ran
-returns-clause-ran c =
-    run_of _ (checked_tree c.args.checked.now) c.args.options c.args.args.now c.in_ok-journal.field-0.journal c.told.result
-    c.in_ok-journal.ensures.run c.in_ok-journal.ensures.finished c.in_ok-journal.ensures.limits
-    c.told.ensures.journal c.told.ensures.text c.told.ensures.status
+returns-clause-ran g c =
+    run_of _ (checked_tree c.args.setting.now.program) c.args.options c.args.setting.now.args.items c.in_ok-journal.journal c.told.result
+    c.in_ok-journal.ensures c.told.ensures.journal c.told.ensures.text c.told.ensures.status

@@ -6,7 +6,6 @@ use Rattle.ocr_tree.specs.View.{tree_of}
 use Rattle.ocr_grammar.specs.Lexing.{IsTreeOf}
 use Rattle.ocr_check.specs.Check.{BreaksNoRule}
 use Rattle.ocr_check.specs.Unbuilt.{IsUnbuilt}
-use Rattle.ocr_code.specs.Checked.{checked_tree}
 use Rattle.ocr_run.specs.ProgramText.{not_built}
 use Rattle.ocr_run.proofs.text.program_of.Goals as goal
 

@@ -6,7 +6,7 @@ use Rattle.ocr_run.proofs.Told.{line_at, servable, headline_of, check_of, asked_
 use Rattle.ocr_run.proofs.top.ocr_main.Goals as goal
 
 pub serve-requires : goal.serve-requires
-serve-requires g c = servable (texts_of c.args.words.now) c.in-Ok.wanted c.in-Ok.ensures.ok
+serve-requires g c = (c.type_bounds.sync-R, (c.type_bounds.sync-G, servable (texts_of c.args.words.now) c.in-Ok.wanted c.in-Ok.ensures.ok))
 
 pub returns-in-Ok-clause-headline : goal.returns-in-Ok-clause-headline
 returns-in-Ok-clause-headline g c =

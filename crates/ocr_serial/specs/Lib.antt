@@ -1,4 +1,0 @@
-pub mod Going
-pub mod Limits
-pub mod Serving
-pub mod UnderWay
