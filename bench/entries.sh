@@ -25,7 +25,7 @@ fn mainEdt {
 }
 END
     status=0
-    /usr/bin/time -q -o "$work/taken" -f '%U %S %M' "$program" run <"$work/text" >"$work/out" || status=$?
+    /usr/bin/time -q -o "$work/taken" -f '%U %S %M' "$program" run --workers 1 <"$work/text" >"$work/out" || status=$?
     read -r user system kilobytes <"$work/taken"
     seconds=$(awk -v u="$user" -v s="$system" 'BEGIN { printf "%.2f", u + s }')
     printf '%8d %8s %6d %6d\n' $((5 + edts * 103)) "$seconds" $((kilobytes / 1024)) "$status"

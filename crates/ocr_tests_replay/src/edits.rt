@@ -89,37 +89,48 @@ fn changed(alloc: Global, entry: &Entry, edit: Option<Edit>) -> Result<Entry, Fa
             home: _,
             call,
             answer,
-            writes: _,
+            writes,
         } => Ok(Entry::Call {
             edt: by(*edt, edit),
             home: Guid::NULL,
             call: changed_call(call, edit)?,
             answer: changed_answer(*answer, edit),
-            writes: Writes::none(alloc),
+            writes: copied(alloc, writes)?,
+        }),
+        Entry::Deliver { message, code } => Ok(Entry::Deliver {
+            message: *message,
+            code: *code,
         }),
         Entry::Acquire { edt, block } => Ok(Entry::Acquire {
+            edt: by(*edt, edit),
+            block: *block,
+        }),
+        Entry::Wait { edt, block } => Ok(Entry::Wait {
+            edt: by(*edt, edit),
+            block: *block,
+        }),
+        Entry::StaleAcquire { edt, block } => Ok(Entry::StaleAcquire {
             edt: by(*edt, edit),
             block: *block,
         }),
         Entry::Start { edt } => Ok(Entry::Start {
             edt: by(*edt, edit),
         }),
-        Entry::Free {
-            edt,
-            block,
-            writes: _,
-        } => Ok(Entry::Free {
+        Entry::Free { edt, block, writes } => Ok(Entry::Free {
             edt: by(*edt, edit),
             block: *block,
-            writes: Writes::none(alloc),
+            writes: copied(alloc, writes)?,
         }),
         Entry::End { edt, returned } => Ok(Entry::End {
             edt: by(*edt, edit),
             returned: returned_as(*returned, edit),
         }),
         Entry::Stop(stop) => Ok(Entry::Stop(*stop)),
-        _ => Err(Fail::new("an entry that is not built")),
     }
+}
+
+fn copied(alloc: Global, writes: &Writes) -> Result<Writes, Fail> {
+    Ok(Writes::from_vec(Vec::from_slice(alloc, writes.as_slice())?))
 }
 
 fn by(edt: Guid, edit: Option<Edit>) -> Guid {
@@ -147,40 +158,10 @@ fn changed_answer(answer: Answer, edit: Option<Edit>) -> Answer {
 }
 
 fn changed_call(call: &Call, edit: Option<Edit>) -> Result<Call, Fail> {
-    match call {
-        Call::Print { value } => Ok(Call::Print {
-            value: if let Some(Edit::Prints(other)) = edit {
-                other
-            } else {
-                *value
-            },
-        }),
-        Call::TemplateCreate {
-            function,
-            paramc,
-            depc,
-        } => Ok(Call::TemplateCreate {
-            function: *function,
-            paramc: *paramc,
-            depc: *depc,
-        }),
-        Call::EdtCreate {
-            template,
-            paramc,
-            params,
-            depc,
-            deps,
-            flags,
-            output,
-        } => Ok(Call::EdtCreate {
-            template: *template,
-            paramc: *paramc,
-            params: params.clone()?,
-            depc: *depc,
-            deps: deps.clone()?,
-            flags: *flags,
-            output: *output,
-        }),
-        _ => Err(Fail::new("a call that is not built")),
+    if let Call::Print { .. } = call {
+        if let Some(Edit::Prints(other)) = edit {
+            return Ok(Call::Print { value: other });
+        }
     }
+    Ok(call.clone()?)
 }

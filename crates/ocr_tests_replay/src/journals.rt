@@ -53,7 +53,7 @@ const FIRST_ROWS: [Row; 21] = [
 fn first_program_is_replayed(rt: HostRuntime) -> Result<(), Fail> {
     let alloc = rt.alloc();
     // Acquire, Start, print, Free, End.
-    let recording = recording_of(alloc, FIRST)?;
+    let recording = recording_of(&rt, alloc, FIRST)?;
     assert_eq!(rt; recording.entries.len(), 5);
     assert!(rt; are_runs(alloc, &recording));
     assert_eq!(rt; first_wrong(alloc, &recording, &FIRST_ROWS)?, None);
@@ -108,14 +108,14 @@ fn creations_are_replayed(rt: HostRuntime) -> Result<(), Fail> {
     let alloc = rt.alloc();
     // 0 Acquire, 1 Start 2, 2 makes 3, 3 makes 4, 4 makes 5, 5 makes 6, 6 prints 6, 7 Free, 8 End 2,
     // 9 Start 5, 10 prints 7, 11 End 5, 12 Start 6, 13 prints 1, 14 End 6, which returns 7.
-    let recording = recording_of(alloc, CREATIONS)?;
+    let recording = recording_of(&rt, alloc, CREATIONS)?;
     assert_eq!(rt; recording.entries.len(), 15);
     assert!(rt; are_runs(alloc, &recording));
     assert_eq!(rt; first_wrong(alloc, &recording, &CREATIONS_ROWS)?, None);
     Ok(())
 }
 
-const TREE: &[u8] = b"fn leaf { print paramv[0]; }
+pub const TREE: &[u8] = b"fn leaf { print paramv[0]; }
 fn node { print paramv[0]; ocrEdtCreate(paramv[1], 1, [paramv[0] + 1], 0, [], 0); }
 fn mainEdt {
   let t = ocrEdtTemplateCreate(leaf, 1, 0); let u = ocrEdtTemplateCreate(node, 2, 0);
@@ -168,7 +168,7 @@ const TREE_ROWS: [Row; 29] = [
 #[test]
 fn edts_that_run_by_turns_are_replayed(rt: HostRuntime) -> Result<(), Fail> {
     let alloc = rt.alloc();
-    let alone = recording_of(alloc, TREE)?;
+    let alone = recording_of(&rt, alloc, TREE)?;
     assert_eq!(rt; alone.entries.len(), 22);
     assert!(rt; are_runs(alloc, &alone));
     let Recording { program, entries } = alone;

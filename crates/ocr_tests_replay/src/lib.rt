@@ -18,3 +18,5 @@ mod slots;
 mod stops;
 #[cfg(test)]
 mod tables;
+#[cfg(test)]
+mod workers;

@@ -4,14 +4,16 @@ ghost use Rattle.std.specs.Prelude.{◌<◌, ◌+◌, ◌^◌, length};
 use crate::edits::add;
 use ocr_check::check;
 use ocr_code::Checked;
-use ocr_history::{Entry, Journal};
+use ocr_history::Entry;
 use ocr_io::{MemorySink, MemorySource};
 use ocr_program::parse;
 use ocr_replay::{ReplayStop, replay};
-use ocr_run::ocr_main;
+use ocr_run::{Merged, NoGate, ocr_main};
 use ocr_text::tokens;
 use std::alloc::Global;
+use std::sync::Wait;
 use std::test::Fail;
+use std::thread::Threads;
 
 /// A program with entries that its run made.
 #[derive(Drop)]
@@ -30,23 +32,44 @@ pub fn program_of(alloc: Global, text: &[u8]) -> Result<Checked, Fail> {
     Ok(check(alloc, program)?)
 }
 
-// The journal of the program's run.
-fn journal_of(alloc: Global, text: &[u8]) -> Result<Journal, Fail> {
+// The journal of the program's run by so many workers.
+fn journal_of<R: Threads + Wait + Sync>(
+    rt: &R,
+    alloc: Global,
+    workers: &str,
+    text: &[u8],
+) -> Result<Merged, Fail> {
     let mut words = Vec::new(alloc);
-    words.push("run".to_string(alloc)?)?;
+    for word in ["run", "--workers", workers] {
+        words.push(word.to_string(alloc)?)?;
+    }
     let mut source = MemorySource::new(text.to_vec(alloc)?, 4096, Vec::new(alloc));
     let mut out = MemorySink::new(Vec::with_capacity(alloc, 1000)?, 1000, Vec::new(alloc));
     let mut err = MemorySink::new(Vec::with_capacity(alloc, 100)?, 100, Vec::new(alloc));
-    let ended = ocr_main(alloc, &words, &mut source, &mut out, &mut err);
+    let ended = ocr_main(rt, alloc, &words, &mut source, &mut out, &mut err, &NoGate);
     Ok(ended.journal.ok_or("a journal")?)
 }
 
-/// The program that a text is, with the entries of its run.
-pub fn recording_of(alloc: Global, text: &[u8]) -> Result<Recording, Fail> {
+/// The program that a text is, with the entries of its run by one worker.
+pub fn recording_of<R: Threads + Wait + Sync>(
+    rt: &R,
+    alloc: Global,
+    text: &[u8],
+) -> Result<Recording, Fail> {
+    recording_by(rt, alloc, "1", text)
+}
+
+/// The program that a text is, with the entries of its run by so many workers.
+pub fn recording_by<R: Threads + Wait + Sync>(
+    rt: &R,
+    alloc: Global,
+    workers: &str,
+    text: &[u8],
+) -> Result<Recording, Fail> {
     let program = program_of(alloc, text)?;
-    let journal = journal_of(alloc, text)?;
+    let journal = journal_of(rt, alloc, workers, text)?;
     let mut entries = Vec::new(alloc);
-    for entry in journal.entries() {
+    for entry in journal.journal().entries() {
         add(alloc, &mut entries, entry, None)?;
     }
     Ok(Recording { program, entries })

@@ -115,7 +115,7 @@ fn stops_of_bodies_are_replayed(rt: HostRuntime) -> Result<(), Fail> {
         (FAULT, &FAULT_ROWS),
     ];
     for (text, rows) in programs {
-        let recording = recording_of(alloc, text)?;
+        let recording = recording_of(&rt, alloc, text)?;
         assert!(rt; are_runs(alloc, &recording));
         assert_eq!(rt; first_wrong_stop(alloc, &recording, rows)?, None);
     }
@@ -169,7 +169,7 @@ fn stops_by_limits_are_replayed(rt: HostRuntime) -> Result<(), Fail> {
     let alloc = rt.alloc();
     let programs: [(&[u8], &[StopRow]); 2] = [(CREATIONS, &LIMIT_ROWS), (REFUSED, &REFUSED_ROWS)];
     for (text, rows) in programs {
-        let recording = recording_of(alloc, text)?;
+        let recording = recording_of(&rt, alloc, text)?;
         assert_eq!(rt; first_wrong_stop(alloc, &recording, rows)?, None);
     }
     Ok(())
@@ -191,7 +191,7 @@ fn mainEdt { let t = ocrEdtTemplateCreate(a, 1, 0); ocrEdtCreate(t, 1, [t], 0, [
 fn runs_that_come_to_a_limit_are_replayed(rt: HostRuntime) -> Result<(), Fail> {
     let alloc = rt.alloc();
     for (text, other) in [(OBJECTS, LIGHT), (EVENTS, Stop::Objects)] {
-        let recording = recording_of(alloc, text)?;
+        let recording = recording_of(&rt, alloc, text)?;
         assert_eq!(rt; verdict(alloc, &recording, &recording.entries), Ok(()));
         let last = recording.entries.len().saturating_sub(1);
         let rows = [(last, other, Some(last))];

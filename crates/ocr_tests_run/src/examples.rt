@@ -38,7 +38,33 @@ const COLLATZ_OUT: &[u8] = b"111
 
 const COLLATZ_STATUS: u8 = 0;
 
-const EDTS: &[u8] = b"# Each EDT makes the next one, and they run in the order of their making.
+const COUNTERS: &[u8] =
+    b"# Eight EDTs count in a block that each of them holds alone; the last one prints.
+fn add {
+  let n = load(depv[0], 0) + 1;
+  store(depv[0], 0, n);
+  if n == 8 {
+    print n;
+  }
+}
+fn mainEdt {
+  let d = ocrDbCreate(8, DB_PROP_NO_ACQUIRE);
+  let t = ocrEdtTemplateCreate(add, 0, 1);
+  let i = 0;
+  while i < 8 {
+    let a = ocrEdtCreate(t, EDT_PARAM_DEF, [], EDT_PARAM_DEF, [], EDT_PROP_NONE);
+    ocrAddDependence(d, a, 0, DB_MODE_EW);
+    i = i + 1;
+  }
+}
+";
+
+const COUNTERS_OUT: &[u8] = b"8
+";
+
+const COUNTERS_STATUS: u8 = 0;
+
+const EDTS: &[u8] = b"# Each EDT prints its number and then makes the next one.
 fn count_down {
   print paramv[0];
   if paramv[0] {
@@ -126,7 +152,6 @@ const PRINTS_STATUS: u8 = 0;
 
 const REFUSALS: &[u8] = b"# A refused creation answers 0; `code` says why: 22 EINVAL, 2 ENOENT.
 fn one {
-  print paramc;
 }
 fn mainEdt {
   let template = ocrEdtTemplateCreate(one, EDT_PARAM_UNK, 0);
@@ -149,7 +174,6 @@ const REFUSALS_OUT: &[u8] = b"0
 22
 4
 0
-1
 ";
 
 const REFUSALS_STATUS: u8 = 0;
@@ -173,9 +197,10 @@ const RETURNS_OUT: &[u8] = b"1
 
 const RETURNS_STATUS: u8 = 0;
 
-pub const EXAMPLES: [Example; 9] = [
+pub const EXAMPLES: [Example; 10] = [
     (ABORT, ABORT_OUT, ABORT_STATUS),
     (COLLATZ, COLLATZ_OUT, COLLATZ_STATUS),
+    (COUNTERS, COUNTERS_OUT, COUNTERS_STATUS),
     (EDTS, EDTS_OUT, EDTS_STATUS),
     (FAULT, FAULT_OUT, FAULT_STATUS),
     (FIRST, FIRST_OUT, FIRST_STATUS),

@@ -4,4 +4,10 @@
 #[cfg(test)]
 mod examples;
 #[cfg(test)]
+mod gates;
+#[cfg(test)]
+mod outcomes;
+#[cfg(test)]
 mod runs;
+#[cfg(test)]
+mod workers;

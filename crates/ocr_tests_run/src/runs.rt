@@ -2,78 +2,22 @@
 ghost use Rattle.std.specs.Prelude.{◌<◌};
 
 use crate::examples::EXAMPLES;
-use ocr_io::{MemorySink, MemorySource};
-use ocr_run::{Ended, ocr_main};
+use crate::outcomes::{Faults, NO_FAULTS, outcome_of, run};
 use std::alloc::Global;
+use std::sync::Wait;
 use std::test::Fail;
+use std::thread::Threads;
 
 const FIRST: &[u8] = b"fn mainEdt { print 42; ocrShutdown(); }";
 
-// What a call came to, and what it wrote.
-#[derive(Drop)]
-struct Outcome {
-    ended: Ended,
-    out: MemorySink,
-    err: MemorySink,
-}
-
-// How the source and the sink for the output behave.
-#[derive(Clone, Copy)]
-struct Faults<'a> {
-    reads: &'a [u64],
-    read_most: usize,
-    writes: &'a [u64],
-    write_most: usize,
-}
-
-const NO_FAULTS: Faults<'static> = Faults {
-    reads: &[],
-    read_most: 4096,
-    writes: &[],
-    write_most: 1000,
-};
-
-fn words(alloc: Global, texts: &[&str]) -> Result<Vec<String>, Fail> {
-    let mut words = Vec::new(alloc);
-    for text in texts {
-        words.push(text.to_string(alloc)?)?;
-    }
-    Ok(words)
-}
-
-fn outcome_of(
-    alloc: Global,
-    texts: &[&str],
-    input: Vec<u8>,
-    room: usize,
-    faults: Faults,
-) -> Result<Outcome, Fail> {
-    let words = words(alloc, texts)?;
-    let read_most = faults.read_most.max(1);
-    let mut source = MemorySource::new(input, read_most, faults.reads.to_vec(alloc)?);
-    let write_most = faults.write_most.max(1);
-    let mut out = MemorySink::new(
-        Vec::with_capacity(alloc, room)?,
-        write_most,
-        faults.writes.to_vec(alloc)?,
-    );
-    let mut err = MemorySink::new(Vec::with_capacity(alloc, 100)?, 100, Vec::new(alloc));
-    let ended = ocr_main(alloc, &words, &mut source, &mut out, &mut err);
-    Ok(Outcome { ended, out, err })
-}
-
-fn run(alloc: Global, text: &[u8], faults: Faults) -> Result<Outcome, Fail> {
-    outcome_of(alloc, &["run"], text.to_vec(alloc)?, 1000, faults)
-}
-
 #[test]
 fn first_program_prints_42(rt: HostRuntime) -> Result<(), Fail> {
-    let done = run(rt.alloc(), FIRST, NO_FAULTS)?;
+    let done = run(&rt, rt.alloc(), FIRST, NO_FAULTS)?;
     assert_eq!(rt; done.ended.status, 0);
     assert_eq!(rt; done.out.bytes(), b"42\n".as_slice());
     assert_eq!(rt; done.err.bytes(), b"".as_slice());
     let journal = done.ended.journal.ok_or("a journal")?;
-    assert_eq!(rt; journal.entries().len(), 4);
+    assert_eq!(rt; journal.journal().entries().len(), 4);
     Ok(())
 }
 
@@ -137,7 +81,7 @@ fn runs_have_their_statuses_and_lines(rt: HostRuntime) -> Result<(), Fail> {
         ),
     ];
     for (text, status, out, err) in rows {
-        let done = run(rt.alloc(), text, NO_FAULTS)?;
+        let done = run(&rt, rt.alloc(), text, NO_FAULTS)?;
         assert_eq!(rt; done.ended.status, status);
         assert_eq!(rt; done.out.bytes(), out);
         assert_eq!(rt; done.err.bytes(), err);
@@ -149,7 +93,7 @@ fn runs_have_their_statuses_and_lines(rt: HostRuntime) -> Result<(), Fail> {
 #[test]
 fn examples_write_what_stands_beside_them(rt: HostRuntime) -> Result<(), Fail> {
     for (text, out, status) in EXAMPLES {
-        let done = run(rt.alloc(), text, NO_FAULTS)?;
+        let done = run(&rt, rt.alloc(), text, NO_FAULTS)?;
         assert_eq!(rt; done.ended.status, status);
         assert_eq!(rt; done.out.bytes(), out);
     }
@@ -217,7 +161,7 @@ const TESTS_OUT: &[u8] = b"1
 #[test]
 fn operators_have_their_values_at_the_edges(rt: HostRuntime) -> Result<(), Fail> {
     for (text, out) in [(SUMS, SUMS_OUT), (TESTS, TESTS_OUT)] {
-        let done = run(rt.alloc(), text, NO_FAULTS)?;
+        let done = run(&rt, rt.alloc(), text, NO_FAULTS)?;
         assert_eq!(rt; done.ended.status, 0);
         assert_eq!(rt; done.out.bytes(), out);
     }
@@ -225,7 +169,7 @@ fn operators_have_their_values_at_the_edges(rt: HostRuntime) -> Result<(), Fail>
 }
 
 #[test]
-fn edts_run_in_the_order_in_which_they_were_made(rt: HostRuntime) -> Result<(), Fail> {
+fn one_worker_runs_edts_in_the_order_in_which_they_were_made(rt: HostRuntime) -> Result<(), Fail> {
     let rows: [(&[u8], &[u8]); 3] = [
         (
             b"fn one { print paramv[0]; }
@@ -253,7 +197,15 @@ fn mainEdt {
         ),
     ];
     for (text, out) in rows {
-        let done = run(rt.alloc(), text, NO_FAULTS)?;
+        let words = ["run", "--workers", "1"];
+        let done = outcome_of(
+            &rt,
+            rt.alloc(),
+            &words,
+            text.to_vec(rt.alloc())?,
+            1000,
+            NO_FAULTS,
+        )?;
         assert_eq!(rt; done.ended.status, 0);
         assert_eq!(rt; done.out.bytes(), out);
     }
@@ -261,7 +213,7 @@ fn mainEdt {
 }
 
 // Each creation with what it answers and the code behind it. The first free number is 6.
-const CREATIONS: &[u8] = b"fn one { print paramc; }
+const CREATIONS: &[u8] = b"fn one { }
 fn mainEdt {
   let t = ocrEdtTemplateCreate(one, 1, 0);
   let u = ocrEdtTemplateCreate(one, EDT_PARAM_UNK, EDT_PARAM_UNK);
@@ -319,13 +271,11 @@ const CREATIONS_OUT: &[u8] = b"0
 0
 9
 0
-2
-1
 ";
 
 #[test]
 fn creations_are_refused_in_their_order(rt: HostRuntime) -> Result<(), Fail> {
-    let done = run(rt.alloc(), CREATIONS, NO_FAULTS)?;
+    let done = run(&rt, rt.alloc(), CREATIONS, NO_FAULTS)?;
     // The two EDTs with a slot never start.
     assert_eq!(rt; done.ended.status, 4);
     assert_eq!(rt; done.err.bytes(), b"stuck: 2\n".as_slice());
@@ -334,23 +284,38 @@ fn creations_are_refused_in_their_order(rt: HostRuntime) -> Result<(), Fail> {
 }
 
 #[test]
-fn limits_stop_a_run(rt: HostRuntime) -> Result<(), Fail> {
+fn limits_stop_a_run_of_one_worker(rt: HostRuntime) -> Result<(), Fail> {
     let alloc = rt.alloc();
     let objects =
         b"fn a { ocrEdtCreate(ocrEdtTemplateCreate(a, 0, 0), EDT_PARAM_DEF, [], EDT_PARAM_DEF, [], 0); }
 fn mainEdt { ocrEdtCreate(ocrEdtTemplateCreate(a, 0, 0), EDT_PARAM_DEF, [], EDT_PARAM_DEF, [], 0); }";
-    let done = run(alloc, objects, NO_FAULTS)?;
+    let words = ["run", "--workers", "1"];
+    let done = outcome_of(
+        &rt,
+        rt.alloc(),
+        &words,
+        objects.to_vec(alloc)?,
+        1000,
+        NO_FAULTS,
+    )?;
     assert_eq!(rt; done.ended.status, 10);
     assert_eq!(rt; done.err.bytes(), b"limit: objects\n".as_slice());
     // The first EDT's 6 entries, 4 of each of the 2,046 others that end, the start of the last, and
     // the Stop.
     let journal = done.ended.journal.ok_or("a journal")?;
-    assert_eq!(rt; journal.entries().len(), 6 + 4 * 2046 + 2);
+    assert_eq!(rt; journal.journal().entries().len(), 6 + 4 * 2046 + 2);
 
     let events =
         b"fn a { let i = 0; while i < 90000 { print 1; i = i + 1; } ocrEdtCreate(paramv[0], 1, [paramv[0]], 0, [], 0); }
 fn mainEdt { let t = ocrEdtTemplateCreate(a, 1, 0); ocrEdtCreate(t, 1, [t], 0, [], 0); }";
-    let done = outcome_of(alloc, &["run"], events.to_vec(alloc)?, 500_000, NO_FAULTS)?;
+    let done = outcome_of(
+        &rt,
+        rt.alloc(),
+        &words,
+        events.to_vec(alloc)?,
+        500_000,
+        NO_FAULTS,
+    )?;
     assert_eq!(rt; done.ended.status, 10);
     assert_eq!(rt; done.err.bytes(), b"limit: events of worker 1\n".as_slice());
     // Of 200,000 entries 13 are no prints.
@@ -484,7 +449,14 @@ static ROWS: [Row; 13] = [
 fn words_say_what_comes_of_a_text(rt: HostRuntime) -> Result<(), Fail> {
     let alloc = rt.alloc();
     for row in &ROWS {
-        let done = outcome_of(alloc, row.words, row.text.to_vec(alloc)?, 1000, NO_FAULTS)?;
+        let done = outcome_of(
+            &rt,
+            alloc,
+            row.words,
+            row.text.to_vec(alloc)?,
+            1000,
+            NO_FAULTS,
+        )?;
         assert_eq!(rt; done.ended.status, row.status);
         assert_eq!(rt; done.out.bytes(), row.out);
         assert_eq!(rt; done.err.bytes(), row.err);
@@ -494,19 +466,19 @@ fn words_say_what_comes_of_a_text(rt: HostRuntime) -> Result<(), Fail> {
 }
 
 // A line of words with `count` numbers.
-fn status_with(alloc: Global, count: usize) -> Result<u8, Fail> {
+fn status_with<R: Threads + Wait + Sync>(rt: &R, alloc: Global, count: usize) -> Result<u8, Fail> {
     let mut texts = vec![in alloc; "run"]?;
     for _ in 0..count {
         texts.push("7")?;
     }
-    let done = outcome_of(alloc, &texts, FIRST.to_vec(alloc)?, 1000, NO_FAULTS)?;
+    let done = outcome_of(rt, alloc, &texts, FIRST.to_vec(alloc)?, 1000, NO_FAULTS)?;
     Ok(done.ended.status)
 }
 
 #[test]
 fn run_takes_32_numbers(rt: HostRuntime) -> Result<(), Fail> {
-    assert_eq!(rt; status_with(rt.alloc(), 32)?, 0);
-    assert_eq!(rt; status_with(rt.alloc(), 33)?, 2);
+    assert_eq!(rt; status_with(&rt, rt.alloc(), 32)?, 0);
+    assert_eq!(rt; status_with(&rt, rt.alloc(), 33)?, 2);
     Ok(())
 }
 
@@ -514,10 +486,10 @@ fn run_takes_32_numbers(rt: HostRuntime) -> Result<(), Fail> {
 fn canonical_text_of_an_example_is_its_own(rt: HostRuntime) -> Result<(), Fail> {
     let alloc = rt.alloc();
     for (text, _, _) in EXAMPLES {
-        let first = outcome_of(alloc, &["check"], text.to_vec(alloc)?, 4000, NO_FAULTS)?;
+        let first = outcome_of(&rt, alloc, &["check"], text.to_vec(alloc)?, 4000, NO_FAULTS)?;
         assert_eq!(rt; first.ended.status, 0);
         let copy = first.out.bytes().to_vec(alloc)?;
-        let second = outcome_of(alloc, &["check"], copy, 4000, NO_FAULTS)?;
+        let second = outcome_of(&rt, alloc, &["check"], copy, 4000, NO_FAULTS)?;
         assert_eq!(rt; second.ended.status, 0);
         assert_eq!(rt; second.out.bytes(), first.out.bytes());
     }
@@ -531,7 +503,7 @@ fn check_tells_faults_of_reading_and_writing(rt: HostRuntime) -> Result<(), Fail
         reads: &[0],
         ..NO_FAULTS
     };
-    let done = outcome_of(alloc, &["check"], FIRST.to_vec(alloc)?, 1000, read)?;
+    let done = outcome_of(&rt, alloc, &["check"], FIRST.to_vec(alloc)?, 1000, read)?;
     assert_eq!(rt; done.ended.status, 7);
     assert_eq!(rt; done.out.bytes(), b"".as_slice());
     assert_eq!(rt; done.err.bytes(), b"read fault\n".as_slice());
@@ -541,7 +513,7 @@ fn check_tells_faults_of_reading_and_writing(rt: HostRuntime) -> Result<(), Fail
         write_most: 4,
         ..NO_FAULTS
     };
-    let done = outcome_of(alloc, &["check"], FIRST.to_vec(alloc)?, 1000, write)?;
+    let done = outcome_of(&rt, alloc, &["check"], FIRST.to_vec(alloc)?, 1000, write)?;
     assert_eq!(rt; done.ended.status, 8);
     assert_eq!(rt; done.out.bytes(), b"fn m".as_slice());
     assert_eq!(rt; done.err.bytes(), b"write fault\n".as_slice());
@@ -564,7 +536,7 @@ fn other_words_are_refused(rt: HostRuntime) -> Result<(), Fail> {
         &["check", "5"],
     ];
     for texts in rows {
-        let done = outcome_of(alloc, texts, FIRST.to_vec(alloc)?, 1000, NO_FAULTS)?;
+        let done = outcome_of(&rt, alloc, texts, FIRST.to_vec(alloc)?, 1000, NO_FAULTS)?;
         assert_eq!(rt; done.ended.status, 2);
         assert_eq!(rt; done.out.bytes(), b"".as_slice());
         assert_eq!(rt; done.err.bytes(), b"words refused\n".as_slice());
@@ -576,7 +548,7 @@ fn other_words_are_refused(rt: HostRuntime) -> Result<(), Fail> {
 fn one_byte_too_many_is_told(rt: HostRuntime) -> Result<(), Fail> {
     let alloc = rt.alloc();
     let blanks = vec![in alloc; b' '; 1_048_577]?;
-    let done = outcome_of(alloc, &["run"], blanks, 1000, NO_FAULTS)?;
+    let done = outcome_of(&rt, alloc, &["run"], blanks, 1000, NO_FAULTS)?;
     assert_eq!(rt; done.ended.status, 3);
     assert_eq!(rt; done.err.bytes(), b"text too big\n".as_slice());
     Ok(())
@@ -602,12 +574,12 @@ fn texts_that_are_no_program_are_told(rt: HostRuntime) -> Result<(), Fail> {
             b"check fault: rule 4 in function 1\n",
         ),
         (
-            b"fn mainEdt { ocrDbCreate(8, 0); }",
+            b"fn mainEdt { ocrEventCreate(1, 0); }",
             b"check fault: rule 8 in function 1\n",
         ),
     ];
     for (text, err) in rows {
-        let done = run(rt.alloc(), text, NO_FAULTS)?;
+        let done = run(&rt, rt.alloc(), text, NO_FAULTS)?;
         assert_eq!(rt; done.ended.status, 3);
         assert_eq!(rt; done.out.bytes(), b"".as_slice());
         assert_eq!(rt; done.err.bytes(), err);
@@ -624,7 +596,7 @@ fn read_that_fails_is_told(rt: HostRuntime) -> Result<(), Fail> {
             read_most: 1,
             ..NO_FAULTS
         };
-        let done = run(rt.alloc(), FIRST, faults)?;
+        let done = run(&rt, rt.alloc(), FIRST, faults)?;
         if call < 40 {
             assert_eq!(rt; done.ended.status, 7);
             assert_eq!(rt; done.out.bytes(), b"".as_slice());
@@ -644,7 +616,7 @@ fn failed_write_leaves_a_front_of_the_output(rt: HostRuntime) -> Result<(), Fail
             writes: &[count as u64],
             ..NO_FAULTS
         };
-        let done = run(rt.alloc(), FIRST, faults)?;
+        let done = run(&rt, rt.alloc(), FIRST, faults)?;
         assert_eq!(rt; done.ended.status, 8);
         assert_eq!(rt; done.out.bytes(), &b"42\n"[..count]);
         assert_eq!(rt; done.err.bytes(), b"write fault\n".as_slice());
@@ -660,10 +632,10 @@ fn largest_body_runs_to_its_end(rt: HostRuntime) -> Result<(), Fail> {
         text.extend_from_slice(b"print 1;")?;
     }
     text.push(b'}')?;
-    let done = outcome_of(alloc, &["run"], text, 300_000, NO_FAULTS)?;
+    let done = outcome_of(&rt, alloc, &["run"], text, 300_000, NO_FAULTS)?;
     assert_eq!(rt; done.ended.status, 0);
     assert_eq!(rt; done.out.bytes().len(), 262_140);
     let journal = done.ended.journal.ok_or("a journal")?;
-    assert_eq!(rt; journal.entries().len(), 131_074);
+    assert_eq!(rt; journal.journal().entries().len(), 131_074);
     Ok(())
 }
