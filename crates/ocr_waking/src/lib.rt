@@ -1,5 +1,5 @@
-//! An EDT that was claimed: it is made ready with the payloads of its slots, and acquires the blocks
-//! of its plan, finds one gone, or waits for one, until it may start or is parked.
+//! An EDT that was claimed: it is made ready with the payloads of its slots, and acquires the
+//! blocks of its plan, finds one gone, or waits for one, until it may start or is parked.
 #![tactic(auto)]
 
 mod acting;
