@@ -48,7 +48,8 @@ fn sorted_lines<'a>(alloc: Global, text: &'a [u8]) -> Result<Vec<&'a str>, Fail>
 // Slot 0 is set by the creation, and slot 1 stays open.
 const OPEN_SLOT: &[u8] = b"fn never { print 1; }
 fn mainEdt {
-  ocrEdtCreate(ocrEdtTemplateCreate(never, 0, 2), EDT_PARAM_DEF, [], EDT_PARAM_DEF, [NULL_GUID, UNINITIALIZED_GUID], 0);
+  let t = ocrEdtTemplateCreate(never, 0, 2);
+  ocrEdtCreate(t, EDT_PARAM_DEF, [], EDT_PARAM_DEF, [NULL_GUID, UNINITIALIZED_GUID], 0);
 }";
 
 // Two EDTs want the same two blocks in EW, in either order of their slots.
@@ -112,7 +113,8 @@ const FIBONACCI: &[u8] = b"fn fib {
     store(d, 1, load(d, 1) + 1);
     let i = 1;
     while i <= 2 {
-      let f = ocrEdtCreate(paramv[1], EDT_PARAM_DEF, [paramv[0] - i, paramv[1]], EDT_PARAM_DEF, [], 0);
+      let n = paramv[0] - i;
+      let f = ocrEdtCreate(paramv[1], EDT_PARAM_DEF, [n, paramv[1]], EDT_PARAM_DEF, [], 0);
       ocrAddDependence(d, f, 0, DB_MODE_EW);
       i = i + 1;
     }
@@ -187,7 +189,9 @@ static ROWS: [Row; 18] = [
     },
     Row {
         words: &[],
-        text: b"fn mainEdt { let d = ocrDbCreate(64, DB_PROP_NONE); print load(d, 7); print load(d, 8); }",
+        text: b"fn mainEdt {
+  let d = ocrDbCreate(64, DB_PROP_NONE); print load(d, 7); print load(d, 8);
+}",
         status: 6,
         out: b"0\n",
         err: b"fault in edt 2: bad index\n",
@@ -250,7 +254,9 @@ static ROWS: [Row; 18] = [
     },
     Row {
         words: &[],
-        text: b"fn mainEdt { let d = ocrDbCreate(8, DB_PROP_NO_ACQUIRE); print d; print load(d, 0); }",
+        text: b"fn mainEdt {
+  let d = ocrDbCreate(8, DB_PROP_NO_ACQUIRE); print d; print load(d, 0);
+}",
         status: 6,
         out: b"3\n",
         err: b"fault in edt 2: not held\n",
@@ -258,7 +264,9 @@ static ROWS: [Row; 18] = [
     Row {
         words: &[],
         text: b"fn four { print 1 / paramc; }
-fn mainEdt { ocrEdtCreate(ocrEdtTemplateCreate(four, 0, 0), EDT_PARAM_DEF, [], EDT_PARAM_DEF, [], 0); }",
+fn mainEdt {
+  ocrEdtCreate(ocrEdtTemplateCreate(four, 0, 0), EDT_PARAM_DEF, [], EDT_PARAM_DEF, [], 0);
+}",
         status: 6,
         out: b"",
         err: b"fault in edt 4: zero divisor\n",
@@ -266,7 +274,9 @@ fn mainEdt { ocrEdtCreate(ocrEdtTemplateCreate(four, 0, 0), EDT_PARAM_DEF, [], E
     Row {
         words: &[],
         text: b"fn four { ocrAbort(9); print 1; }
-fn mainEdt { ocrEdtCreate(ocrEdtTemplateCreate(four, 0, 0), EDT_PARAM_DEF, [], EDT_PARAM_DEF, [], 0); }",
+fn mainEdt {
+  ocrEdtCreate(ocrEdtTemplateCreate(four, 0, 0), EDT_PARAM_DEF, [], EDT_PARAM_DEF, [], 0);
+}",
         status: 5,
         out: b"",
         err: b"aborted: 9\n",
