@@ -1,23 +1,19 @@
 -- The laws of the steps of events, whatever their kind.
-use Rattle.std.proofs.Common.{◌≡◌, ◌≤◌, ℕ, List, ◌∷◌, Bool, true, false, Option, None, ◌==◌, if◌then◌else◌, refl, sym, ◌∙◌, ap}
+use Rattle.std.proofs.Common.{◌≡◌, ◌≤◌, ℕ, List, ◌∷◌, Bool, true, false, None, ◌==◌, refl, sym, ◌∙◌, ap}
 use Rattle.ocr_guid.specs.declared.target.Target.{Target}
 use Rattle.ocr_guid.specs.Target.{EventCall, Satisfaction, Link, Destruction}
-use Rattle.ocr_event.specs.Event as event
 use Rattle.ocr_event.proofs.Laws as of_event
-use Rattle.ocr_latch.specs.Latch as latch
 use Rattle.ocr_latch.proofs.Laws as of_latch
-use Rattle.ocr_channel_event.specs.Channel as channel
 use Rattle.ocr_channel_event.proofs.Laws as of_channel
 use Rattle.ocr_any_event.specs.declared.TheConstants.{LATCH, CHANNEL}
 use Rattle.ocr_event.specs.declared.EventKind.{EventKind}
-use Rattle.ocr_any_event.specs.declared.AnyEvent.{AnyEvent}
 use Rattle.ocr_any_event.specs.declared.AnyEvent.TheVariants as any
-use Rattle.ocr_any_event.specs.AnyEvent.{takes_arg, plain_kind, state_by, state_of, is_destroyed, refusal, after_satisfy, after_link, after_destroy, SatisfyLaw, LinkLaw, DestroyLaw}
+use Rattle.ocr_any_event.specs.AnyEvent.{takes_arg, plain_kind, state_by, is_destroyed, refusal, after_satisfy, after_link, after_destroy, SatisfyLaw, LinkLaw, DestroyLaw}
 
-satisfied : (a b : Bool) (k : EventKind) (takes : Bool) (most : ℕ) (calls : List EventCall) (slot p : ℕ) → 1 ≤ most → slot ≤ 1 → refusal (state_by a b k takes most calls) p ≡ None
+satisfied : (a b : Bool) (k : EventKind) (takes : Bool) (most : ℕ) (calls : List EventCall) (slot p : ℕ) → (b ≡ true → 1 ≤ most) → slot ≤ 1 → refusal (state_by a b k takes most calls) p ≡ None
     → state_by a b k takes most (Satisfaction slot p ∷ calls) ≡ after_satisfy (state_by a b k takes most calls) slot p
 satisfied true other k takes most calls slot p least low fits = ap any.Latch (of_latch.satisfy_law takes calls slot p low fits).0
-satisfied false true k takes most calls slot p least low fits = ap any.Channel (of_channel.satisfy_law most takes calls slot p least (sym (of_channel.refusal_law most takes calls p least) ∙ fits)).0
+satisfied false true k takes most calls slot p least low fits = ap any.Channel (of_channel.satisfy_law most takes calls slot p (least refl) (sym (of_channel.refusal_law most takes calls p (least refl)) ∙ fits)).0
 satisfied false false k takes most calls slot p least low fits = ap any.Plain (of_event.satisfy_law k takes calls slot p fits).0
 
 pub satisfy_law : SatisfyLaw

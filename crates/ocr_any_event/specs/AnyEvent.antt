@@ -84,7 +84,8 @@ after_destroy (any.Channel st) = any.Channel (channel.after_destroy st)
 
 -- THE LAWS. After an accepted call the state is the step of the state before it.
 abbrev pub SatisfyLaw : Type 0
-SatisfyLaw = (k flags most : ℕ) (calls : List EventCall) (slot p : ℕ) → 1 ≤ most → slot ≤ 1
+SatisfyLaw = (k flags most : ℕ) (calls : List EventCall) (slot p : ℕ)
+    → ((k == CHANNEL) ≡ true → 1 ≤ most) → slot ≤ 1
     → refusal (state_of k flags most calls) p ≡ None
     → state_of k flags most (Satisfaction slot p ∷ calls)
     ≡ after_satisfy (state_of k flags most calls) slot p
