@@ -94,6 +94,7 @@ module _ {G E P N F : Type 0} (m : Meaning G E P N F) (t : Terms G) where
           let seat = k.seated id v at in record {
             limits = k.limits.0;
             run = k.ledger.run;
+            few = (let least = short in let share = k.share in omega arith);
             log = seat.log;
             joined = seat.joined;
             distinct = λ p. dite (dec_le 1 (keeps_at p v))
@@ -128,6 +129,7 @@ pub fits_carried : {G E P N F : Type 0} (m : Meaning G E P N F) (t : Terms G) (J
 fits_carried m t J v o q f = record {
   limits = f.limits;
   run = f.run;
+  few = f.few;
   log = f.log;
   joined = f.joined;
   distinct = f.distinct;

@@ -92,6 +92,8 @@ module _ {G E P N F : Type 0} (m : Meaning G E P N F) (t : Terms G) where
   pub record Fits (J : List E) (v : View G E P N F) : Type 0 where
     pub limits : 2 ≤ t.limit
     pub run : Run (m.legal t.setting.value t.limit) J
+    -- at most 128 seats have at most 16,000,000 entries each, and one more ends the run
+    pub few : length J < 4294967296
     pub log : LogOf J v.log
     pub joined : LogsOf J v.joined
     pub distinct : (p : ℕ) → weigh (one_at p) v.parts ≤ 1
