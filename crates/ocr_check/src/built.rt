@@ -10,7 +10,7 @@ use ocr_base::NoMemory;
 use ocr_tree::{Argument, Expr, Invoke, Program, Stmt};
 use std::alloc::Global;
 
-// Whether a call can be made already: no call of events, and no creation with an output event.
+// Whether a call can be made already: each but a creation with an output event.
 fn is_call_built(call: &Invoke) -> bool
     ensures { result ≡ built.is_call_built (name_of call.now) (arguments_of call.now) }
 {
@@ -18,11 +18,11 @@ fn is_call_built(call: &Invoke) -> bool
         Invoke::DbCreate { .. } => true,
         Invoke::DbRelease { .. } => true,
         Invoke::DbDestroy { .. } => true,
-        Invoke::EventCreate { .. } => false,
-        Invoke::EventCreateParams { .. } => false,
-        Invoke::EventDestroy { .. } => false,
-        Invoke::Satisfy { .. } => false,
-        Invoke::SatisfySlot { .. } => false,
+        Invoke::EventCreate { .. } => true,
+        Invoke::EventCreateParams { .. } => true,
+        Invoke::EventDestroy { .. } => true,
+        Invoke::Satisfy { .. } => true,
+        Invoke::SatisfySlot { .. } => true,
         Invoke::AddDependence { .. } => true,
         Invoke::TemplateCreate { .. } => true,
         Invoke::TemplateDestroy { .. } => true,

@@ -1,7 +1,7 @@
 -- Who holds a block and who waits for it, from call to call.
 use Rattle.std.proofs.Common.{◌≡◌, ◌≢◌, ℕ, List, [], ◌∷◌, ◌++◌, Bool, true, false, ◌&&◌, not, ◌==◌, if◌then◌else◌, Option, Some, None, is_some, arith, refl, rules, sym, ◌∙◌, ap, subst, append_assoc}
 use Rattle.std.proofs.lemmas.Grind.{common_steps}
-use Rattle.std.proofs.lemmas.Bool.{and_parts, and_from, cond_both}
+use Rattle.std.proofs.lemmas.Bool.{and_parts, and_from, cond_both, eqb-true}
 use Rattle.std.proofs.lemmas.Bool.Decides.{nat_tests}
 use Rattle.std.proofs.lemmas.List.{append-nil}
 use Rattle.ocr_acquire.specs.declared.Mode.{Mode}
@@ -100,6 +100,32 @@ together_passed true line all =
 
 pub together_left : (t : ℕ) (line : Line) → GoTogether line.holders → GoTogether (line_without t line).holders
 together_left t line all = together_without t line.holders all
+
+-- any two of them do
+fits_holder : (m n : Mode) (t : ℕ) (holders : List (ℕ × Mode)) → fits_all m holders ≡ true → mode_in t holders ≡ Some n → together m n ≡ true
+fits_holder m n t [] fits is = cc is
+fits_holder m n t (first ∷ rest) fits is =
+    let parts = and_parts (together m first.1) (fits_all m rest) fits in
+    elim (first.0 == t) as (λ b. (if b then Some first.1 else mode_in t rest) ≡ Some n → together m n ≡ true) [
+      | true ↦ λ here. let same : first.1 ≡ n = cc here in subst (λ (k : Mode). together m k ≡ true) same parts.0
+      | false ↦ λ later. fits_holder m n t rest parts.1 later
+    ] is
+
+pub holders_together : (t u : ℕ) (m n : Mode) (holders : List (ℕ × Mode)) → GoTogether holders → (t == u) ≡ false → mode_in t holders ≡ Some m → mode_in u holders ≡ Some n → together m n ≡ true
+holders_together t u m n [] all apart one other = cc one
+holders_together t u m n (first ∷ rest) all apart one other =
+    elim (first.0 == t) as (λ b. (first.0 == t) ≡ b → (if b then Some first.1 else mode_in t rest) ≡ Some m → together m n ≡ true) [
+      | true ↦ λ is here.
+          let off : (first.0 == u) ≡ false = subst (λ (k : ℕ). (k == u) ≡ false) (sym (eqb-true first.0 t is)) apart in
+          let same : first.1 ≡ m = cc here in
+          subst (λ (k : Mode). together k n ≡ true) same (fits_holder first.1 n u rest all.0 (rw off at other))
+      | false ↦ λ _ later. elim (first.0 == u) as (λ b. (if b then Some first.1 else mode_in u rest) ≡ Some n → together m n ≡ true) [
+        | true ↦ λ here.
+            let same : first.1 ≡ n = cc here in
+            subst (λ (k : Mode). together m k ≡ true) same (together_flips m first.1 ∙ fits_holder first.1 m t rest all.0 later)
+        | false ↦ λ last. holders_together t u m n rest all.1 apart later last
+      ] other
+    ] refl one
 
 -- WHO WAITS HAS A REASON.
 abbrev pub IsStuck : Bool → List (ℕ × Mode) → List (ℕ × Mode) → Type 0

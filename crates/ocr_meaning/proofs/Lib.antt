@@ -1,3 +1,4 @@
+pub mod Accesses
 pub mod Makes
 pub mod Nodes
 pub mod Rulesets

@@ -184,11 +184,6 @@ no_output other is = cc is
 
 built_calls : (f : Frame) (made : CallName) (xs : Arguments) (g : Given) → is_call_built made xs ≡ true → is_call_built made xs ≡ true
     → Follows xs nothing_given g → IsAsked IsBuilt (call_of f made xs g)
-built_calls f name.EventCreate xs g is also follows = cc is
-built_calls f name.EventCreateParams xs g is also follows = cc is
-built_calls f name.EventDestroy xs g is also follows = cc is
-built_calls f name.Satisfy xs g is also follows = cc is
-built_calls f name.SatisfySlot xs g is also follows = cc is
 built_calls f name.EdtCreate xs g is also follows = no_output xs is
 built_calls f other xs g is also follows = tt
 

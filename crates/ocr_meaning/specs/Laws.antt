@@ -1,9 +1,10 @@
 -- What all bodies do, and how much a body can do.
-use Rattle.std.specs.Prelude.{◌≡◌, ◌≤◌, ◌<◌, ℕ, List, length, true, false}
+use Rattle.std.specs.Prelude.{◌≡◌, ◌≤◌, ◌<◌, ℕ, List, [], ◌∷◌, length, true, false}
 use Rattle.ocr_tree.specs.Built.{are_built}
 use Rattle.ocr_tree.specs.Rules.{are_functions_named, are_lists_short}
-use Rattle.ocr_meaning.specs.Behaviour.{Behaviour, Ends, Stops, Asks, Asked, IsTrace}
+use Rattle.ocr_meaning.specs.Behaviour.{Behaviour, Ends, Stops, Asks, Asked, IsNext, IsTrace}
 use Rattle.ocr_meaning.specs.Body.{Body, behaviour, says}
+use Rattle.ocr_meaning.specs.Holds.{Holds, Entered, after_call, load_of, store_of}
 use Rattle.ocr_meaning.specs.declared.call.Answer.{Answer}
 use Rattle.ocr_meaning.specs.declared.call.BodyStop.{BodyStop}
 use Rattle.ocr_meaning.specs.declared.call.BodyStop.TheVariants as stop
@@ -27,13 +28,9 @@ IsServed functions call.Shutdown = ⊥
 IsServed functions (call.Abort code) = ⊥
 IsServed functions other = Unit {0}
 
--- a call that rule 8 lets through: all but those of events, and the creation of an EDT with an
--- output event. A shutdown and an abort are no calls but stops
+-- a call that rule 8 lets through: all but the creation of an EDT with an output event. A shutdown
+-- and an abort are no calls but stops
 abbrev pub IsBuilt : body.Call → Type 0
-IsBuilt (call.EventCreate kind flags) = ⊥
-IsBuilt (call.EventCreateParams kind flags max_gen nb_sat nb_deps) = ⊥
-IsBuilt (call.EventDestroy event) = ⊥
-IsBuilt (call.Satisfy event payload slot) = ⊥
 IsBuilt (call.EdtCreate template paramc params depc deps flags output) = output ≡ false
 IsBuilt call.Shutdown = ⊥
 IsBuilt (call.Abort code) = ⊥
@@ -58,6 +55,22 @@ ServedLaw = (b : Body) (log : List Asked) → are_functions_named b.program ≡ 
 abbrev pub BuiltLaw : Type 0
 BuiltLaw = (b : Body) (log : List Asked) → are_built b.program ≡ true
     → MakesOnly IsBuilt (says b log)
+
+-- what a body holds after these calls, but for what it stored there itself
+abbrev pub held_after : List Asked → Holds → Holds
+held_after [] holds = holds
+held_after (asked ∷ earlier) holds = after_call asked.call asked.answer (held_after earlier holds)
+
+-- a call that is a load or a store is one that these holds make an entry
+abbrev pub IsEnteredBy : Holds → body.Call → Type 0
+IsEnteredBy holds (call.Load d w) = load_of (holds d) w ≡ Entered
+IsEnteredBy holds (call.Store d w v) = store_of (holds d) w ≡ Entered
+IsEnteredBy holds other = Unit {0}
+
+-- a body loads and stores, as calls, only what its holds make an entry
+abbrev pub AccessLaw : Type 0
+AccessLaw = (b : Body) (log : List Asked) (made : body.Call) → IsTrace (behaviour b) log
+    → IsNext made (says b log) → IsEnteredBy (held_after log b.holds) made
 
 -- each call costs fuel: a body makes at most as many calls as it has units
 abbrev pub FuelLaw : Type 0

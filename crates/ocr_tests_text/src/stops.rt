@@ -95,18 +95,18 @@ fn programs_stop_at_the_first_rule_that_they_break(rt: HostRuntime) {
             "fn mainEdt { ocrEdtCreate(1, 0, [], 0, [], 0, &o); }",
             Stop::Rule(4, 1),
         ),
-        ("fn mainEdt { ocrEventCreate(1, 0); }", Stop::Rule(8, 1)),
         (
             "fn mainEdt { let o = 0; ocrEdtCreate(1, 0, [], 0, [], 0, &o); }",
             Stop::Rule(8, 1),
         ),
         // A call that can't be run yet is told only where no other rule is broken anywhere.
         (
-            "fn f { ocrEventDestroy(8); } fn mainEdt { print x; }",
+            "fn f { let o = 0; ocrEdtCreate(1, 0, [], 0, [], 0, &o); } fn mainEdt { print x; }",
             Stop::Rule(4, 2),
         ),
         (
-            "fn f { } fn g { if 1 { ocrEventDestroy(2); } } fn mainEdt { ocrEventDestroy(1); }",
+            "fn f { } fn g { let o = 0; if 1 { ocrEdtCreate(1, 0, [], 0, [], 0, &o); } }
+             fn mainEdt { let o = 0; ocrEdtCreate(1, 0, [], 0, [], 0, &o); }",
             Stop::Rule(8, 2),
         ),
     ];
@@ -120,13 +120,15 @@ fn programs_stop_at_the_first_rule_that_they_break(rt: HostRuntime) {
 }
 
 #[test]
-fn programs_with_all_calls_but_those_of_events_are_taken(rt: HostRuntime) {
+fn programs_with_all_calls_and_no_output_event_are_taken(rt: HostRuntime) {
     let rows = [
         "fn other { } fn mainEdt { let y = 1; while y { let x = 0; y = x; } ocrShutdown(); }",
         "fn mainEdt { let d = ocrDbCreate(8, 0); ocrDbRelease(d); ocrDbDestroy(d); }",
         "fn mainEdt { let t = ocrEdtTemplateCreate(mainEdt, 0, 1); ocrEdtTemplateDestroy(t); }",
         "fn mainEdt { ocrAddDependence(1, ocrEdtCreate(3, 1, [7], 1, [2], 0), 0, DB_MODE_RW); }",
         "fn mainEdt { store(depv[0], 0, load(depv[0], 0)); ocrAbort(1); }",
+        "fn mainEdt { ocrEventDestroy(ocrEventCreate(1, 0)); ocrEventCreateParams(5, 1, 2, 1, 1); }",
+        "fn mainEdt { ocrEventSatisfy(3, 0); ocrEventSatisfySlot(3, 0, 1); }",
     ];
     for text in rows {
         assert_eq!(rt; stop_of(rt.alloc(), text.as_bytes()), None, "in {text}");
