@@ -1,7 +1,20 @@
 -- The parts after a legal entry are what the entry makes of the parts before it.
-use Rattle.std.proofs.Common.{not, ◌≡◌, ℕ, ◌/◌, List, [], ◌∷◌, Bool, true, false, Option, Some, ◌==◌, ◌&&◌, ◌||◌, nat_lt, if◌then◌else◌, refl, sym, ◌∙◌, ap, subst}
+use Rattle.std.proofs.Common.{not, ◌≡◌, ℕ, ◌/◌, List, [], ◌∷◌, Bool, true, false, Option, Some, None, is_some, ◌++◌, ◌+◌, ◌≤◌, drop, slice_get, arith, ◌==◌, ◌&&◌, ◌||◌, nat_lt, if◌then◌else◌, refl, sym, ◌∙◌, ap, subst}
 use Rattle.std.proofs.lemmas.Bool.{eqb-true}
-use Rattle.ocr_guid.specs.Target.{EventCall, Destruction}
+use Rattle.ocr_guid.specs.Target.{EventCall, Satisfaction, Link, Destruction, refusal_of, is_unwanted}
+use Rattle.ocr_guid.specs.declared.target.Target.{Target as Reached}
+use Rattle.ocr_history.specs.declared.entry.What.{What}
+use Rattle.ocr_history.specs.declared.entry.What.TheVariants as what
+use Rattle.ocr_any_event.specs.AnyEvent as event
+use Rattle.ocr_any_event.proofs.Laws as event_laws
+use Rattle.ocr_any_event.specs.declared.AnyEvent.{AnyEvent}
+use Rattle.ocr_any_event.specs.declared.AnyEvent.TheVariants as any
+use Rattle.ocr_event.specs.Event as plain
+use Rattle.ocr_channel_event.specs.Channel as channel
+use Rattle.ocr_parts.proofs.Within.{IsKeeping, keeping_law}
+pub use Rattle.ocr_parts.proofs.Within.{done_is}
+use Rattle.ocr_base.proofs.Booleans.{eqb_flips}
+use Rattle.std.proofs.lemmas.Grind.{common_steps}
 use Rattle.ocr_guid.specs.declared.Code.{Code}
 use Rattle.ocr_guid.specs.declared.Code.TheVariants as code
 use Rattle.ocr_acquire.specs.declared.Mode.{Mode}
@@ -16,27 +29,26 @@ use Rattle.ocr_meaning.specs.declared.call.Call as body
 use Rattle.ocr_meaning.specs.declared.call.Call.TheVariants as call
 use Rattle.ocr_meaning.specs.declared.call.Answer.{Answer}
 use Rattle.ocr_history.specs.declared.entry.Entry.{Entry}
-use Rattle.ocr_history.specs.declared.entry.Entry.TheVariants.{Call, Acquire, Wait, StaleAcquire, Start, Free, End}
+use Rattle.ocr_history.specs.declared.entry.Entry.TheVariants.{Call, Deliver, Acquire, Wait, StaleAcquire, Start, Free, End}
 use Rattle.ocr_parts.specs.declared.part.Part.{Part}
 use Rattle.ocr_parts.specs.declared.part.Part.TheVariants as part
 use Rattle.ocr_history.specs.History.{History, Setting, own}
 use Rattle.ocr_history.specs.Made.{Made, MadeBlock, MadeTemplate, MadeEdt, MadeEvent, made, edt_from, size_in, creator_in, is_edt_made}
-use Rattle.ocr_parts.specs.Calls.{dep_links, link_calls, block_calls, edt_calls, loans_of, contents_of, with_plan, awake, plan_of, next_member, mode_next, mode_named, ask_calls, lend_calls, end_calls, kept_now, doom_calls, event_calls}
+use Rattle.ocr_parts.specs.Calls.{is_object, slot_target, target_of, link_if, dep_targets, deliver_step, dep_links, link_calls, block_calls, edt_calls, loans_of, contents_of, with_plan, awake, plan_of, next_member, mode_next, mode_named, ask_calls, lend_calls, end_calls, kept_now, doom_calls, event_calls}
 use Rattle.ocr_parts.specs.Parts.{Parts, identity_of, face, core, parts_of}
-use Rattle.ocr_parts.specs.Codes.{link_code, dependence_code, code_of, is_any, is_its_own, is_missing, is_of_other_kind, is_refused_as_stale, number_code, wanted}
-use Rattle.ocr_parts.specs.Effects.{with_phase, made_ready, waiting_edt, started_edt, holding_edt, ended_edt, next_on, granted, hold_ended, new_face, new_core, dropping_core, acquiring_core, ended, called, changed, ready_at, readied_on, creating_core, awoken, doomed_template, stale_edt}
-use Rattle.ocr_parts.specs.LegalOn.{IsTaken, IsEnding, IsNamed, IsCallOn, IsLegalOn, IsDooming}
+use Rattle.ocr_parts.specs.Codes.{Sort, Source, Target, ATemplate, code_or, slot_most, satisfy_code, brings_block, wanted_source, wanted_sources, link_code, dependence_code, code_of, is_any, is_its_own, is_missing, is_of_other_kind, is_refused_as_stale, number_code, wanted}
+use Rattle.ocr_parts.specs.Effects.{with_face, with_core, linked_if, deps_linked, brought, with_phase, made_ready, waiting_edt, started_edt, holding_edt, ended_edt, next_on, granted, hold_ended, new_face, new_core, dropping_core, acquiring_core, ended, called, changed, ready_at, readied_on, creating_core, awoken, doomed_template, stale_edt}
+use Rattle.ocr_parts.specs.LegalOn.{IsSatisfiable, delivery_code, IsDeliverOn, IsTaken, IsEnding, IsNamed, IsCallOn, IsLegalOn, IsDooming}
 use Rattle.ocr_parts.specs.Legal.{IsRun}
 use Rattle.ocr_parts.specs.Laws.{AfterLaw, kept_lent}
-use Rattle.ocr_parts.proofs.Choices.{at_same, twice}
+use Rattle.ocr_parts.proofs.Choices.{at_same, twice, or_left, or_rest}
 use Rattle.ocr_parts.proofs.Phases.{IsFormed, formed, formed_ready, next_is, edt_acquired, edt_stale, edt_waited, edt_started, edt_held, edt_dropped, edt_ended}
 use Rattle.ocr_parts.proofs.Blocks.{block_ended, block_doomed, template_doomed, event_destroyed, block_stored, block_granted, block_asked, size_is, words_are, edt_linked}
 use Rattle.ocr_parts.specs.declared.part.Core.{Core}
 use Rattle.ocr_parts.proofs.Lent.{lent_law, ready_core}
 use Rattle.ocr_datablock.specs.Steps.{after_ask, after_release, after_store, after_doom}
 use Rattle.ocr_meaning.specs.Holds.{is_done}
-use Rattle.ocr_parts.specs.Kinds.{IsBlock, core_progress, is_acquiring, is_running, loan_on, mode_on, next_in, on_core, size_on, with_block, with_links, words_on, is_template, with_template, is_event, with_event, is_destroyed}
-use Rattle.ocr_any_event.specs.AnyEvent.{after_destroy}
+use Rattle.ocr_parts.specs.Kinds.{is_edt_face, IsBlock, core_progress, is_acquiring, is_running, loan_on, mode_on, next_in, on_core, size_on, with_block, with_links, words_on, is_template, with_template, is_event, with_event, is_destroyed}
 use Rattle.ocr_parts.specs.Loans.{kept_created, kept_in, kept_of, loan_in, without_kept}
 use Rattle.ocr_parts.specs.declared.loans.Kept.{Kept}
 use Rattle.ocr_slots.specs.Steps.{after_link}
@@ -82,11 +94,7 @@ no_core (Some (MadeEdt f ps n)) t links blocks events calls loans is = cc
 no_core other t links blocks events calls loans is = refl
 
 fresh_core : (s : Setting) (past : History) (a : Answer) → is_done a.code ≡ true → IsNamed s.limit (parts_of s past) a → (parts_of s past).core a.value ≡ part.Vacant
-fresh_core s past a on named = no_core (made s past a.value) a.value (link_calls past a.value) (block_calls s past a.value) (event_calls past a.value) (edt_calls s past a.value) (loans_of s past a.value) (named.fresh on).vacant
-
-pub done_is : (c : Code) → is_done c ≡ true → c ≡ code.Done
-done_is code.Done is = refl
-done_is other is = cc
+fresh_core s past a on named = no_core (made s past a.value) a.value (link_calls past a.value) (block_calls s past a.value) (event_calls s past a.value) (edt_calls s past a.value) (loans_of s past a.value) (named.fresh on).vacant
 
 -- an accepted call is refused by no object, and an accepted dependence links its slot
 pub last_if : (b : Bool) (c rest : Code) → (c ≡ code.Done → ⊥) → (if b then c else rest) ≡ code.Done → rest ≡ code.Done
@@ -123,8 +131,10 @@ pub no_other : (b : Bool) → (b || false) ≡ false → b ≡ false
 no_other true is = cc is
 no_other false is = refl
 
-pub linkable : (target : Part) (i m : ℕ) → dependence_code target i m ≡ code.Done → link_code target i ≡ code.Done
-linkable target i m is = last_if (nat_lt 4 m) code.Einval _ (λ wrong. cc wrong) is
+-- an accepted dependence of an EDT links a slot that was free
+pub linkable : (brings : Bool) (target : Part) (i m : ℕ) → dependence_code brings target i m ≡ code.Done → is_edt_face target ≡ true → link_code target i ≡ code.Done
+linkable brings (part.Edt slots) i m is there = last_if (nat_lt 4 m) code.Einval _ (λ wrong. cc wrong) is
+linkable brings other i m is there = cc there
 
 -- THE LOAN that comes back is the one that the block gave out
 loan_is : (m : Option Made) (t d : ℕ) (calls : List edt.EdtCall) (loans : List (ℕ × Kept)) (k : Kept) → is_edt_made m ≡ true → kept_in d loans ≡ Some k → loan_on (core m t calls loans) d ≡ k.loan
@@ -138,45 +148,234 @@ lent_to s past t d run is =
 
 -- FACES
 gone_face : (s : Setting) (past : History) (d g : ℕ) (ends : List block.BlockCall → List block.BlockCall) (step : block.State → block.State)
-    → face (made s past d) (link_calls past d) (ends (block_calls s past d)) (event_calls past d) ≡ with_block ((parts_of s past).face d) step
-    → face (made s past g) (link_calls past g) (if d == g then ends (block_calls s past g) else block_calls s past g) (event_calls past g) ≡ (if d == g then with_block ((parts_of s past).face d) step else (parts_of s past).face g)
+    → face (made s past d) (link_calls past d) (ends (block_calls s past d)) (event_calls s past d) ≡ with_block ((parts_of s past).face d) step
+    → face (made s past g) (link_calls past g) (if d == g then ends (block_calls s past g) else block_calls s past g) (event_calls s past g) ≡ (if d == g then with_block ((parts_of s past).face d) step else (parts_of s past).face g)
 gone_face s past d g ends step is =
-    blocks_if (d == g) (made s past g) (link_calls past g) (ends (block_calls s past g)) (block_calls s past g) (event_calls past g)
-    ∙ at_same (λ k. face (made s past k) (link_calls past k) (ends (block_calls s past k)) (event_calls past k)) (λ k. with_block ((parts_of s past).face k) step) d g ((parts_of s past).face g) is
+    blocks_if (d == g) (made s past g) (link_calls past g) (ends (block_calls s past g)) (block_calls s past g) (event_calls s past g)
+    ∙ at_same (λ k. face (made s past k) (link_calls past k) (ends (block_calls s past k)) (event_calls s past k)) (λ k. with_block ((parts_of s past).face k) step) d g ((parts_of s past).face g) is
 
 ended_face : (s : Setting) (past : History) (t d : ℕ) (w : List (ℕ × ℕ)) (g : ℕ) → IsRun s past → IsEnding (parts_of s past) t d
-    → face (made s past g) (link_calls past g) (if d == g then end_calls t w (block_calls s past g) else block_calls s past g) (event_calls past g) ≡ (ended after_release (parts_of s past) t d w).face g
+    → face (made s past g) (link_calls past g) (if d == g then end_calls t w (block_calls s past g) else block_calls s past g) (event_calls s past g) ≡ (ended after_release (parts_of s past) t d w).face g
 ended_face s past t d w g run held =
     let loan = loan_on ((parts_of s past).core t) d in
     gone_face s past d g (end_calls t w) (hold_ended after_release t w loan)
-    (block_ended (made s past d) (link_calls past d) (block_calls s past d) (event_calls past d) t w (mode_on ((parts_of s past).core t) d) loan (lent_to s past t d run) held)
+    (block_ended (made s past d) (link_calls past d) (block_calls s past d) (event_calls s past d) t w (mode_on ((parts_of s past).core t) d) loan (lent_to s past t d run) held)
 
 destroyed_face : (s : Setting) (past : History) (t d : ℕ) (w : List (ℕ × ℕ)) (g : ℕ) → IsRun s past → IsDooming (parts_of s past) t d
-    → face (made s past g) (link_calls past g) (if d == g then doom_calls t w (block_calls s past g) else block_calls s past g) (event_calls past g) ≡ (ended after_doom (parts_of s past) t d w).face g
+    → face (made s past g) (link_calls past g) (if d == g then doom_calls t w (block_calls s past g) else block_calls s past g) (event_calls s past g) ≡ (ended after_doom (parts_of s past) t d w).face g
 destroyed_face s past t d w g run held =
     let loan = loan_on ((parts_of s past).core t) d in
     gone_face s past d g (doom_calls t w) (hold_ended after_doom t w loan)
-    (block_doomed (made s past d) (link_calls past d) (block_calls s past d) (event_calls past d) t w (mode_on ((parts_of s past).core t) d) loan (lent_to s past t d run) held)
+    (block_doomed (made s past d) (link_calls past d) (block_calls s past d) (event_calls s past d) t w (mode_on ((parts_of s past).core t) d) loan (lent_to s past t d run) held)
 
 -- an object is destroyed by a call
 events_if : (b : Bool) (m : Option Made) (links : List slot.SlotCall) (blocks : List block.BlockCall) (x y : List EventCall) → face m links blocks (if b then x else y) ≡ (if b then face m links blocks x else face m links blocks y)
 events_if true m links blocks x y = refl
 events_if false m links blocks x y = refl
 
-destroyed_at : (s : Setting) (past : History) (x g : ℕ) (step : Part → Part)
-    → face (made s past x) (link_calls past x) (block_calls s past x) (Destruction ∷ event_calls past x) ≡ step ((parts_of s past).face x)
-    → face (made s past g) (link_calls past g) (block_calls s past g) (if x == g then Destruction ∷ event_calls past g else event_calls past g) ≡ (if x == g then step ((parts_of s past).face x) else (parts_of s past).face g)
-destroyed_at s past x g step is =
-    events_if (x == g) (made s past g) (link_calls past g) (block_calls s past g) (Destruction ∷ event_calls past g) (event_calls past g)
-    ∙ at_same (λ k. face (made s past k) (link_calls past k) (block_calls s past k) (Destruction ∷ event_calls past k)) (λ k. step ((parts_of s past).face k)) x g ((parts_of s past).face g) is
+events_at : (s : Setting) (past : History) (x g : ℕ) (adds : List EventCall → List EventCall) (step : Part → Part)
+    → face (made s past x) (link_calls past x) (block_calls s past x) (adds (event_calls s past x)) ≡ step ((parts_of s past).face x)
+    → face (made s past g) (link_calls past g) (block_calls s past g) (if x == g then adds (event_calls s past g) else event_calls s past g) ≡ (if x == g then step ((parts_of s past).face x) else (parts_of s past).face g)
+events_at s past x g adds step is =
+    events_if (x == g) (made s past g) (link_calls past g) (block_calls s past g) (adds (event_calls s past g)) (event_calls s past g)
+    ∙ at_same (λ k. face (made s past k) (link_calls past k) (block_calls s past k) (adds (event_calls s past k))) (λ k. step ((parts_of s past).face k)) x g ((parts_of s past).face g) is
 
 -- what a destruction wants is of its kind and live
 live_one : (x : Part) (b : Bool) → (is_destroyed x || b) ≡ false → is_destroyed x ≡ false
 live_one x b is = or_left (is_destroyed x) b is
+
+-- A LINK of an event as a source; other objects keep none
+linked_face : (m : Option Made) (links : List slot.SlotCall) (blocks : List block.BlockCall) (events : List EventCall) (t : Reached) → is_destroyed (face m links blocks events) ≡ false
+    → face m links blocks (Link t ∷ events) ≡ with_event (face m links blocks events) (λ st. event.after_link st t)
+linked_face (Some (MadeEvent k fl most)) links blocks events t live = ap part.Event (event_laws.link_law k fl most events t live)
+linked_face other links blocks events t live = refl
+
+-- a slot of the target is linked, where the target is an EDT
+slot_face : (m : Option Made) (links : List slot.SlotCall) (blocks : List block.BlockCall) (events : List EventCall) (i : ℕ) (k : Mode) → (is_edt_face (face m links blocks events) ≡ true → link_code (face m links blocks events) i ≡ code.Done)
+    → face m (slot.Linking i k ∷ links) blocks events ≡ with_links (face m links blocks events) (λ slots. after_link slots i k)
+slot_face (Some (MadeEdt f ps n)) links blocks events i k fits = edt_linked (Some (MadeEdt f ps n)) links blocks events i k (fits refl)
+slot_face other links blocks events i k fits = refl
+
+edt_told : (m : Option Made) (links : List slot.SlotCall) (blocks : List block.BlockCall) (events : List EventCall) → is_edt_made m ≡ is_edt_face (face m links blocks events)
+edt_told (Some (MadeEdt f ps n)) links blocks events = refl
+edt_told other links blocks events = refl
+
+source_live : (t from x : ℕ) (f : ℕ → Part) → is_any (is_refused_as_stale t) f ((x, Target) ∷ wanted_source from) ≡ false → (from == 0) ≡ false → is_destroyed (f from) ≡ false
+source_live t from x f off some = or_left (is_destroyed (f from)) false (rw some at (or_rest (is_destroyed (f x)) (is_any (is_refused_as_stale t) f (wanted_source from)) off))
+
+depended_face : (s : Setting) (past : History) (from x i m g : ℕ) → (from == x) ≡ false → ((from == 0) ≡ false → is_destroyed ((parts_of s past).face from) ≡ false)
+    → (is_edt_face ((parts_of s past).face x) ≡ true → link_code ((parts_of s past).face x) i ≡ code.Done)
+    → face (made s past g) (if x == g then slot.Linking i (mode_named m) ∷ link_calls past g else link_calls past g) (block_calls s past g) (link_if (not (from == 0) && (from == g)) (target_of (is_edt_made (made s past x)) x i) (event_calls s past g))
+    ≡ (linked_if (not (from == 0)) from (target_of (is_edt_face ((parts_of s past).face x)) x i) (with_face (parts_of s past) x (with_links ((parts_of s past).face x) (λ slots. after_link slots i (mode_named m))))).face g
+depended_face s past from x i m g apart live fits =
+    let f : ℕ → Part = (parts_of s past).face in
+    let one : Reached = target_of (is_edt_made (made s past x)) x i in
+    let two : Reached = target_of (is_edt_face (f x)) x i in
+    let same_target : one ≡ two = ap (λ (b : Bool). target_of b x i) (edt_told (made s past x) (link_calls past x) (block_calls s past x) (event_calls s past x)) in
+    let linked : Part = with_links (f x) (λ slots. after_link slots i (mode_named m)) in
+    let alone : face (made s past g) (if x == g then slot.Linking i (mode_named m) ∷ link_calls past g else link_calls past g) (block_calls s past g) (event_calls s past g) ≡ (if x == g then linked else f g) =
+    links_if (x == g) (made s past g) (slot.Linking i (mode_named m) ∷ link_calls past g) (link_calls past g) (block_calls s past g) (event_calls s past g)
+    ∙ at_same (λ j. face (made s past j) (slot.Linking i (mode_named m) ∷ link_calls past j) (block_calls s past j) (event_calls s past j)) (λ j. with_links (f j) (λ slots. after_link slots i (mode_named m))) x g (f g)
+    (slot_face (made s past x) (link_calls past x) (block_calls s past x) (event_calls s past x) i (mode_named m) fits) in
+    elim (from == 0) as (λ b. ((b ≡ false) → is_destroyed (f from) ≡ false) → face (made s past g) (if x == g then slot.Linking i (mode_named m) ∷ link_calls past g else link_calls past g) (block_calls s past g) (link_if (not b && (from == g)) one (event_calls s past g))
+    ≡ (linked_if (not b) from two (with_face (parts_of s past) x linked)).face g) [
+      | true ↦ λ _. alone
+      | false ↦ λ live. elim (from == g) as (λ b. (from == g) ≡ b → face (made s past g) (if x == g then slot.Linking i (mode_named m) ∷ link_calls past g else link_calls past g) (block_calls s past g) (link_if b one (event_calls s past g))
+          ≡ (if b then with_event (if x == from then linked else f from) (λ st. event.after_link st two) else if x == g then linked else f g)) [
+            | true ↦ λ here.
+                subst (λ (n : ℕ). face (made s past n) (if x == n then slot.Linking i (mode_named m) ∷ link_calls past n else link_calls past n) (block_calls s past n) (Link one ∷ event_calls s past n) ≡ with_event (if x == from then linked else f from) (λ st. event.after_link st two)) (eqb-true from g here)
+                (let off : (x == from) ≡ false = eqb_flips x from ∙ apart in
+                rw off (linked_face (made s past from) (link_calls past from) (block_calls s past from) (event_calls s past from) one (live refl) ∙ ap (λ (t : Reached). with_event (f from) (λ st. event.after_link st t)) same_target))
+            | false ↦ λ _. alone
+          ] refl
+    ] live
+
+-- A SATISFACTION that is not refused
+abbrev Fits : Part → ℕ → ℕ → Type 0
+Fits (part.Event st) slot p = (slot ≤ 1) × (event.refusal st p ≡ None)
+Fits other slot p = ⊥
+
+event_satisfied : (m : Option Made) (links : List slot.SlotCall) (blocks : List block.BlockCall) (events : List EventCall) (i p : ℕ) → IsKeeping m → Fits (face m links blocks events) i p
+    → face m links blocks (Satisfaction i p ∷ events) ≡ with_event (face m links blocks events) (λ st. event.after_satisfy st i p)
+event_satisfied (Some (MadeEvent k fl most)) links blocks events i p keeps fits = ap part.Event (event_laws.satisfy_law k fl most events i p keeps fits.0 fits.1)
+event_satisfied other links blocks events i p keeps fits = absurd fits
+
+satisfied_face : (s : Setting) (past : History) (e i p g : ℕ) → IsRun s past → Fits ((parts_of s past).face e) i p
+    → face (made s past g) (link_calls past g) (block_calls s past g) (if e == g then Satisfaction i p ∷ event_calls s past g else event_calls s past g) ≡ (if e == g then with_event ((parts_of s past).face e) (λ st. event.after_satisfy st i p) else (parts_of s past).face g)
+satisfied_face s past e i p g run fits =
+    events_at s past e g (λ calls. Satisfaction i p ∷ calls) (λ y. with_event y (λ st. event.after_satisfy st i p))
+    (event_satisfied (made s past e) (link_calls past e) (block_calls s past e) (event_calls s past e) i p (keeping_law s past e run) fits)
+
+no_code : (destroyed takes kind : Bool) (p : ℕ) (c : Code) → (c ≡ code.Done → ⊥) → code_or (refusal_of destroyed takes p (if kind then Some c else None)) ≡ code.Done → refusal_of destroyed takes p (if kind then Some c else None) ≡ None
+no_code true takes kind p c wrong is = cc is
+no_code false takes kind p c wrong is = elim (is_unwanted takes p) as (λ b. code_or (if b then Some code.Einval else if kind then Some c else None) ≡ code.Done → (if b then Some code.Einval else if kind then Some c else None) ≡ None) [
+  | true ↦ λ is. cc is
+  | false ↦ elim kind as (λ b. code_or (if b then Some c else None) ≡ code.Done → (if b then Some c else None) ≡ None) [ true ↦ λ is. absurd (wrong is) | false ↦ λ _. refl ]
+] is
+
+unrefused : (st : AnyEvent) (p : ℕ) → code_or (event.refusal st p) ≡ code.Done → event.refusal st p ≡ None
+unrefused (any.Plain st) p is = no_code st.destroyed st.takes_arg (plain.is_fired_sticky st) p code.Eperm (λ wrong. cc wrong) is
+unrefused (any.Latch st) p is = no_code st.destroyed st.takes_arg false p code.Eperm (λ wrong. cc wrong) is
+unrefused (any.Channel st) p is = no_code st.destroyed st.takes_arg (channel.is_full st) p code.Ebusy (λ wrong. cc wrong) is
+
+slot_low : (st : AnyEvent) (i : ℕ) → i ≤ slot_most st → i ≤ 1
+slot_low (any.Latch st) i low = low
+slot_low other i low = omega (arith, low)
+
+satisfiable : (x : Part) (i p : ℕ) → satisfy_code x i p ≡ code.Done → Fits x i p
+satisfiable (part.Event st) i p is = (
+  slot_low st i (not_above (slot_most st) i (first_off (nat_lt (slot_most st) i) code.Einval _ (λ wrong. cc wrong) is)),
+  unrefused st p (last_if (nat_lt (slot_most st) i) code.Einval _ (λ wrong. cc wrong) is),
+)
   where
-    or_left : (b c : Bool) → (b || c) ≡ false → b ≡ false
-    or_left true c is = cc is
-    or_left false c is = refl
+    not_above : (n m : ℕ) → nat_lt n m ≡ false → m ≤ n
+    not_above n m off = grind (arith, common_steps)
+satisfiable other i p is = cc is
+
+-- A MESSAGE
+delivered_fits : (x : Part) (i p : ℕ) (c : Code) → IsSatisfiable i x → c ≡ delivery_code x p → is_done c ≡ true → Fits x i p
+delivered_fits (part.Event st) i p c has is on = (slot_low st i has, unrefused st p (sym is ∙ done_is c on))
+delivered_fits other i p c has is on = absurd has
+
+delivered_face : (s : Setting) (past : History) (w : What) (c : Code) (g : ℕ) → IsRun s past → IsDeliverOn (parts_of s past) w c
+    → face (made s past g) (link_calls past g) (block_calls s past g) (deliver_step w (is_done c) g (event_calls s past g)) ≡ (if is_done c then brought w (parts_of s past) else parts_of s past).face g
+delivered_face s past (what.Set x i p) c g run legal = elim (is_done c) as (λ b. (parts_of s past).face g ≡ (if b then parts_of s past else parts_of s past).face g) [ true ↦ refl | false ↦ refl ]
+delivered_face s past (what.Satisfy e i p) c g run legal = elim (is_done c) as (λ b. is_done c ≡ b → face (made s past g) (link_calls past g) (block_calls s past g) (if b && (e == g) then Satisfaction i p ∷ event_calls s past g else event_calls s past g)
+    ≡ (if b then brought (what.Satisfy e i p) (parts_of s past) else parts_of s past).face g) [
+      | true ↦ λ on. satisfied_face s past e i p g run (delivered_fits ((parts_of s past).face e) i p c legal.0 legal.1 on)
+      | false ↦ λ _. refl
+    ] refl
+delivered_face s past (what.Leave x) c g run legal = absurd legal
+
+-- THE EVENTS that are given to the slots of a new EDT
+abbrev pub dep_fold : ℕ → ℕ → ℕ → List ℕ → Part → Part
+dep_fold t k g [] x = x
+dep_fold t k g (d ∷ rest) x = dep_fold t (k + 1) g rest (if is_object d && (d == g) then with_event x (λ st. event.after_link st (slot_target t k)) else x)
+
+one_face : (d : ℕ) (to : Reached) (f : Parts) (g : ℕ) → (linked_if (is_object d) d to f).face g ≡ (if is_object d && (d == g) then with_event (f.face g) (λ st. event.after_link st to) else f.face g)
+one_face d to f g = elim (is_object d) as (λ b. (linked_if b d to f).face g ≡ (if b && (d == g) then with_event (f.face g) (λ st. event.after_link st to) else f.face g)) [
+  | true ↦ sym (at_same (λ k. with_event (f.face k) (λ st. event.after_link st to)) (λ k. with_event (f.face k) (λ st. event.after_link st to)) d g (f.face g) refl)
+  | false ↦ refl
+]
+
+pub deps_face : (t k : ℕ) (ds : List ℕ) (f : Parts) (g : ℕ) → (deps_linked t k ds f).face g ≡ dep_fold t k g ds (f.face g)
+deps_face t k [] f g = refl
+deps_face t k (d ∷ rest) f g = deps_face t (k + 1) rest (linked_if (is_object d) d (slot_target t k) f) g ∙ ap (dep_fold t (k + 1) g rest) (one_face d (slot_target t k) f g)
+
+pub linked_core : (b : Bool) (d : ℕ) (t : Reached) (f : Parts) (u : ℕ) → (linked_if b d t f).core u ≡ f.core u
+linked_core true d t f u = refl
+linked_core false d t f u = refl
+
+pub deps_core : (t k : ℕ) (ds : List ℕ) (f : Parts) (u : ℕ) → (deps_linked t k ds f).core u ≡ f.core u
+deps_core t k [] f u = refl
+deps_core t k (d ∷ rest) f u = deps_core t (k + 1) rest (linked_if (is_object d) d (slot_target t k) f) u
+    ∙ elim (is_object d) as (λ b. (linked_if b d (slot_target t k) f).core u ≡ f.core u) [ true ↦ refl | false ↦ refl ]
+
+no_event : (x : Part) (step : AnyEvent → AnyEvent) → is_event x ≡ false → with_event x step ≡ x
+no_event (part.Event st) step is = cc is
+no_event other step is = refl
+
+other_fold : (t k g : ℕ) (ds : List ℕ) (x : Part) → is_event x ≡ false → dep_fold t k g ds x ≡ x
+other_fold t k g [] x is = refl
+other_fold t k g (d ∷ rest) x is = elim (is_object d && (d == g)) as (λ b. dep_fold t (k + 1) g rest (if b then with_event x (λ st. event.after_link st (slot_target t k)) else x) ≡ x) [
+  | true ↦ ap (dep_fold t (k + 1) g rest) (no_event x (λ st. event.after_link st (slot_target t k)) is) ∙ other_fold t (k + 1) g rest x is
+  | false ↦ other_fold t (k + 1) g rest x is
+]
+
+-- a link leaves an event alive
+link_live : (st : AnyEvent) (t : Reached) → event.is_destroyed st ≡ false → event.is_destroyed (event.after_link st t) ≡ false
+link_live (any.Plain st) t live = rw live (elim (is_some st.first) as (λ b. (if b then record st { destroyed = false } else record st { destroyed = false; targets = st.targets ++ t ∷ [] }).destroyed ≡ false) [ true ↦ refl | false ↦ refl ])
+link_live (any.Latch st) t live = rw live refl
+link_live (any.Channel st) t live = rw live (elim (slice_get st.payloads 0) as (λ o. (elim o as (λ _. channel.State) [ Some p ↦ channel.with_queues st (drop 1 st.payloads) st.targets | None ↦ channel.with_queues st st.payloads (st.targets ++ t ∷ []) ]).destroyed ≡ false) [ Some p ↦ live | None ↦ live ])
+
+part_live : (x : Part) (t : Reached) → is_destroyed x ≡ false → is_destroyed (with_event x (λ st. event.after_link st t)) ≡ false
+part_live (part.Event st) t live = link_live st t live
+part_live other t live = live
+
+abbrev pub named_dep : ℕ → List ℕ → Bool
+named_dep g [] = false
+named_dep g (d ∷ rest) = (is_object d && (d == g)) || named_dep g rest
+
+event_fold : (m : Option Made) (links : List slot.SlotCall) (blocks : List block.BlockCall) (events : List EventCall) (t k g : ℕ) (ds : List ℕ) → (named_dep g ds ≡ true → is_destroyed (face m links blocks events) ≡ false)
+    → dep_fold t k g ds (face m links blocks events) ≡ face m links blocks (dep_targets t k g ds events)
+event_fold m links blocks events t k g [] live = refl
+event_fold m links blocks events t k g (d ∷ rest) live =
+    let to : Reached = slot_target t k in
+    elim (is_object d && (d == g)) as (λ b. (b || named_dep g rest ≡ true → is_destroyed (face m links blocks events) ≡ false)
+    → dep_fold t (k + 1) g rest (if b then with_event (face m links blocks events) (λ st. event.after_link st to) else face m links blocks events) ≡ face m links blocks (dep_targets t (k + 1) g rest (link_if b to events))) [
+      | true ↦ λ live.
+          let now = linked_face m links blocks events to (live refl) in
+          ap (dep_fold t (k + 1) g rest) (sym now)
+          ∙ event_fold m links blocks (Link to ∷ events) t (k + 1) g rest (λ _. ap is_destroyed now ∙ part_live (face m links blocks events) to (live refl))
+      | false ↦ λ live. event_fold m links blocks events t (k + 1) g rest live
+    ] live
+
+deps_live : (t : ℕ) (f : ℕ → Part) (ds : List ℕ) (g : ℕ) → is_any (is_refused_as_stale t) f (wanted_sources ds) ≡ false → named_dep g ds ≡ true → is_destroyed (f g) ≡ false
+deps_live t f [] g off is = cc is
+deps_live t f (d ∷ rest) g off is = elim (is_object d) as (λ b. is_any (is_refused_as_stale t) f (if b then (d, Source) ∷ wanted_sources rest else wanted_sources rest) ≡ false → ((b && (d == g)) || named_dep g rest) ≡ true → is_destroyed (f g) ≡ false) [
+  | true ↦ λ off is. elim (d == g) as (λ b. (d == g) ≡ b → (b || named_dep g rest) ≡ true → is_destroyed (f g) ≡ false) [
+    | true ↦ λ here _. ap (λ (n : ℕ). is_destroyed (f n)) (sym (eqb-true d g here)) ∙ or_left (is_destroyed (f d)) _ off
+    | false ↦ λ _ is. deps_live t f rest g (or_rest (is_destroyed (f d)) _ off) is
+  ] refl is
+  | false ↦ λ off is. deps_live t f rest g off is
+] off is
+
+new_no_event : (x : Part) (dc : ℕ) (ds : List ℕ) → is_event (new_face x dc ds) ≡ false
+new_no_event (part.Template t) dc ds = refl
+new_no_event other dc ds = refl
+
+created_face : (s : Setting) (past : History) (t from pc dc fl : ℕ) (ps ds : List ℕ) (o : Bool) (a : Answer) (w : List (ℕ × ℕ)) → is_done a.code ≡ true → is_any (is_refused_as_stale t) (parts_of s past).face ((from, ATemplate) ∷ wanted_sources ds) ≡ false
+    → (g : ℕ) → face (if a.value == g then edt_from (made s past from) ps dc else made s past g) (if a.value == g then dep_links 0 ds [] else link_calls past g) (if a.value == g then [] else block_calls s past g) (if a.value == g then [] else dep_targets a.value 0 g ds (event_calls s past g))
+    ≡ (called t (call.EdtCreate from pc ps dc ds fl o) a w (parts_of s past)).face g
+created_face s past t from pc dc fl ps ds o a w on off g =
+    let f : ℕ → Part = (parts_of s past).face in
+    let new : Part = new_face (f from) dc ds in
+    chosen_face (a.value == g) (edt_from (made s past from) ps dc) (made s past g) (dep_links 0 ds []) (link_calls past g) (block_calls s past g) (dep_targets a.value 0 g ds (event_calls s past g))
+    ∙ elim (a.value == g) as (λ b. (if b then face (edt_from (made s past from) ps dc) (dep_links 0 ds []) [] [] else face (made s past g) (link_calls past g) (block_calls s past g) (dep_targets a.value 0 g ds (event_calls s past g))) ≡ dep_fold a.value 0 g ds (if b then new else f g)) [
+      | true ↦ edt_face (made s past from) ps dc ds (link_calls past from) (block_calls s past from) (event_calls s past from) ∙ sym (other_fold a.value 0 g ds new (new_no_event (f from) dc ds))
+      | false ↦ sym (event_fold (made s past g) (link_calls past g) (block_calls s past g) (event_calls s past g) a.value 0 g ds (deps_live t f ds g (or_rest (is_destroyed (f from)) _ off)))
+    ]
+    ∙ sym (deps_face a.value 0 ds (with_core (with_face (parts_of s past) a.value new) a.value (new_core (f from) a.value ps)) g)
 
 refused_face : (s : Setting) (past : History) (t home : ℕ) (c : body.Call) (a : Answer) (w : List (ℕ × ℕ)) → is_done a.code ≡ false
     → (g : ℕ) → (parts_of s (Call t home c a w ∷ past)).face g ≡ (parts_of s past).face g
@@ -191,34 +390,37 @@ refused_face s past t home (call.AddDependence from x i m) a w off g = rw off re
 refused_face s past t home (call.EventCreate k fl) a w off g = rw off refl
 refused_face s past t home (call.EventCreateParams k fl gen sat deps) a w off g = rw off refl
 refused_face s past t home (call.EventDestroy x) a w off g = rw off refl
+refused_face s past t home (call.Satisfy e p slot) a w off g = rw off refl
 refused_face s past t home other a w off g = refl
 
 called_face : (s : Setting) (past : History) (t home : ℕ) (c : body.Call) (a : Answer) (w : List (ℕ × ℕ)) → IsRun s past → is_done a.code ≡ true → IsCallOn s.limit (parts_of s past) t home c a w
     → (g : ℕ) → (parts_of s (Call t home c a w ∷ past)).face g ≡ (called t c a w (parts_of s past)).face g
-called_face s past t home (call.TemplateCreate f pc dc) a w run on legal g = rw on (chosen_face (a.value == g) _ (made s past g) _ (link_calls past g) (block_calls s past g) (event_calls past g))
-called_face s past t home (call.DbCreate n fl) a w run on legal g = rw on (chosen_face (a.value == g) _ (made s past g) _ (link_calls past g) (block_calls s past g) (event_calls past g))
-called_face s past t home (call.EdtCreate from pc ps dc ds fl o) a w run on legal g = rw on
-    (chosen_face (a.value == g) _ (made s past g) _ (link_calls past g) (block_calls s past g) (event_calls past g)
-    ∙ ap (λ (x : Part). if a.value == g then x else (parts_of s past).face g) (edt_face (made s past from) ps dc ds (link_calls past from) (block_calls s past from) (event_calls past from)))
+called_face s past t home (call.TemplateCreate f pc dc) a w run on legal g = rw on (chosen_face (a.value == g) _ (made s past g) _ (link_calls past g) (block_calls s past g) (event_calls s past g))
+called_face s past t home (call.DbCreate n fl) a w run on legal g = rw on (chosen_face (a.value == g) _ (made s past g) _ (link_calls past g) (block_calls s past g) (event_calls s past g))
+called_face s past t home (call.EdtCreate from pc ps dc ds fl o) a w run on legal g = rw on (created_face s past t from pc dc fl ps ds o a w on (not_stale t (parts_of s past).face (call.EdtCreate from pc ps dc ds fl o) (sym legal.code ∙ done_is a.code on)) g)
 called_face s past t home (call.DbRelease d) a w run on legal g = rw on (ended_face s past t d w g run (legal.value.0 on))
 called_face s past t home (call.DbDestroy d) a w run on legal g = rw on (destroyed_face s past t d w g run (legal.value.0 on))
 called_face s past t home (call.TemplateDestroy x) a w run on legal g = rw on
-    (destroyed_at s past x g (λ y. with_template y doomed_template)
-    (template_doomed (made s past x) (link_calls past x) (block_calls s past x) (event_calls past x)
+    (events_at s past x g (λ calls. Destruction ∷ calls) (λ y. with_template y doomed_template)
+    (template_doomed (made s past x) (link_calls past x) (block_calls s past x) (event_calls s past x)
     (not_other (is_template ((parts_of s past).face x)) (of_kind t (parts_of s past).face (call.TemplateDestroy x) (sym legal.code ∙ done_is a.code on)))))
 called_face s past t home (call.Store d k v) a w run on legal g = rw on
     (gone_face s past d g (λ calls. block.Store k v ∷ calls) (λ st. after_store st k v)
-    (block_stored (made s past d) (link_calls past d) (block_calls s past d) (event_calls past d) t k v _ legal.value.0))
-called_face s past t home (call.AddDependence from x i m) a w run on legal g = rw on
-    (links_if (x == g) (made s past g) (slot.Linking i (mode_named m) ∷ link_calls past g) (link_calls past g) (block_calls s past g) (event_calls past g)
-    ∙ at_same (λ j. face (made s past j) (slot.Linking i (mode_named m) ∷ link_calls past j) (block_calls s past j) (event_calls past j)) (λ j. with_links ((parts_of s past).face j) (λ slots. after_link slots i (mode_named m))) x g ((parts_of s past).face g)
-    (edt_linked (made s past x) (link_calls past x) (block_calls s past x) (event_calls past x) i (mode_named m)
-    (linkable ((parts_of s past).face x) i m (accepted t (parts_of s past).face (call.AddDependence from x i m) (sym legal.code ∙ done_is a.code on)))))
-called_face s past t home (call.EventCreate k fl) a w run on legal g = rw on (chosen_face (a.value == g) _ (made s past g) _ (link_calls past g) (block_calls s past g) (event_calls past g))
-called_face s past t home (call.EventCreateParams k fl gen sat deps) a w run on legal g = rw on (chosen_face (a.value == g) _ (made s past g) _ (link_calls past g) (block_calls s past g) (event_calls past g))
+    (block_stored (made s past d) (link_calls past d) (block_calls s past d) (event_calls s past d) t k v _ legal.value.0))
+called_face s past t home (call.AddDependence from x i m) a w run on legal g =
+    let done : code_of t (parts_of s past).face (call.AddDependence from x i m) ≡ code.Done = sym legal.code ∙ done_is a.code on in
+    rw on (depended_face s past from x i m g
+    (or_left (from == x) _ (of_kind t (parts_of s past).face (call.AddDependence from x i m) done))
+    (source_live t from x (parts_of s past).face (not_stale t (parts_of s past).face (call.AddDependence from x i m) done))
+    (linkable (brings_block (parts_of s past).face from) ((parts_of s past).face x) i m (accepted t (parts_of s past).face (call.AddDependence from x i m) done)))
+called_face s past t home (call.Satisfy e p slot) a w run on legal g =
+    let done : code_of t (parts_of s past).face (call.Satisfy e p slot) ≡ code.Done = sym legal.code ∙ done_is a.code on in
+    rw on (satisfied_face s past e slot p g run (satisfiable ((parts_of s past).face e) slot p (accepted t (parts_of s past).face (call.Satisfy e p slot) done)))
+called_face s past t home (call.EventCreate k fl) a w run on legal g = rw on (chosen_face (a.value == g) _ (made s past g) _ (link_calls past g) (block_calls s past g) (event_calls s past g))
+called_face s past t home (call.EventCreateParams k fl gen sat deps) a w run on legal g = rw on (chosen_face (a.value == g) _ (made s past g) _ (link_calls past g) (block_calls s past g) (event_calls s past g))
 called_face s past t home (call.EventDestroy x) a w run on legal g = rw on
-    (destroyed_at s past x g (λ y. with_event y after_destroy)
-    (event_destroyed (made s past x) (link_calls past x) (block_calls s past x) (event_calls past x)
+    (events_at s past x g (λ calls. Destruction ∷ calls) (λ y. with_event y event.after_destroy)
+    (event_destroyed (made s past x) (link_calls past x) (block_calls s past x) (event_calls s past x)
     (not_other (is_event ((parts_of s past).face x)) (of_kind t (parts_of s past).face (call.EventDestroy x) (sym legal.code ∙ done_is a.code on)))
     (live_one ((parts_of s past).face x) false (not_stale t (parts_of s past).face (call.EventDestroy x) (sym legal.code ∙ done_is a.code on)))))
 called_face s past t home other a w run on legal g = refl
@@ -241,17 +443,17 @@ mode_is s past t x is = ap mode_next (core_next (made s past t) t (plan_of s pas
 acquired_face : (s : Setting) (past : History) (t d g : ℕ) (k : Mode) → mode_next (next_member s past t) ≡ k → IsBlock ((parts_of s past).face d) (IsTaken t k)
     → (parts_of s (Acquire t d ∷ past)).face g ≡ (if d == g then with_block ((parts_of s past).face d) (granted t k) else (parts_of s past).face g)
 acquired_face s past t d g k is taken =
-    ap (λ (m : Mode). face (made s past g) (link_calls past g) (if d == g then lend_calls t m (ask_calls t m (creator_in (made s past g)) (block_calls s past g)) else block_calls s past g) (event_calls past g)) is
-    ∙ blocks_if (d == g) (made s past g) (link_calls past g) (lend_calls t k (ask_calls t k (creator_in (made s past g)) (block_calls s past g))) (block_calls s past g) (event_calls past g)
-    ∙ at_same (λ j. face (made s past j) (link_calls past j) (lend_calls t k (ask_calls t k (creator_in (made s past j)) (block_calls s past j))) (event_calls past j)) (λ j. with_block ((parts_of s past).face j) (granted t k)) d g ((parts_of s past).face g)
-    (block_granted (made s past d) (link_calls past d) (block_calls s past d) (event_calls past d) t k taken)
+    ap (λ (m : Mode). face (made s past g) (link_calls past g) (if d == g then lend_calls t m (ask_calls t m (creator_in (made s past g)) (block_calls s past g)) else block_calls s past g) (event_calls s past g)) is
+    ∙ blocks_if (d == g) (made s past g) (link_calls past g) (lend_calls t k (ask_calls t k (creator_in (made s past g)) (block_calls s past g))) (block_calls s past g) (event_calls s past g)
+    ∙ at_same (λ j. face (made s past j) (link_calls past j) (lend_calls t k (ask_calls t k (creator_in (made s past j)) (block_calls s past j))) (event_calls s past j)) (λ j. with_block ((parts_of s past).face j) (granted t k)) d g ((parts_of s past).face g)
+    (block_granted (made s past d) (link_calls past d) (block_calls s past d) (event_calls s past d) t k taken)
 
 waited_face : (s : Setting) (past : History) (t d g : ℕ) (k : Mode) → mode_next (next_member s past t) ≡ k
     → (parts_of s (Wait t d ∷ past)).face g ≡ (if d == g then with_block ((parts_of s past).face d) (λ st. after_ask st t k) else (parts_of s past).face g)
 waited_face s past t d g k is =
-    ap (λ (m : Mode). face (made s past g) (link_calls past g) (if d == g then block.Ask t m ∷ block_calls s past g else block_calls s past g) (event_calls past g)) is
+    ap (λ (m : Mode). face (made s past g) (link_calls past g) (if d == g then block.Ask t m ∷ block_calls s past g else block_calls s past g) (event_calls s past g)) is
     ∙ gone_face s past d g (λ calls. block.Ask t k ∷ calls) (λ st. after_ask st t k)
-    (block_asked (made s past d) (link_calls past d) (block_calls s past d) (event_calls past d) t k)
+    (block_asked (made s past d) (link_calls past d) (block_calls s past d) (event_calls s past d) t k)
 
 after_face : (s : Setting) (past : History) (e : Entry) → IsRun s past → IsLegalOn s.limit (readied_on s past e (parts_of s past)) e
     → (g : ℕ) → (parts_of s (e ∷ past)).face g ≡ (changed e (readied_on s past e (parts_of s past))).face g
@@ -259,6 +461,7 @@ after_face s past (Call t home c a w) run legal g = elim (is_done a.code) as (λ
   | true ↦ λ on. called_face s past t home c a w run on legal g
   | false ↦ λ off. refused_face s past t home c a w off g
 ] refl
+after_face s past (Deliver m c) run legal g = delivered_face s past m.what c g run legal
 after_face s past (Acquire t d) run legal g = acquired_face s past t d g _ (mode_is s past t _ legal.next) legal.taken
 after_face s past (Wait t d) run legal g = waited_face s past t d g _ (mode_is s past t _ legal.next)
 after_face s past (Free t d w) run legal g = ended_face s past t d w g run legal.held
@@ -359,10 +562,13 @@ called_core s past t home (call.EventCreateParams k fl gen sat deps) a w on lega
 called_core s past t home (call.EdtCreate from pc ps dc ds fl o) a w on legal u = rw on (
     chosen_core (a.value == u) (edt_from (made s past from) ps dc) (made s past u) u (edt_calls s past u) (loans_of s past u)
     ∙ at_same (λ (k : ℕ). core (edt_from (made s past from) ps dc) k [] []) (λ (k : ℕ). new_core ((parts_of s past).face from) k ps) a.value u ((parts_of s past).core u)
-    (edt_core (made s past from) a.value ps dc (link_calls past from) (block_calls s past from) (event_calls past from)))
+    (edt_core (made s past from) a.value ps dc (link_calls past from) (block_calls s past from) (event_calls s past from))
+    ∙ sym (deps_core a.value 0 ds (with_core (with_face (parts_of s past) a.value (new_face ((parts_of s past).face from) dc ds)) a.value (new_core ((parts_of s past).face from) a.value ps)) u))
 called_core s past t home (call.DbCreate n fl) a w on legal u = rw on (
     chosen_core (a.value == u) (Some (MadeBlock _ _)) (made s past u) u (held_calls ((t == u) && (fl == 0)) a.value (edt_calls s past u)) (held_loans ((t == u) && (fl == 0)) a.value (n / 8) (loans_of s past u))
     ∙ created_core s past t (n / 8) fl a u on legal.value legal.running)
+called_core s past t home (call.AddDependence from x i m) a w on legal u =
+    sym (linked_core (not (from == 0)) from (target_of (is_edt_face ((parts_of s past).face x)) x i) (with_face (parts_of s past) x (with_links ((parts_of s past).face x) (λ slots. after_link slots i (mode_named m)))) u)
 called_core s past t home (call.DbRelease d) a w on legal u = rw on (dropped_core s past t d u legal.running)
 called_core s past t home (call.DbDestroy d) a w on legal u = rw on (dropped_core s past t d u legal.running)
 called_core s past t home other a w on legal u = refl
@@ -402,8 +608,8 @@ acquired_core : (s : Setting) (past : History) (t d u : ℕ) (k : Mode) → next
     ≡ (if t == u then on_core ((readied_parts s past t).core t) (acquiring_core d k (size_on ((parts_of s past).face d)) (words_on ((parts_of s past).face d))) else (readied_parts s past t).core u)
 acquired_core s past t d u k next is taken =
     let here : Part = (parts_of s past).face d in
-    let words : contents_of s past d ≡ words_on here = sym (words_are (made s past d) (link_calls past d) (block_calls s past d) (event_calls past d) t k taken) in
-    let size : size_in (made s past d) ≡ size_on here = sym (size_is (made s past d) (link_calls past d) (block_calls s past d) (event_calls past d)) in
+    let words : contents_of s past d ≡ words_on here = sym (words_are (made s past d) (link_calls past d) (block_calls s past d) (event_calls s past d) t k taken) in
+    let size : size_in (made s past d) ≡ size_on here = sym (size_is (made s past d) (link_calls past d) (block_calls s past d) (event_calls s past d)) in
     let members : ℕ → List edt.EdtCall = λ j. with_plan (plan_of s past j) (edt_calls s past j) in
     core_if (t == u) (made s past u) u (edt.Acquired d ∷ awake (members u)) (edt_calls s past u) ((d, kept_now s past t d) ∷ loans_of s past u) (loans_of s past u)
     ∙ (λ i. if t == u then core (made s past u) u (edt.Acquired d ∷ awake (members u)) ((d, kept_of (is i) (size i) (words i)) ∷ loans_of s past u) else (parts_of s past).core u)
@@ -414,12 +620,17 @@ acquired_core s past t d u k next is taken =
 ready_acquiring : (s : Setting) (past : History) (t : ℕ) → is_acquiring ((readied_parts s past t).core t) ≡ true → is_acquiring (on_core ((parts_of s past).core t) (with_phase (made_ready (plan_of s past t)))) ≡ true
 ready_acquiring s past t is = ap is_acquiring (sym (ready_core s past t)) ∙ is
 
+delivered_core : (s : Setting) (past : History) (w : What) (c : Code) (u : ℕ) → (parts_of s past).core u ≡ (if is_done c then brought w (parts_of s past) else parts_of s past).core u
+delivered_core s past (what.Satisfy e i p) c u = elim (is_done c) as (λ b. (parts_of s past).core u ≡ (if b then brought (what.Satisfy e i p) (parts_of s past) else parts_of s past).core u) [ true ↦ refl | false ↦ refl ]
+delivered_core s past other c u = elim (is_done c) as (λ b. (parts_of s past).core u ≡ (if b then parts_of s past else parts_of s past).core u) [ true ↦ refl | false ↦ refl ]
+
 after_core : (s : Setting) (past : History) (e : Entry) → IsLegalOn s.limit (readied_on s past e (parts_of s past)) e
     → (u : ℕ) → (parts_of s (e ∷ past)).core u ≡ (changed e (readied_on s past e (parts_of s past))).core u
 after_core s past (Call t home c a w) legal u = elim (is_done a.code) as (λ b. is_done a.code ≡ b → (parts_of s (Call t home c a w ∷ past)).core u ≡ (if b then called t c a w (parts_of s past) else parts_of s past).core u) [
   | true ↦ λ on. called_core s past t home c a w on legal u
   | false ↦ λ off. refused_core s past t home c a w off u
 ] refl
+after_core s past (Deliver m c) legal u = delivered_core s past m.what c u
 after_core s past (Acquire t d) legal u = acquired_core s past t d u _ legal.next (mode_is s past t _ legal.next) legal.taken
 after_core s past (Wait t d) legal u =
     calls_if (t == u) (made s past u) u (edt.Wait ∷ with_plan (plan_of s past u) (edt_calls s past u)) (edt_calls s past u) (loans_of s past u)

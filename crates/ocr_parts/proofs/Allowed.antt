@@ -135,19 +135,19 @@ called_are s past t home (call.DbRelease b) a w d legal are =
     are_if (is_done a.code && (b == d)) (made s past d) (end_calls t w (block_calls s past d)) (block_calls s past d)
     (λ here. let e : b ≡ d = eqb-true b d (second_of (is_done a.code) (b == d) here) in
     subst (λ (n : ℕ). Are (made s past n) (block_calls s past n) → Are (made s past n) (end_calls t w (block_calls s past n))) e
-    (end_are (made s past b) (link_calls past b) (block_calls s past b) (event_calls past b) t w _ _ (legal.value.0 (first_of (is_done a.code) (b == d) here))) are) are
+    (end_are (made s past b) (link_calls past b) (block_calls s past b) (event_calls s past b) t w _ _ (legal.value.0 (first_of (is_done a.code) (b == d) here))) are) are
 called_are s past t home (call.DbDestroy b) a w d legal are =
     are_if (is_done a.code && (b == d)) (made s past d) (doom_calls t w (block_calls s past d)) (block_calls s past d)
     (λ here. let e : b ≡ d = eqb-true b d (second_of (is_done a.code) (b == d) here) in
     let on : is_done a.code ≡ true = first_of (is_done a.code) (b == d) here in
     subst (λ (n : ℕ). Are (made s past n) (block_calls s past n) → Are (made s past n) (doom_calls t w (block_calls s past n))) e
-    (doom_are (made s past b) (link_calls past b) (block_calls s past b) (event_calls past b) t w _ _ (legal.value.0 on)
+    (doom_are (made s past b) (link_calls past b) (block_calls s past b) (event_calls s past b) t w _ _ (legal.value.0 on)
     (no_other (is_destroyed ((parts_of s past).face b)) (not_stale t (parts_of s past).face (call.DbDestroy b) (sym legal.code ∙ done_is a.code on)))) are) are
 called_are s past t home (call.Store b k v) a w d legal are =
     are_if (is_done a.code && (b == d)) (made s past d) (block.Store k v ∷ block_calls s past d) (block_calls s past d)
     (λ here. let e : b ≡ d = eqb-true b d (second_of (is_done a.code) (b == d) here) in
     subst (λ (n : ℕ). Are (made s past n) (block_calls s past n) → Are (made s past n) (block.Store k v ∷ block_calls s past n)) e
-    (store_are (made s past b) (link_calls past b) (block_calls s past b) (event_calls past b) t k v _ legal.value.0) are) are
+    (store_are (made s past b) (link_calls past b) (block_calls s past b) (event_calls s past b) t k v _ legal.value.0) are) are
 called_are s past t home (call.EventCreate k fl) a w d legal are = new_are (makes a d) _ (made s past d) (block_calls s past d) are
 called_are s past t home (call.EventCreateParams k fl gen sat deps) a w d legal are = new_are (makes a d) _ (made s past d) (block_calls s past d) are
 called_are s past t home other a w d legal are = are
@@ -159,20 +159,20 @@ allowed_law s (Acquire t b ∷ past) run d =
     let m = mode_next (next_member s past t) in
     are_if (b == d) (made s past d) (lend_calls t m (ask_calls t m (creator_in (made s past d)) (block_calls s past d))) (block_calls s past d)
     (λ here. subst (λ (n : ℕ). Are (made s past n) (block_calls s past n) → Are (made s past n) (lend_calls t m (ask_calls t m (creator_in (made s past n)) (block_calls s past n)))) (eqb-true b d here)
-    (taken_are (made s past b) (link_calls past b) (block_calls s past b) (event_calls past b) t m
+    (taken_are (made s past b) (link_calls past b) (block_calls s past b) (event_calls s past b) t m
     (subst (λ (k : Mode). IsBlock ((parts_of s past).face b) (IsTaken t k)) (sym (mode_is s past t _ run.1.on_parts.next)) run.1.on_parts.taken)) (allowed_law s past run.0 d))
     (allowed_law s past run.0 d)
 allowed_law s (Wait t b ∷ past) run d =
     let m = mode_next (next_member s past t) in
     are_if (b == d) (made s past d) (block.Ask t m ∷ block_calls s past d) (block_calls s past d)
     (λ here. subst (λ (n : ℕ). Are (made s past n) (block_calls s past n) → Are (made s past n) (block.Ask t m ∷ block_calls s past n)) (eqb-true b d here)
-    (refused_are (made s past b) (link_calls past b) (block_calls s past b) (event_calls past b) t m
+    (refused_are (made s past b) (link_calls past b) (block_calls s past b) (event_calls s past b) t m
     (subst (λ (k : Mode). IsBlock ((parts_of s past).face b) (IsRefused t k)) (sym (mode_is s past t _ run.1.on_parts.next)) run.1.on_parts.refused)) (allowed_law s past run.0 d))
     (allowed_law s past run.0 d)
 allowed_law s (Free t b w ∷ past) run d =
     are_if (b == d) (made s past d) (end_calls t w (block_calls s past d)) (block_calls s past d)
     (λ here. subst (λ (n : ℕ). Are (made s past n) (block_calls s past n) → Are (made s past n) (end_calls t w (block_calls s past n))) (eqb-true b d here)
-    (end_are (made s past b) (link_calls past b) (block_calls s past b) (event_calls past b) t w _ _ run.1.on_parts.held) (allowed_law s past run.0 d))
+    (end_are (made s past b) (link_calls past b) (block_calls s past b) (event_calls s past b) t w _ _ run.1.on_parts.held) (allowed_law s past run.0 d))
     (allowed_law s past run.0 d)
 allowed_law s (e ∷ past) run d = allowed_law s past run.0 d
 

@@ -9,6 +9,15 @@ pub or_right : (b : Bool) → (b || true) ≡ true
 or_right true = refl
 or_right false = refl
 
+-- of two that do not hold
+pub or_left : (b c : Bool) → (b || c) ≡ false → b ≡ false
+or_left true c is = cc is
+or_left false c is = refl
+
+pub or_rest : (b c : Bool) → (b || c) ≡ false → c ≡ false
+or_rest true c is = cc is
+or_rest false c is = is
+
 pub left : (n : ℕ) (b : Bool) → ((n == n) || b) ≡ true
 left n b = rw (same n) refl
 

@@ -1,5 +1,5 @@
 -- What an EDT holds after its call.
-use Rattle.std.proofs.Common.{◌≡◌, ℕ, ◌/◌, List, [], Bool, true, false, Option, Some, None, ◌==◌, if◌then◌else◌, refl, sym, ◌∙◌, ap, subst, is_some, inl, inr}
+use Rattle.std.proofs.Common.{◌≡◌, ℕ, ◌/◌, not, List, [], Bool, true, false, Option, Some, None, ◌==◌, if◌then◌else◌, refl, sym, ◌∙◌, ap, subst, is_some, inl, inr}
 use Rattle.std.proofs.lemmas.Bool.{eqb-true}
 use Rattle.std.proofs.lemmas.Bool.Decides.{eqb_tells}
 use Rattle.ocr_base.proofs.Booleans.{eqb_flips}
@@ -17,10 +17,11 @@ use Rattle.ocr_parts.specs.declared.part.Part.{Part}
 use Rattle.ocr_parts.specs.declared.part.Part.TheVariants as part
 use Rattle.ocr_parts.proofs.Choices.{same}
 use Rattle.ocr_parts.proofs.Lent.{loan_kept}
+use Rattle.ocr_parts.proofs.After.{linked_core, deps_core}
 use Rattle.ocr_acquire.specs.Mode.{mode_in}
 use Rattle.ocr_meaning.specs.Holds.{after_call, creator_hold, is_done, with_hold}
 use Rattle.ocr_parts.specs.Bodies.{hold_of, holds_on}
-use Rattle.ocr_parts.specs.Effects.{called, dropped_edt, dropping_core, holding_core, holding_edt}
+use Rattle.ocr_parts.specs.Effects.{with_face, with_core, new_face, new_core, called, dropped_edt, dropping_core, holding_core, holding_edt}
 use Rattle.ocr_parts.specs.Kinds.{holds_of, is_running, kept_on, mode_on, on_core, work_in}
 use Rattle.ocr_parts.specs.Laws.{HoldsLaw}
 use Rattle.ocr_parts.specs.LegalOn.{IsCallOn}
@@ -122,9 +123,12 @@ done_held limit f t home (call.DbCreate n fl) a w legal on d =
       | true ↦ (λ i. hold_of (core_held_mode (f.core t) a.value (n / 8) d legal.running i) (core_held_kept (f.core t) a.value (n / 8) d legal.running i)) ∙ created_hold (a.value == d) (n / 8) (mode_on (f.core t) d) (kept_on (f.core t) d)
       | false ↦ ap (λ (x : Part). hold_of (mode_on x d) (kept_on x d)) (same_core (f.core t))
     ])
+done_held limit f t home (call.AddDependence from x i m) a w legal on d = rw on (ap (λ (y : Part). hold_of (mode_on y d) (kept_on y d)) (linked_core (not (from == 0)) from _ _ t))
 done_held limit f t home (call.EdtCreate from pc params dc deps flags output) a w legal on d =
     let apart : (a.value == t) ≡ false = other_number f t a (legal.value.no_core on) legal.running in
-    rw (on, apart) refl
+    let new : Parts = with_core (with_face f a.value (new_face (f.face from) dc deps)) a.value (new_core (f.face from) a.value params) in
+    let same_there : new.core t ≡ f.core t = rw apart refl in
+    rw on (ap (λ (y : Part). hold_of (mode_on y d) (kept_on y d)) (deps_core a.value 0 deps new t ∙ same_there))
 done_held limit f t home other a w legal on d = rw on refl
 
 pub holds_law : HoldsLaw

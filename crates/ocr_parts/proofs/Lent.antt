@@ -137,7 +137,7 @@ fresh_edt : (s : Setting) (past : History) (a : Answer) (t : ℕ) → IsNamed s.
 fresh_edt s past a t named is =
     let e : a.value ≡ t = eqb-true a.value t (second_of (is_done a.code) (a.value == t) is) in
     subst (λ (g : ℕ). is_edt_made (made s past g) ≡ false) e
-    (no_edt (made s past a.value) (link_calls past a.value) (block_calls s past a.value) (event_calls past a.value) (named.fresh (first_of (is_done a.code) (a.value == t) is)).vacant)
+    (no_edt (made s past a.value) (link_calls past a.value) (block_calls s past a.value) (event_calls s past a.value) (named.fresh (first_of (is_done a.code) (a.value == t) is)).vacant)
 
 shared_not_lent : (m : Option Made) (links : List slot.SlotCall) (blocks : List block.BlockCall) (events : List EventCall) (t k : ℕ) (mo : Option Mode) → IsBlock (face m links blocks events) (IsShared t k mo) → block.borrower_of blocks ≡ None
 shared_not_lent (Some (MadeBlock n c)) links blocks events t k mo h = h.not_lent
@@ -204,7 +204,7 @@ called_fit s past u home (call.Store b k v) a w d t legal fit is =
     (λ here borrowed.
     let e : b ≡ d = eqb-true b d (second_of (is_done a.code) (b == d) here) in
     let none : block.borrower_of blocks ≡ None = subst (λ (n : ℕ). block.borrower_of (block_calls s past n) ≡ None) e
-    (shared_not_lent (made s past b) (link_calls past b) (block_calls s past b) (event_calls past b) u k _ legal.0) in
+    (shared_not_lent (made s past b) (link_calls past b) (block_calls s past b) (event_calls s past b) u k _ legal.0) in
     cc)
     (λ _ borrowed. fit borrowed) is
 called_fit s past u home (call.EventCreate k fl) a w d t legal fit is =
@@ -223,7 +223,7 @@ acquired_fit s past u b d t k taken edt fit is =
     (λ here borrowed.
     let e : b ≡ d = eqb-true b d here in
     let none : block.borrower_of blocks ≡ None = subst (λ (n : ℕ). block.borrower_of (block_calls s past n) ≡ None) e
-    (taken_not_lent (made s past b) (link_calls past b) (block_calls s past b) (event_calls past b) u k taken) in
+    (taken_not_lent (made s past b) (link_calls past b) (block_calls s past b) (event_calls s past b) u k taken) in
     subst (λ (n : ℕ). IsFit (made s past d) (lend_calls u m (ask_calls u m (creator_in (made s past d)) blocks)) (if u == t then (n, kept_of m (size_in (made s past n)) (contents_of s past n)) ∷ loans else loans) (made s past t) d) (sym e)
     (granted_fit (made s past d) (creator_in (made s past d)) blocks loans (made s past t) u d t m none edt borrowed))
     (λ apart borrowed. (loan_past (u == t) (kept_of m (size_in (made s past b)) (contents_of s past b)) b d loans apart ∙ (fit borrowed).0, (fit borrowed).1)) is

@@ -3,6 +3,7 @@ pub mod Allowed
 pub mod Awaited
 pub mod Blocks
 pub mod Choices
+pub mod Counted
 pub mod Held
 pub mod Keeping
 pub mod Lent

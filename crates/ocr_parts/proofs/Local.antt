@@ -1,5 +1,5 @@
 -- What an entry does, and whether it is legal, rests on the parts that it names.
-use Rattle.std.proofs.Common.{◌≡◌, ℕ, ◌/◌, List, [], ◌∷◌, Bool, true, false, Option, Some, None, ◌==◌, ◌||◌, ◌&&◌, if◌then◌else◌, refl, sym, ◌∙◌, ap, subst, is_some}
+use Rattle.std.proofs.Common.{◌≡◌, ℕ, ◌/◌, List, [], ◌∷◌, Bool, true, false, Option, Some, None, ◌==◌, ◌||◌, ◌&&◌, not, ◌++◌, ◌+◌, if◌then◌else◌, refl, sym, ◌∙◌, ap, subst, is_some}
 use Rattle.ocr_guid.specs.declared.Code.TheVariants as code
 use Rattle.ocr_datablock.specs.Block as block
 use Rattle.ocr_datablock.specs.Lent.{Loan}
@@ -11,21 +11,26 @@ use Rattle.ocr_history.specs.declared.entry.Entry.{Entry}
 use Rattle.ocr_history.specs.declared.entry.Entry.TheVariants.{Call, Deliver, Acquire, Wait, StaleAcquire, Start, Free, End, Stop}
 use Rattle.ocr_parts.specs.declared.part.Part.{Part}
 use Rattle.ocr_parts.specs.declared.part.Part.TheVariants as part
-use Rattle.ocr_parts.specs.Calls.{mode_next, mode_named}
+use Rattle.ocr_parts.specs.Calls.{is_given, is_object, slot_target, target_of, mode_next, mode_named}
 use Rattle.ocr_parts.specs.Parts.{Parts, core, face}
-use Rattle.ocr_parts.specs.Codes.{is_any, release_code, dependence_code, Sort, creation_code, is_its_own, is_missing, is_of_other_kind, is_refused_as_stale, number_code, wanted}
-use Rattle.ocr_parts.specs.Effects.{with_phase, next_on, granted, hold_ended, dropping_core, acquiring_core, waiting_edt, started_edt, ended_edt, new_face, new_core, ended, called, settled, settled_parts, creating_core, awoken, doomed_template, stale_edt}
-use Rattle.ocr_parts.specs.LegalOn.{IsShared, IsTaken, IsRefused, IsLoanBack, IsHeld, IsEnding, IsNamed, IsAnswered, IsLegalOn, IsLoaded, IsAgreed, IsDooming}
-use Rattle.ocr_parts.specs.Messages.{resumed_by, resumes, resumed_by_doom}
-use Rattle.ocr_parts.specs.Footprint.{names_face, makes_core, on_face, on_core_of, IsAlike, is_wanted}
+use Rattle.ocr_parts.specs.Codes.{Source, satisfy_code, brings_block, wanted_sources, is_any, release_code, dependence_code, Sort, creation_code, is_its_own, is_missing, is_of_other_kind, is_refused_as_stale, number_code, wanted}
+use Rattle.ocr_parts.specs.Effects.{with_face, linked_if, brought, with_phase, next_on, granted, hold_ended, dropping_core, acquiring_core, waiting_edt, started_edt, ended_edt, new_face, new_core, ended, called, settled, settled_parts, creating_core, awoken, doomed_template, stale_edt}
+use Rattle.ocr_parts.specs.LegalOn.{IsSatisfiable, delivery_code, IsDeliverOn, IsShared, IsTaken, IsRefused, IsLoanBack, IsHeld, IsEnding, IsNamed, IsAnswered, IsLegalOn, IsLoaded, IsAgreed, IsDooming}
+use Rattle.ocr_parts.specs.Messages.{what_to, satisfied, linked, linked_by, dep_sends, sent_by, sent_by_message, resumed_by, resumes, resumed_by_doom}
+use Rattle.ocr_parts.specs.Footprint.{is_brought_to, names_face, makes_core, on_face, on_core_of, IsAlike, is_wanted}
 use Rattle.ocr_parts.specs.Laws.{EffectLaw, CodeLaw, LegalityLaw, SettledLegalLaw}
 use Rattle.ocr_parts.proofs.Choices.{same, or_right, left, right, chosen}
 use Rattle.ocr_acquire.specs.Mode.{mode_in}
 use Rattle.ocr_datablock.specs.Steps.{after_ask, after_release, after_store, after_doom}
 use Rattle.ocr_history.specs.History.{own}
 use Rattle.ocr_meaning.specs.Holds.{is_done}
-use Rattle.ocr_parts.specs.Kinds.{IsBlock, core_progress, holds_of, is_acquiring, loan_on, mode_on, next_in, on_core, size_on, with_block, with_links, words_on, work_of, with_template, with_event}
-use Rattle.ocr_any_event.specs.AnyEvent.{after_destroy}
+use Rattle.ocr_parts.specs.Kinds.{is_block, is_edt_face, IsBlock, core_progress, holds_of, is_acquiring, loan_on, mode_on, next_in, on_core, size_on, with_block, with_links, words_on, work_of, with_template, with_event}
+use Rattle.ocr_any_event.specs.AnyEvent as event
+use Rattle.ocr_guid.specs.declared.target.Target.{Target as Reached}
+use Rattle.ocr_guid.specs.declared.Code.{Code}
+use Rattle.ocr_history.specs.declared.entry.What.{What}
+use Rattle.ocr_history.specs.declared.entry.What.TheVariants as what
+use Rattle.ocr_parts.proofs.After.{dep_fold, deps_face, deps_core, linked_core, named_dep}
 use Rattle.ocr_parts.specs.Loans.{kept_in, loan_in, settled_loan, settled_loans}
 use Rattle.ocr_parts.specs.declared.loans.Kept.{Kept}
 use Rattle.ocr_slots.specs.Steps.{after_link}
@@ -33,6 +38,14 @@ use Rattle.ocr_slots.specs.Steps.{after_link}
 -- what a call wants first is named
 first : (n : ℕ) (b c : Bool) → (((n == n) || b) || c) ≡ true
 first n b c = rw (same n) refl
+
+-- and so is what stands behind it
+second : (b c : Bool) → ((b || true) || c) ≡ true
+second b c = rw (or_right b) refl
+
+-- the source of a dependence is named, where it is not NULL_GUID
+source_named : (from x i m : ℕ) (a : Answer) → (from == 0) ≡ false → names_face (call.AddDependence from x i m) a from ≡ true
+source_named from x i m a some = rw (some, same from) (second (x == from) false)
 
 -- EFFECTS
 called_faces : (t : ℕ) (c : body.Call) (a : Answer) (w : List (ℕ × ℕ)) (f h : Parts) → ((g : ℕ) → names_face c a g ≡ true → f.face g ≡ h.face g) → f.core t ≡ h.core t → (b : Bool) (g : ℕ) → f.face g ≡ h.face g
@@ -46,13 +59,23 @@ called_faces t (call.DbDestroy d) a w f h alike own true g here =
 called_faces t (call.TemplateDestroy x) a w f h alike own true g here = chosen (x == g) _ _ _ _ (ap (λ (y : Part). with_template y doomed_template) (alike x (first x _ _))) here
 called_faces t (call.Store d k v) a w f h alike own true g here = chosen (d == g) _ _ _ _ (ap (λ (x : Part). with_block x (λ st. after_store st k v)) (alike d (first d _ _))) here
 called_faces t (call.AddDependence from x i m) a w f h alike own true g here =
-    chosen (x == g) _ _ _ _ (ap (λ (y : Part). with_links y (λ slots. after_link slots i (mode_named m))) (alike x (first x _ _))) here
+    let face_x : f.face x ≡ h.face x = alike x (first x _ _) in
+    let linked : (x == g) ≡ (x == g) → (if x == g then with_links (f.face x) (λ slots. after_link slots i (mode_named m)) else f.face g) ≡ (if x == g then with_links (h.face x) (λ slots. after_link slots i (mode_named m)) else h.face g) =
+    λ _. chosen (x == g) _ _ _ _ (ap (λ (y : Part). with_links y (λ slots. after_link slots i (mode_named m))) face_x) here in
+    elim (from == 0) as (λ b. (b ≡ false → f.face from ≡ h.face from) → (linked_if (not b) from (target_of (is_edt_face (f.face x)) x i) (with_face f x (with_links (f.face x) (λ slots. after_link slots i (mode_named m))))).face g
+    ≡ (linked_if (not b) from (target_of (is_edt_face (h.face x)) x i) (with_face h x (with_links (h.face x) (λ slots. after_link slots i (mode_named m))))).face g) [
+      | true ↦ λ _. linked refl
+      | false ↦ λ is. chosen (from == g) _ _ _ _ (λ j. with_event (if x == from then with_links (face_x j) (λ slots. after_link slots i (mode_named m)) else is refl j) (λ st. event.after_link st (target_of (is_edt_face (face_x j)) x i))) (linked refl)
+    ] (λ some. alike from (source_named from x i m a some))
+called_faces t (call.Satisfy e p slot) a w f h alike own true g here = chosen (e == g) _ _ _ _ (ap (λ (y : Part). with_event y (λ st. event.after_satisfy st slot p)) (alike e (first e _ _))) here
 called_faces t (call.EventCreate k fl) a w f h alike own true g here = chosen (a.value == g) _ _ _ _ refl here
 called_faces t (call.EventCreateParams k fl most sats deps) a w f h alike own true g here = chosen (a.value == g) _ _ _ _ refl here
-called_faces t (call.EventDestroy x) a w f h alike own true g here = chosen (x == g) _ _ _ _ (ap (λ (y : Part). with_event y after_destroy) (alike x (first x _ _))) here
+called_faces t (call.EventDestroy x) a w f h alike own true g here = chosen (x == g) _ _ _ _ (ap (λ (y : Part). with_event y event.after_destroy) (alike x (first x _ _))) here
 called_faces t (call.TemplateCreate function pc dc) a w f h alike own true g here = chosen (a.value == g) _ _ _ _ refl here
 called_faces t (call.EdtCreate from pc params dc deps flags output) a w f h alike own true g here =
-    chosen (a.value == g) _ _ _ _ (ap (λ (x : Part). new_face x dc deps) (alike from (first from _ _))) here
+    deps_face a.value 0 deps _ g
+    ∙ ap (dep_fold a.value 0 g deps) (chosen (a.value == g) _ _ _ _ (ap (λ (x : Part). new_face x dc deps) (alike from (first from _ _))) here)
+    ∙ sym (deps_face a.value 0 deps _ g)
 called_faces t other a w f h alike own true g here = here
 
 called_cores : (t : ℕ) (c : body.Call) (a : Answer) (w : List (ℕ × ℕ)) (f h : Parts) → ((g : ℕ) → names_face c a g ≡ true → f.face g ≡ h.face g) → f.core t ≡ h.core t → (b : Bool) (u : ℕ) → f.core u ≡ h.core u
@@ -62,7 +85,12 @@ called_cores t (call.DbCreate n fl) a w f h alike own true u here = chosen (t ==
 called_cores t (call.DbRelease d) a w f h alike own true u here = chosen (t == u) _ _ _ _ (ap (λ (x : Part). on_core x (dropping_core d)) own) here
 called_cores t (call.DbDestroy d) a w f h alike own true u here = chosen (t == u) _ _ _ _ (ap (λ (x : Part). on_core x (dropping_core d)) own) here
 called_cores t (call.EdtCreate from pc params dc deps flags output) a w f h alike own true u here =
-    chosen (a.value == u) _ _ _ _ (ap (λ (x : Part). new_core x a.value params) (alike from (first from _ _))) here
+    deps_core a.value 0 deps _ u
+    ∙ chosen (a.value == u) _ _ _ _ (ap (λ (x : Part). new_core x a.value params) (alike from (first from _ _))) here
+    ∙ sym (deps_core a.value 0 deps _ u)
+called_cores t (call.AddDependence from x i m) a w f h alike own true u here =
+    linked_core (not (from == 0)) from (target_of (is_edt_face (f.face x)) x i) _ u ∙ here
+    ∙ sym (linked_core (not (from == 0)) from (target_of (is_edt_face (h.face x)) x i) _ u)
 called_cores t other a w f h alike own true u here = here
 
 called_resumes : (t home : ℕ) (c : body.Call) (a : Answer) (w : List (ℕ × ℕ)) (f h : Parts) → ((g : ℕ) → names_face c a g ≡ true → f.face g ≡ h.face g)
@@ -78,6 +106,53 @@ ended_alike e f h t d w face core alike = record {
   cores = λ u on. chosen (t == u) _ _ _ _ (ap (λ (x : Part). on_core x (dropping_core d)) core) (alike.cores u on);
 }
 
+-- MESSAGES
+pub named_source : (g : ℕ) (ds : List ℕ) → named_dep g ds ≡ true → is_wanted g (wanted_sources ds) ≡ true
+named_source g [] on = cc on
+named_source g (d ∷ rest) on = elim (is_object d) as (λ b. ((b && (d == g)) || named_dep g rest) ≡ true → is_wanted g (if b then (d, Source) ∷ wanted_sources rest else wanted_sources rest) ≡ true) [
+  | true ↦ elim (d == g) as (λ b. (b || named_dep g rest) ≡ true → (b || is_wanted g (wanted_sources rest)) ≡ true) [ true ↦ λ _. refl | false ↦ λ on. named_source g rest on ]
+  | false ↦ λ on. named_source g rest on
+] on
+
+deps_alike : (t k : ℕ) (ds : List ℕ) (f h : Parts) → ((g : ℕ) → named_dep g ds ≡ true → f.face g ≡ h.face g) → dep_sends t k ds f ≡ dep_sends t k ds h
+deps_alike t k [] f h alike = refl
+deps_alike t k (d ∷ rest) f h alike =
+    let to : Reached = slot_target t k in
+    elim (is_object d) as (λ b. ((g : ℕ) → ((b && (d == g)) || named_dep g rest) ≡ true → f.face g ≡ h.face g)
+    → ((if is_given d then linked_by b d to f else []) ++ dep_sends t (k + 1) rest (linked_if b d to f)) ≡ ((if is_given d then linked_by b d to h else []) ++ dep_sends t (k + 1) rest (linked_if b d to h))) [
+      | true ↦ λ alike.
+          let here : f.face d ≡ h.face d = alike d (left d _) in
+          (λ j. (if is_given d then linked (here j) d to else []) ++ deps_alike t (k + 1) rest (linked_if true d to f) (linked_if true d to h)
+          (λ g on. chosen (d == g) _ _ _ _ (ap (λ (x : Part). with_event x (λ st. event.after_link st to)) here) (alike g (rw on (or_right (d == g))))) j)
+      | false ↦ λ alike. ap (λ (l : List What). (if is_given d then what_to (d, to) ∷ [] else []) ++ l) (deps_alike t (k + 1) rest f h alike)
+    ] alike
+
+sent_alike : (c : body.Call) (a : Answer) (f h : Parts) → ((g : ℕ) → names_face c a g ≡ true → f.face g ≡ h.face g) → sent_by c a f ≡ sent_by c a h
+sent_alike (call.Satisfy e p slot) a f h alike = ap (λ (x : Part). satisfied x slot p) (alike e (first e _ _))
+sent_alike (call.AddDependence from x i m) a f h alike =
+    let face_x : f.face x ≡ h.face x = alike x (first x _ _) in
+    elim (from == 0) as (λ b. (b ≡ false → f.face from ≡ h.face from) → linked_by (not b) from (target_of (is_edt_face (f.face x)) x i) f ≡ linked_by (not b) from (target_of (is_edt_face (h.face x)) x i) h) [
+      | true ↦ λ _. ap (λ (y : Part). what_to (from, target_of (is_edt_face y) x i) ∷ []) face_x
+      | false ↦ λ is. (λ j. linked (is refl j) from (target_of (is_edt_face (face_x j)) x i))
+    ] (λ some. alike from (source_named from x i m a some))
+sent_alike (call.EdtCreate from pc ps dc ds fl o) a f h alike = deps_alike a.value 0 ds f h (λ g on. alike g (let there = named_source g ds on in rw there (second (from == g) _)))
+sent_alike other a f h alike = refl
+
+-- a message
+brought_faces : (w : What) (f h : Parts) → ((g : ℕ) → is_brought_to w g ≡ true → f.face g ≡ h.face g) → (b : Bool) (g : ℕ) → f.face g ≡ h.face g → (if b then brought w f else f).face g ≡ (if b then brought w h else h).face g
+brought_faces w f h alike false g here = here
+brought_faces (what.Satisfy e i p) f h alike true g here = chosen (e == g) _ _ _ _ (ap (λ (x : Part). with_event x (λ st. event.after_satisfy st i p)) (alike e (same e))) here
+brought_faces other f h alike true g here = here
+
+brought_cores : (w : What) (f h : Parts) (b : Bool) (u : ℕ) → f.core u ≡ h.core u → (if b then brought w f else f).core u ≡ (if b then brought w h else h).core u
+brought_cores w f h false u here = here
+brought_cores (what.Satisfy e i p) f h true u here = here
+brought_cores other f h true u here = here
+
+brought_sends : (w : What) (f h : Parts) → ((g : ℕ) → is_brought_to w g ≡ true → f.face g ≡ h.face g) → sent_by_message w f ≡ sent_by_message w h
+brought_sends (what.Satisfy e i p) f h alike = ap (λ (x : Part). satisfied x i p) (alike e (same e))
+brought_sends other f h alike = refl
+
 pub effect_law : EffectLaw
 effect_law (Call t home c a w) f h alike =
     let own : f.core t ≡ h.core t = alike.cores t (left t (makes_core c && (a.value == t))) in (
@@ -85,7 +160,7 @@ effect_law (Call t home c a w) f h alike =
         faces = λ g on. called_faces t c a w f h alike.faces own (is_done a.code) g (alike.faces g on);
         cores = λ u on. called_cores t c a w f h alike.faces own (is_done a.code) u (alike.cores u on);
       },
-      refl,
+      ap (λ (l : List What). if is_done a.code then l else []) (sent_alike c a f h alike.faces),
       called_resumes t home c a w f h alike.faces,
     )
 effect_law (Acquire t d) f h alike =
@@ -125,7 +200,14 @@ effect_law (End t g) f h alike = (
   refl,
   refl,
 )
-effect_law (Deliver m c) f h alike = (alike, refl, refl)
+effect_law (Deliver m c) f h alike = (
+  record {
+    faces = λ g on. brought_faces m.what f h alike.faces (is_done c) g (alike.faces g on);
+    cores = λ u on. brought_cores m.what f h (is_done c) u (alike.cores u on);
+  },
+  ap (λ (l : List What). if is_done c then l else []) (brought_sends m.what f h alike.faces),
+  refl,
+)
 effect_law (StaleAcquire t d) f h alike = (
   record {
     faces = alike.faces;
@@ -144,7 +226,15 @@ any_alike f h test (one ∷ rest) alike = λ j. test one.1 (alike one.0 (left on
 number_alike : (t : ℕ) (c : body.Call) (f h : ℕ → Part) → ((g : ℕ) → is_wanted g (wanted c) ≡ true → f g ≡ h g) → number_code t f c ≡ number_code t h c
 number_alike t (call.DbRelease d) f h alike = ap (λ (x : Part). release_code x t) (alike d (left d false))
 number_alike t (call.EdtCreate from pc params dc deps flags output) f h alike = ap (λ (x : Part). creation_code x pc params dc deps flags) (alike from (left from _))
-number_alike t (call.AddDependence from x i m) f h alike = ap (λ (y : Part). dependence_code y i m) (alike x (left x _))
+number_alike t (call.Satisfy e p slot) f h alike = ap (λ (x : Part). satisfy_code x slot p) (alike e (left e _))
+number_alike t (call.AddDependence from x i m) f h alike =
+    let face_x : f x ≡ h x = alike x (left x _) in
+    let brings : brings_block f from ≡ brings_block h from =
+    elim (from == 0) as (λ b. (b ≡ false → f from ≡ h from) → (not b && is_block (f from)) ≡ (not b && is_block (h from))) [
+      | true ↦ λ _. refl
+      | false ↦ λ is. ap is_block (is refl)
+    ] (λ some. alike from (rw (some, same from) (or_right (x == from)))) in
+    λ j. dependence_code (brings j) (face_x j) i m
 number_alike t other f h alike = refl
 
 pub code_law : CodeLaw
@@ -212,8 +302,14 @@ answered_like limit f h t (call.TemplateDestroy x) a faces cores answered = answ
 answered_like limit f h t (call.EventCreate k fl) a faces cores answered = named_like limit f h a (faces a.value (same a.value)) answered
 answered_like limit f h t (call.EventCreateParams k fl most sats deps) a faces cores answered = named_like limit f h a (faces a.value (same a.value)) answered
 answered_like limit f h t (call.EventDestroy x) a faces cores answered = answered
+answered_like limit f h t (call.Satisfy e p slot) a faces cores answered = answered
 answered_like limit f h t (call.AddDependence from x i m) a faces cores answered = answered
 answered_like limit f h t other a faces cores answered = absurd answered
+
+delivered_like : (w : What) (c : Code) (f h : Parts) → ((g : ℕ) → is_brought_to w g ≡ true → f.face g ≡ h.face g) → IsDeliverOn f w c → IsDeliverOn h w c
+delivered_like (what.Set x i p) c f h faces legal = legal
+delivered_like (what.Satisfy e i p) c f h faces legal = subst (λ (x : Part). IsSatisfiable i x × (c ≡ delivery_code x p)) (faces e (same e)) legal
+delivered_like (what.Leave x) c f h faces legal = absurd legal
 
 legal_like : (limit : ℕ) (e : Entry) (f h : Parts) → ((g : ℕ) → on_face e g ≡ true → f.face g ≡ h.face g) → ((u : ℕ) → on_core_of e u ≡ true → IsLike (f.core u) (h.core u))
     → IsLegalOn limit f e → IsLegalOn limit h e
@@ -253,7 +349,7 @@ legal_like limit (End t g) f h faces cores legal = record {
   running = ap (λ (o : Option Work). is_some o) (sym (cores t (same t)).work) ∙ legal.running;
   nothing_held = ap (λ (o : Option Work). holds_of o) (sym (cores t (same t)).work) ∙ legal.nothing_held;
 }
-legal_like limit (Deliver m c) f h faces cores legal = legal
+legal_like limit (Deliver m c) f h faces cores legal = delivered_like m.what c f h faces legal
 legal_like limit (Stop why) f h faces cores legal = tt
 
 pub legality_law : LegalityLaw

@@ -1,5 +1,9 @@
 -- What was stored in loans is no matter to what an entry does.
-use Rattle.std.proofs.Common.{◌≡◌, ℕ, ◌/◌, List, [], ◌∷◌, Bool, true, false, Option, Some, None, ◌==◌, if◌then◌else◌, refl, sym, ◌∙◌, ap}
+use Rattle.std.proofs.Common.{◌≡◌, ℕ, ◌+◌, ◌/◌, not, List, [], ◌∷◌, Bool, true, false, Option, Some, None, ◌==◌, if◌then◌else◌, refl, sym, ◌∙◌, ap}
+use Rattle.ocr_guid.specs.declared.target.Target.{Target as Reached}
+use Rattle.ocr_history.specs.declared.entry.What.{What}
+use Rattle.ocr_history.specs.declared.entry.What.TheVariants as what
+use Rattle.ocr_slots.specs.Steps.{after_link}
 use Rattle.ocr_acquire.specs.declared.Mode.{Mode}
 use Rattle.ocr_datablock.specs.Block as block
 use Rattle.ocr_datablock.specs.Lent.{Loan, loan_of}
@@ -9,16 +13,16 @@ use Rattle.ocr_meaning.specs.Holds.{is_isolated, is_done}
 use Rattle.ocr_meaning.specs.declared.call.Call as body
 use Rattle.ocr_meaning.specs.declared.call.Call.TheVariants as call
 use Rattle.ocr_meaning.specs.declared.call.Answer.{Answer}
-use Rattle.ocr_history.specs.declared.entry.Entry.TheVariants.{Call, Acquire, Wait, StaleAcquire, Start, Free, End}
+use Rattle.ocr_history.specs.declared.entry.Entry.TheVariants.{Call, Deliver, Acquire, Wait, StaleAcquire, Start, Free, End}
 use Rattle.ocr_parts.specs.declared.part.Core.{Core}
 use Rattle.ocr_parts.specs.declared.part.Part.{Part}
 use Rattle.ocr_parts.specs.declared.part.Part.TheVariants as part
-use Rattle.ocr_parts.specs.Calls.{mode_next}
+use Rattle.ocr_parts.specs.Calls.{is_object, slot_target, target_of, mode_named, mode_next}
 use Rattle.ocr_parts.specs.Parts.{Parts, core, face}
-use Rattle.ocr_parts.specs.Effects.{with_face, with_core, with_phase, next_on, granted, returned, hold_ended, new_core, dropping_core, acquiring_core, waiting_edt, started_edt, ended_edt, ended, called, settled_core, settled, settled_parts, acquired_edt, awoken, core_with, creating_core, holding_core, stale_edt}
+use Rattle.ocr_parts.specs.Effects.{new_face, linked_if, deps_linked, brought, with_face, with_core, with_phase, next_on, granted, returned, hold_ended, new_core, dropping_core, acquiring_core, waiting_edt, started_edt, ended_edt, ended, called, settled_core, settled, settled_parts, acquired_edt, awoken, core_with, creating_core, holding_core, stale_edt}
 use Rattle.ocr_parts.specs.Laws.{SettledLaw}
 use Rattle.ocr_datablock.specs.Steps.{after_ask, after_release, after_doom}
-use Rattle.ocr_parts.specs.Kinds.{core_progress, loan_on, next_in, on_core, size_on, with_block, words_on}
+use Rattle.ocr_parts.specs.Kinds.{is_edt_face, with_links, core_progress, loan_on, next_in, on_core, size_on, with_block, words_on}
 use Rattle.ocr_parts.specs.Loans.{given_loan, kept_in, loan_in, settled_loan, settled_loans, without_kept}
 use Rattle.ocr_parts.specs.declared.loans.Kept.{Kept}
 
@@ -94,14 +98,30 @@ new_settled : (x : Part) (g : ℕ) (params : List ℕ) → settled (new_core x g
 new_settled (part.Template t) g params = refl
 new_settled other g params = refl
 
+settled_linked : (b : Bool) (d : ℕ) (to : Reached) (f : Parts) → settled_parts (linked_if b d to f) ≡ linked_if b d to (settled_parts f)
+settled_linked true d to f = refl
+settled_linked false d to f = refl
+
+settled_deps : (t k : ℕ) (ds : List ℕ) (f : Parts) → settled_parts (deps_linked t k ds f) ≡ deps_linked t k ds (settled_parts f)
+settled_deps t k [] f = refl
+settled_deps t k (d ∷ rest) f = settled_deps t (k + 1) rest (linked_if (is_object d) d (slot_target t k) f) ∙ ap (deps_linked t (k + 1) rest) (settled_linked (is_object d) d (slot_target t k) f)
+
+settled_brought : (w : What) (b : Bool) (f : Parts) → settled_parts (if b then brought w f else f) ≡ (if b then brought w (settled_parts f) else settled_parts f)
+settled_brought w false f = refl
+settled_brought (what.Satisfy e i p) true f = refl
+settled_brought other true f = refl
+
 settled_called : (t : ℕ) (c : body.Call) (a : Answer) (w : List (ℕ × ℕ)) (f : Parts) → settled_parts (called t c a w f) ≡ called t c a w (settled_parts f)
 settled_called t (call.DbCreate n fl) a w f = core_settled (with_face f a.value (part.Block _)) t (creating_core fl a.value (n / 8)) (creating_commutes fl a.value (n / 8))
 settled_called t (call.DbRelease d) a w f = settled_ended after_release f t d w
 settled_called t (call.DbDestroy d) a w f = settled_ended after_doom f t d w
-settled_called t (call.EdtCreate from pc params dc deps flags output) a w f = λ i. record {
-  face = (called t (call.EdtCreate from pc params dc deps flags output) a w f).face;
-  core = λ u. (settled_if (a.value == u) (new_core (f.face from) a.value params) (f.core u) ∙ ap (λ (x : Part). if a.value == u then x else settled (f.core u)) (new_settled (f.face from) a.value params)) i;
-}
+settled_called t (call.AddDependence from x i m) a w f = settled_linked (not (from == 0)) from (target_of (is_edt_face (f.face x)) x i) (with_face f x (with_links (f.face x) (λ slots. after_link slots i (mode_named m))))
+settled_called t (call.EdtCreate from pc params dc deps flags output) a w f =
+    settled_deps a.value 0 deps (with_core (with_face f a.value (new_face (f.face from) dc deps)) a.value (new_core (f.face from) a.value params))
+    ∙ ap (deps_linked a.value 0 deps) (λ i. record {
+      face = (with_face f a.value (new_face (f.face from) dc deps)).face;
+      core = λ u. (settled_if (a.value == u) (new_core (f.face from) a.value params) (f.core u) ∙ ap (λ (x : Part). if a.value == u then x else settled (f.core u)) (new_settled (f.face from) a.value params)) i;
+    })
 settled_called t other a w f = refl
 
 pub settled_law : SettledLaw
@@ -109,6 +129,7 @@ settled_law (Call t home c a w) f = elim (is_done a.code) as (λ b. settled_part
   | true ↦ settled_called t c a w f
   | false ↦ refl
 ]
+settled_law (Deliver m c) f = settled_brought m.what (is_done c) f
 settled_law (Acquire t d) f =
     core_settled (with_face f d (with_block (f.face d) (granted t (mode_next (next_on f t))))) t (acquiring_core d (mode_next (next_on f t)) (size_on (f.face d)) (words_on (f.face d))) (acquiring_commutes d (mode_next (next_on f t)) (size_on (f.face d)) (words_on (f.face d)))
     ∙ ap (λ (o : Option Progress). with_core (with_face (settled_parts f) d (with_block (f.face d) (granted t (mode_next (next_in o))))) t (on_core (settled (f.core t)) (acquiring_core d (mode_next (next_in o)) (size_on (f.face d)) (words_on (f.face d))))) (sym (progress_settled (f.core t)))

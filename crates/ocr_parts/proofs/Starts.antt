@@ -1,5 +1,5 @@
 -- Every EDT starts at most once, and only where every slot is set.
-use Rattle.std.proofs.Common.{◌≡◌, ◌≤◌, ◌⊎◌, inl, inr, ℕ, ◌+◌, ◌/◌, List, [], ◌∷◌, Bool, true, false, ◌==◌, if◌then◌else◌, refl, sym, ◌∙◌, ap, subst, arith}
+use Rattle.std.proofs.Common.{◌≡◌, ◌≤◌, ◌⊎◌, inl, inr, ℕ, ◌+◌, ◌/◌, List, [], ◌∷◌, Bool, true, false, not, ◌==◌, if◌then◌else◌, refl, sym, ◌∙◌, ap, subst, arith}
 use Rattle.std.proofs.lemmas.Bool.{eqb-true}
 use Rattle.ocr_acquire.specs.declared.Mode.{Mode}
 use Rattle.ocr_edt.specs.declared.Edt.{Edt}
@@ -7,18 +7,20 @@ use Rattle.ocr_edt.specs.declared.Edt.TheVariants as phase
 use Rattle.ocr_meaning.specs.declared.call.Call as body
 use Rattle.ocr_meaning.specs.declared.call.Call.TheVariants as call
 use Rattle.ocr_meaning.specs.declared.call.Answer.{Answer}
-use Rattle.ocr_history.specs.declared.entry.Entry.TheVariants.{StaleAcquire, Call, Acquire, Wait, Start, Free, End}
+use Rattle.ocr_history.specs.declared.entry.Entry.TheVariants.{Deliver, StaleAcquire, Call, Acquire, Wait, Start, Free, End}
 use Rattle.ocr_parts.specs.declared.part.Core.{Core}
 use Rattle.ocr_parts.specs.declared.part.Part.TheVariants as part
 use Rattle.ocr_parts.proofs.Choices.{same}
-use Rattle.ocr_parts.proofs.After.{after_law}
+use Rattle.ocr_parts.proofs.After.{after_law, linked_core, deps_core}
+use Rattle.ocr_history.specs.declared.entry.What.{What}
+use Rattle.ocr_history.specs.declared.entry.What.TheVariants as what
 use Rattle.ocr_parts.proofs.Lent.{ready_core}
 use Rattle.ocr_history.specs.Edts.{start_count}
 use Rattle.ocr_history.specs.History.{History, Setting}
 use Rattle.ocr_history.specs.declared.entry.Entry.{Entry}
 use Rattle.ocr_meaning.specs.Holds.{is_done}
 use Rattle.ocr_parts.specs.Calls.{plan_of}
-use Rattle.ocr_parts.specs.Effects.{acquired_edt, acquiring_core, awoken, called, changed, creating_core, dropped_edt, dropping_core, edt_in, ended_edt, holding_core, holding_edt, made_ready, new_core, next_mode_on, readied, ready_at, started_edt, waiting_edt, with_phase, stale_edt}
+use Rattle.ocr_parts.specs.Effects.{brought, acquired_edt, acquiring_core, awoken, called, changed, creating_core, dropped_edt, dropping_core, edt_in, ended_edt, holding_core, holding_edt, made_ready, new_core, next_mode_on, readied, ready_at, started_edt, waiting_edt, with_phase, stale_edt}
 use Rattle.ocr_parts.specs.Kinds.{is_acquiring, is_acquiring_edt, on_core, size_on, words_on}
 use Rattle.ocr_parts.specs.Laws.{SetLaw, StartLaw}
 use Rattle.ocr_parts.specs.Legal.{IsLegal, IsRun}
@@ -102,12 +104,19 @@ called_begun : (limit : ℕ) (f : Parts) (u home : ℕ) (c : body.Call) (a : Ans
 called_begun limit f u home (call.DbCreate n fl) a w t legal on is = begun_at f u t (creating_core fl a.value (n / 8)) (keeps_creating fl a.value (n / 8)) is
 called_begun limit f u home (call.DbRelease d) a w t legal on is = begun_at f u t (dropping_core d) (λ c. keeps_dropped d c.edt) is
 called_begun limit f u home (call.DbDestroy d) a w t legal on is = begun_at f u t (dropping_core d) (λ c. keeps_dropped d c.edt) is
+called_begun limit f u home (call.AddDependence from x i m) a w t legal on is = ap is_begun (linked_core (not (from == 0)) from _ _ t) ∙ is
 called_begun limit f u home (call.EdtCreate from pc ps dc ds fl o) a w t legal on is =
-    elim (a.value == t) as (λ b. (a.value == t) ≡ b → is_begun (if b then new_core (f.face from) a.value ps else f.core t) ≡ true) [
+    ap is_begun (deps_core a.value 0 ds _ t)
+    ∙ elim (a.value == t) as (λ b. (a.value == t) ≡ b → is_begun (if b then new_core (f.face from) a.value ps else f.core t) ≡ true) [
       | true ↦ λ here. absurd (let none : is_begun (f.core t) ≡ false = ap (λ (n : ℕ). is_begun (f.core n)) (sym (eqb-true a.value t here)) ∙ ap is_begun (legal.value.no_core on) in cc (is, none))
       | false ↦ λ _. is
     ] refl
 called_begun limit f u home other a w t legal on is = is
+
+brought_core : (w : What) (b : Bool) (f : Parts) (u : ℕ) → (if b then brought w f else f).core u ≡ f.core u
+brought_core w false f u = refl
+brought_core (what.Satisfy e i p) true f u = refl
+brought_core other true f u = refl
 
 -- what has begun stays so
 changed_begun : (limit : ℕ) (e : Entry) (members : List (ℕ × Mode)) (f : Parts) (t : ℕ) → IsLegalOn limit (readied members e f) e → is_begun (f.core t) ≡ true → is_begun ((changed e (readied members e f)).core t) ≡ true
@@ -126,6 +135,7 @@ changed_begun limit (Start u) members f t legal is =
     begun_at (ready_at u members f) u t (with_phase started_edt) (λ c. keeps_started c.edt) (begun_at f u t (with_phase (made_ready members)) (λ c. keeps_ready members c.edt) is)
 changed_begun limit (Free u d w) members f t legal is = begun_at f u t (dropping_core d) (λ c. keeps_dropped d c.edt) is
 changed_begun limit (End u g) members f t legal is = begun_at f u t (with_phase ended_edt) (λ c. keeps_ended c.edt) is
+changed_begun limit (Deliver m c) members f t legal is = ap is_begun (brought_core m.what (is_done c) f t) ∙ is
 changed_begun limit other members f t legal is = is
 
 stays_begun : (s : Setting) (past : History) (e : Entry) (t : ℕ) → IsRun s past → IsLegal s past e → is_begun ((parts_of s past).core t) ≡ true → is_begun ((parts_of s (e ∷ past)).core t) ≡ true

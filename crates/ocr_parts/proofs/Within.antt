@@ -3,6 +3,11 @@ use Rattle.std.proofs.Common.{◌≡◌, ℕ, ◌≤◌, List, [], ◌∷◌, Bo
 use Rattle.std.proofs.lemmas.Grind.{common_steps}
 use Rattle.std.proofs.lemmas.Bool.{eqb-true}
 use Rattle.ocr_guid.specs.Target.{EventCall}
+use Rattle.ocr_guid.specs.declared.Code.{Code}
+use Rattle.ocr_guid.specs.declared.Code.TheVariants as code
+use Rattle.ocr_any_event.specs.declared.TheConstants.{CHANNEL}
+use Rattle.ocr_parts.specs.declared.part.Part.{Part}
+use Rattle.ocr_parts.specs.Codes.{code_of}
 use Rattle.ocr_slots.specs.Slots as slot
 use Rattle.ocr_datablock.specs.Block as block
 use Rattle.ocr_tree.specs.Functions.{number_of_main}
@@ -11,7 +16,7 @@ use Rattle.ocr_meaning.specs.declared.call.Answer.{Answer}
 use Rattle.ocr_history.specs.declared.entry.Entry.TheVariants.{Call}
 use Rattle.ocr_parts.specs.declared.part.Part.TheVariants as part
 use Rattle.ocr_history.specs.History.{History, Setting}
-use Rattle.ocr_history.specs.Made.{Made, MadeBlock, MadeTemplate, MadeEdt, MadeEvent, made, makes, opened}
+use Rattle.ocr_history.specs.Made.{Made, MadeBlock, MadeTemplate, MadeEdt, MadeEvent, made, makes, opened, edt_from}
 use Rattle.ocr_parts.specs.Calls.{link_calls, block_calls, edt_calls, loans_of, event_calls}
 use Rattle.ocr_parts.specs.Parts.{parts_of, face, core}
 use Rattle.ocr_parts.specs.LegalOn.{IsNamed}
@@ -38,7 +43,7 @@ new_free s past a g named is =
     let both = first_is (is_done a.code) (a.value == g) is in
     let fresh = named.fresh both.0 in
     let e : a.value ≡ g = eqb-true a.value g both.1 in (
-      ap (made s past) (sym e) ∙ none_made (made s past a.value) (link_calls past a.value) (block_calls s past a.value) (event_calls past a.value) fresh.vacant,
+      ap (made s past) (sym e) ∙ none_made (made s past a.value) (link_calls past a.value) (block_calls s past a.value) (event_calls s past a.value) fresh.vacant,
       subst (λ (k : ℕ). is_within s.limit k ≡ true) e (inside s.limit a.value fresh.some fresh.within),
     )
   where
@@ -72,8 +77,47 @@ made_out s (Call t home (call.EventCreate k fl) a w ∷ past) g enough run off =
 made_out s (Call t home (call.EventCreateParams k fl most sats deps) a w ∷ past) g enough run off = out_made (makes a g) _ (made s past g) (λ on. out_is s.limit g (new_free s past a g run.1.on_parts.value on).1 off) (made_out s past g enough run.0 off)
 made_out s (other ∷ past) g enough run off = made_out s past g enough run.0 off
 
+-- a channel keeps some satisfactions
+abbrev pub IsKeeping : Option Made → Type 0
+IsKeeping (Some (MadeEvent k fl most)) = (k == CHANNEL) ≡ true → 1 ≤ most
+IsKeeping other = Unit {0}
+
+keeping_if : (b : Bool) (m n : Option Made) → (b ≡ true → IsKeeping m) → IsKeeping n → IsKeeping (if b then m else n)
+keeping_if true m n one other = one refl
+keeping_if false m n one other = other
+
+from_keeping : (m : Option Made) (ps : List ℕ) (dc : ℕ) → IsKeeping (edt_from m ps dc)
+from_keeping (Some (MadeTemplate f pc own)) ps dc = tt
+from_keeping other ps dc = tt
+
+opened_keeping : (b c : Bool) (x y : Made) → IsKeeping (Some x) → IsKeeping (Some y) → IsKeeping (if b then Some x else if c then Some y else None)
+opened_keeping true c x y one two = one
+opened_keeping false true x y one two = two
+opened_keeping false false x y one two = tt
+
+plain_code : (t k fl : ℕ) (f : ℕ → Part) → code_of t f (call.EventCreate k fl) ≡ code.Done → (k == CHANNEL) ≡ true → 1 ≤ 0
+plain_code t k fl f is here = grind (arith, common_steps)
+
+kept_code : (t k fl most sats deps : ℕ) (f : ℕ → Part) → code_of t f (call.EventCreateParams k fl most sats deps) ≡ code.Done → 1 ≤ most
+kept_code t k fl most sats deps f is = grind (arith, common_steps)
+
+pub done_is : (c : Code) → is_done c ≡ true → c ≡ code.Done
+done_is code.Done is = refl
+done_is other is = cc is
+
+pub keeping_law : (s : Setting) (past : History) (g : ℕ) → IsRun s past → IsKeeping (made s past g)
+keeping_law s [] g run = opened_keeping (g == 1) (g == 2) _ _ tt tt
+keeping_law s (Call t home (call.DbCreate n fl) a w ∷ past) g run = keeping_if (makes a g) _ (made s past g) (λ _. tt) (keeping_law s past g run.0)
+keeping_law s (Call t home (call.TemplateCreate f pc dc) a w ∷ past) g run = keeping_if (makes a g) _ (made s past g) (λ _. tt) (keeping_law s past g run.0)
+keeping_law s (Call t home (call.EdtCreate from pc ps dc ds fl o) a w ∷ past) g run = keeping_if (makes a g) _ (made s past g) (λ _. from_keeping (made s past from) ps dc) (keeping_law s past g run.0)
+keeping_law s (Call t home (call.EventCreate k fl) a w ∷ past) g run =
+    keeping_if (makes a g) _ (made s past g) (λ on. plain_code t k fl (parts_of s past).face (sym run.1.on_parts.code ∙ done_is a.code (first_is (is_done a.code) (a.value == g) on).0)) (keeping_law s past g run.0)
+keeping_law s (Call t home (call.EventCreateParams k fl most sats deps) a w ∷ past) g run =
+    keeping_if (makes a g) _ (made s past g) (λ on _. kept_code t k fl most sats deps (parts_of s past).face (sym run.1.on_parts.code ∙ done_is a.code (first_is (is_done a.code) (a.value == g) on).0)) (keeping_law s past g run.0)
+keeping_law s (other ∷ past) g run = keeping_law s past g run.0
+
 pub within_law : WithinLaw
 within_law s past enough run = record {
-  faces = λ g off. ap (λ (m : Option Made). face m (link_calls past g) (block_calls s past g) (event_calls past g)) (made_out s past g enough run off);
+  faces = λ g off. ap (λ (m : Option Made). face m (link_calls past g) (block_calls s past g) (event_calls s past g)) (made_out s past g enough run off);
   cores = λ u off. ap (λ (m : Option Made). core m u (edt_calls s past u) (loans_of s past u)) (made_out s past u enough run off);
 }

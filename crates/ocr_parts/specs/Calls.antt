@@ -1,7 +1,8 @@
 -- What the entries of a history are to each object: the calls on it since it was made, the newest
 -- first.
-use Rattle.std.specs.Prelude.{ℕ, ◌+◌, ◌/◌, List, [], ◌∷◌, ◌++◌, length, Bool, false, ◌&&◌, not, ◌==◌, if◌then◌else◌, Option, Some, None, is_some, map}
-use Rattle.ocr_guid.specs.Target.{EventCall, Destruction}
+use Rattle.std.specs.Prelude.{ℕ, ◌+◌, ◌/◌, List, [], ◌∷◌, ◌++◌, length, Bool, true, false, ◌&&◌, not, ◌==◌, if◌then◌else◌, Option, Some, None, is_some, map}
+use Rattle.ocr_guid.specs.declared.target.Target.{Target}
+use Rattle.ocr_guid.specs.Target.{EventCall, Satisfaction, Link, Destruction}
 use Rattle.ocr_acquire.specs.declared.Mode.{Mode}
 use Rattle.ocr_acquire.specs.declared.Mode.TheVariants as mode
 use Rattle.ocr_acquire.specs.Mode.{mode_of, mode_in, is_null, is_exclusive}
@@ -20,7 +21,7 @@ use Rattle.ocr_history.specs.declared.entry.Entry.TheVariants.{Call, Deliver, Ac
 use Rattle.ocr_history.specs.declared.entry.What.{What}
 use Rattle.ocr_history.specs.declared.entry.What.TheVariants as what
 use Rattle.ocr_history.specs.History.{History, Setting}
-use Rattle.ocr_history.specs.Made.{is_new, made, depc_in, size_in, creator_in}
+use Rattle.ocr_history.specs.Made.{is_new, is_edt_made, made, depc_in, size_in, creator_in}
 use Rattle.ocr_parts.specs.declared.loans.Kept.{Kept}
 use Rattle.ocr_parts.specs.Loans.{without_kept, kept_of, kept_created}
 
@@ -36,6 +37,10 @@ mode_named m = mode_or_null (mode_of m)
 -- none
 abbrev pub is_given : ℕ → Bool
 is_given d = not (d == 18446744073709551615)
+
+-- a dependence that names an object: neither UNINITIALIZED_GUID nor NULL_GUID
+abbrev pub is_object : ℕ → Bool
+is_object d = is_given d && not (d == 0)
 
 abbrev pub with_dep : ℕ → ℕ → List slot.SlotCall → List slot.SlotCall
 with_dep k d calls = if is_given d then slot.Linking k mode.Rw ∷ calls else calls
@@ -245,19 +250,49 @@ block_calls s (e ∷ past) d = block_calls s past d
 abbrev pub contents_of : Setting → History → ℕ → List ℕ
 contents_of s past d = block.contents (size_in (made s past d)) (block_calls s past d)
 
--- EVENTS, and templates, which are destroyed alike
-abbrev pub event_step : body.Call → Answer → ℕ → List EventCall → List EventCall
-event_step (call.TemplateDestroy t) a g calls =
-    if is_done a.code && (t == g) then Destruction ∷ calls else calls
-event_step (call.EventDestroy e) a g calls =
-    if is_done a.code && (e == g) then Destruction ∷ calls else calls
-event_step other a g calls = calls
+-- EVENTS, and templates, which are destroyed alike. A slot of an EDT, or of an event, as a target
+abbrev pub slot_target : ℕ → ℕ → Target
+slot_target t k = record { object = t; is_edt = true; slot = k }
 
-abbrev pub event_calls : History → ℕ → List EventCall
-event_calls [] g = []
-event_calls (Call by home c a w ∷ past) g =
-    if is_new c a g then [] else event_step c a g (event_calls past g)
-event_calls (e ∷ past) g = event_calls past g
+abbrev pub target_of : Bool → ℕ → ℕ → Target
+target_of is_edt x i = record { object = x; is_edt = is_edt; slot = i }
+
+-- the slots of a new EDT that are given this event as their dependence, in their order
+abbrev pub link_if : Bool → Target → List EventCall → List EventCall
+link_if here t calls = if here then Link t ∷ calls else calls
+
+abbrev pub dep_targets : ℕ → ℕ → ℕ → List ℕ → List EventCall → List EventCall
+dep_targets t k g [] calls = calls
+dep_targets t k g (d ∷ rest) calls =
+    dep_targets t (k + 1) g rest (link_if (is_object d && (d == g)) (slot_target t k) calls)
+
+abbrev pub event_step : Setting → History → body.Call → Answer → ℕ → List EventCall → List EventCall
+event_step s past (call.TemplateDestroy t) a g calls =
+    if is_done a.code && (t == g) then Destruction ∷ calls else calls
+event_step s past (call.EventDestroy e) a g calls =
+    if is_done a.code && (e == g) then Destruction ∷ calls else calls
+event_step s past (call.Satisfy e p slot) a g calls =
+    if is_done a.code && (e == g) then Satisfaction slot p ∷ calls else calls
+event_step s past (call.AddDependence from x i m) a g calls =
+    link_if (is_done a.code && (not (from == 0) && (from == g)))
+    (target_of (is_edt_made (made s past x)) x i) calls
+event_step s past (call.EdtCreate from pc ps dc ds fl o) a g calls =
+    if is_done a.code then dep_targets a.value 0 g ds calls else calls
+event_step s past other a g calls = calls
+
+-- a satisfaction that a message brings
+abbrev pub deliver_step : What → Bool → ℕ → List EventCall → List EventCall
+deliver_step (what.Satisfy e slot p) done g calls =
+    if done && (e == g) then Satisfaction slot p ∷ calls else calls
+deliver_step other done g calls = calls
+
+abbrev pub event_calls : Setting → History → ℕ → List EventCall
+event_calls s [] g = []
+event_calls s (Call by home c a w ∷ past) g =
+    if is_new c a g then [] else event_step s past c a g (event_calls s past g)
+event_calls s (Deliver m code ∷ past) g =
+    deliver_step m.what (is_done code) g (event_calls s past g)
+event_calls s (e ∷ past) g = event_calls s past g
 
 -- WHAT AN EDT KEEPS with the blocks that it holds: the length of each, and in EW and CONST the
 -- contents at the acquire

@@ -1,10 +1,13 @@
 -- The code of a call, by the faces of the objects that it wants, in the one order of refusals:
 -- ENOENT; EINVAL for a kind; STALE; EINVAL for a number, a count or a flag; EPERM.
-use Rattle.std.specs.Prelude.{ℕ, List, [], ◌∷◌, length, Bool, true, false, ◌||◌, ◌&&◌, not, nat_le, nat_lt, ◌%◌, ◌==◌, if◌then◌else◌, Result, Ok, Err}
+use Rattle.std.specs.Prelude.{ℕ, List, [], ◌∷◌, length, Bool, true, false, ◌||◌, ◌&&◌, not, nat_le, nat_lt, ◌%◌, ◌==◌, if◌then◌else◌, Option, Some, None, Result, Ok, Err}
 use Rattle.ocr_guid.specs.declared.Code.{Code}
 use Rattle.ocr_guid.specs.declared.Code.TheVariants as code
 use Rattle.ocr_template.specs.declared.TheConstants.{EDT_PARAM_UNK}
 use Rattle.ocr_template.specs.Template.{counts_of}
+use Rattle.ocr_any_event.specs.AnyEvent as event
+use Rattle.ocr_any_event.specs.declared.AnyEvent.{AnyEvent}
+use Rattle.ocr_any_event.specs.declared.AnyEvent.TheVariants as any
 use Rattle.ocr_any_event.specs.declared.TheConstants.{LATCH, CHANNEL}
 use Rattle.ocr_channel_event.specs.declared.TheConstants.{MOST_GENERATIONS}
 use Rattle.ocr_slots.specs.Steps.{on_link}
@@ -13,7 +16,7 @@ use Rattle.ocr_meaning.specs.declared.call.Call.TheVariants as call
 use Rattle.ocr_base.specs.declared.limits.TheConstants.{MOST_PARAMETERS, MOST_DEPENDENCES}
 use Rattle.ocr_parts.specs.declared.part.Part.{Part}
 use Rattle.ocr_parts.specs.declared.part.Part.TheVariants as part
-use Rattle.ocr_parts.specs.Calls.{is_given}
+use Rattle.ocr_parts.specs.Calls.{is_object}
 use Rattle.ocr_parts.specs.Kinds.{is_vacant, is_block, is_template, is_event, is_edt_face, is_destroyed, is_held_by}
 
 -- WHAT A CALL WANTS: objects by their numbers, and what each is to be. A block that is held already
@@ -27,17 +30,16 @@ pub data Sort : Type 0 where
   ATemplate : Sort
   AnEvent : Sort
 
--- a dependence that names an object: neither UNINITIALIZED_GUID nor NULL_GUID
-abbrev pub is_named : ℕ → Bool
-is_named d = is_given d && not (d == 0)
-
 abbrev pub wanted_sources : List ℕ → List (ℕ × Sort)
 wanted_sources [] = []
 wanted_sources (d ∷ rest) =
-    if is_named d then (d, Source) ∷ wanted_sources rest else wanted_sources rest
+    if is_object d then (d, Source) ∷ wanted_sources rest else wanted_sources rest
 
 abbrev pub wanted_source : ℕ → List (ℕ × Sort)
 wanted_source d = if d == 0 then [] else (d, Source) ∷ []
+
+abbrev pub wanted_payload : ℕ → List (ℕ × Sort)
+wanted_payload p = if p == 0 then [] else (p, ABlock) ∷ []
 
 abbrev pub wanted : body.Call → List (ℕ × Sort)
 wanted (call.DbRelease d) = (d, ToRelease) ∷ []
@@ -47,6 +49,7 @@ wanted (call.Store d k v) = (d, Held) ∷ []
 wanted (call.AddDependence from x i m) = (x, Target) ∷ wanted_source from
 wanted (call.TemplateDestroy t) = (t, ATemplate) ∷ []
 wanted (call.EventDestroy e) = (e, AnEvent) ∷ []
+wanted (call.Satisfy e p slot) = (e, AnEvent) ∷ wanted_payload p
 wanted (call.EdtCreate from pc ps dc ds fl o) = (from, ATemplate) ∷ wanted_sources ds
 wanted other = []
 
@@ -57,7 +60,8 @@ is_missing other x = is_vacant x
 
 abbrev pub has_kind : Sort → Part → Bool
 has_kind Held x = true
-has_kind Target x = is_edt_face x
+has_kind Source x = is_block x || is_event x
+has_kind Target x = is_edt_face x || is_event x
 has_kind ATemplate x = is_template x
 has_kind AnEvent x = is_event x
 has_kind other x = is_block x
@@ -133,8 +137,31 @@ abbrev pub link_code : Part → ℕ → Code
 link_code (part.Edt slots) i = on_link slots i
 link_code other i = code.Einval
 
-abbrev pub dependence_code : Part → ℕ → ℕ → Code
-dependence_code target i m = if nat_lt 4 m then code.Einval else link_code target i
+-- the slots of an event: 0, and 1 of a latch
+abbrev pub slot_most : AnyEvent → ℕ
+slot_most (any.Latch st) = 1
+slot_most other = 0
+
+abbrev pub code_or : Option Code → Code
+code_or None = code.Done
+code_or (Some c) = c
+
+abbrev pub satisfy_code : Part → ℕ → ℕ → Code
+satisfy_code (part.Event st) slot p =
+    if nat_lt (slot_most st) slot then code.Einval else code_or (event.refusal st p)
+satisfy_code other slot p = code.Einval
+
+-- the source of a dependence is a block; it comes to an event only where this takes one
+abbrev pub brings_block : (ℕ → Part) → ℕ → Bool
+brings_block f from = not (from == 0) && is_block (f from)
+
+abbrev pub is_unfit : Bool → AnyEvent → Bool
+is_unfit brings st = brings && not (event.takes st)
+
+abbrev pub dependence_code : Bool → Part → ℕ → ℕ → Code
+dependence_code brings (part.Event st) i m =
+    if nat_lt (slot_most st) i || is_unfit brings st then code.Einval else code.Done
+dependence_code brings target i m = if nat_lt 4 m then code.Einval else link_code target i
 
 -- the code of a call that wants objects which are there, of their kinds and not destroyed. Calls
 -- that are not built are refused
@@ -152,7 +179,8 @@ number_code t f (call.EventCreateParams k fl most sats deps) = channel_code k fl
 number_code t f (call.EventDestroy e) = code.Done
 number_code t f (call.EdtCreate from pc params dc deps flags output) =
     creation_code (f from) pc params dc deps flags
-number_code t f (call.AddDependence from x i m) = dependence_code (f x) i m
+number_code t f (call.Satisfy e p slot) = satisfy_code (f e) slot p
+number_code t f (call.AddDependence from x i m) = dependence_code (brings_block f from) (f x) i m
 number_code t f other = code.Einval
 
 -- THE CODE of a call of this EDT

@@ -1,5 +1,5 @@
 -- What an entry changes, told by the parts alone.
-use Rattle.std.specs.Prelude.{ℕ, ◌/◌, List, [], ◌∷◌, true, false, ◌==◌, if◌then◌else◌, Option, Some, None}
+use Rattle.std.specs.Prelude.{ℕ, ◌+◌, ◌/◌, not, Bool, List, [], ◌∷◌, true, false, ◌==◌, if◌then◌else◌, Option, Some, None}
 use Rattle.ocr_acquire.specs.declared.Mode.{Mode}
 use Rattle.ocr_acquire.specs.Mode.{is_exclusive}
 use Rattle.ocr_acquire.specs.Writes.{written}
@@ -10,6 +10,7 @@ use Rattle.ocr_slots.specs.Steps.{after_link}
 use Rattle.ocr_datablock.specs.Block as block
 use Rattle.ocr_datablock.specs.Steps.{after_ask, after_release, after_doom, after_store, after_lend, with_words}
 use Rattle.ocr_datablock.specs.Lent.{Loan}
+use Rattle.ocr_guid.specs.declared.target.Target.{Target}
 use Rattle.ocr_any_event.specs.AnyEvent as event
 use Rattle.ocr_edt.specs.declared.Edt.{Edt}
 use Rattle.ocr_edt.specs.declared.Edt.TheVariants as phase
@@ -19,8 +20,10 @@ use Rattle.ocr_meaning.specs.declared.call.Call as body
 use Rattle.ocr_meaning.specs.declared.call.Call.TheVariants as call
 use Rattle.ocr_meaning.specs.declared.call.Answer.{Answer}
 use Rattle.ocr_history.specs.declared.entry.Entry.{Entry}
-use Rattle.ocr_history.specs.declared.entry.Entry.TheVariants.{Call, Acquire, Wait, StaleAcquire, Start, Free, End, Stop}
+use Rattle.ocr_history.specs.declared.entry.Entry.TheVariants.{Call, Deliver, Acquire, Wait, StaleAcquire, Start, Free, End, Stop}
 use Rattle.ocr_history.specs.declared.entry.Stop.TheVariants as by
+use Rattle.ocr_history.specs.declared.entry.What.{What}
+use Rattle.ocr_history.specs.declared.entry.What.TheVariants as what
 use Rattle.ocr_history.specs.History.{History, Setting}
 use Rattle.ocr_history.specs.Made.{creator_of}
 use Rattle.ocr_parts.specs.declared.loans.Kept.{Kept}
@@ -28,9 +31,9 @@ use Rattle.ocr_parts.specs.declared.part.Core as core_type
 use Rattle.ocr_parts.specs.declared.part.Part.{Part}
 use Rattle.ocr_parts.specs.declared.part.Part.TheVariants as part
 use Rattle.ocr_parts.specs.Loans.{without_kept, kept_of, kept_created, settled_loans}
-use Rattle.ocr_parts.specs.Calls.{dep_links, plan_of, mode_named, mode_next}
+use Rattle.ocr_parts.specs.Calls.{dep_links, is_object, slot_target, target_of, plan_of, mode_named, mode_next}
 use Rattle.ocr_parts.specs.Parts.{Parts, identity_of}
-use Rattle.ocr_parts.specs.Kinds.{with_block, words_on, size_on, is_held_by, with_links, with_template, with_event, on_core, core_progress, next_in, loan_on}
+use Rattle.ocr_parts.specs.Kinds.{with_block, words_on, size_on, is_held_by, with_links, with_template, with_event, is_edt_face, on_core, core_progress, next_in, loan_on}
 
 -- these parts, but for one
 abbrev pub with_face : Parts → ℕ → Part → Parts
@@ -152,6 +155,21 @@ ended step f t d w =
     (with_face f d (with_block (f.face d) (hold_ended step t w (loan_on (f.core t) d))))
     t (on_core (f.core t) (dropping_core d))
 
+-- an event as a source is linked to its target
+abbrev pub linked_to : ℕ → Target → Parts → Parts
+linked_to d t f = with_face f d (with_event (f.face d) (λ st. event.after_link st t))
+
+-- where the source is named
+abbrev pub linked_if : Bool → ℕ → Target → Parts → Parts
+linked_if true d t f = linked_to d t f
+linked_if false d t f = f
+
+-- the events that are given to the slots of a new EDT, slot by slot
+abbrev pub deps_linked : ℕ → ℕ → List ℕ → Parts → Parts
+deps_linked t k [] f = f
+deps_linked t k (d ∷ rest) f =
+    deps_linked t (k + 1) rest (linked_if (is_object d) d (slot_target t k) f)
+
 -- an accepted call
 abbrev pub called : ℕ → body.Call → Answer → List (ℕ × ℕ) → Parts → Parts
 called t (call.DbCreate n fl) a w f =
@@ -162,8 +180,11 @@ called t (call.DbRelease d) a w f = ended after_release f t d w
 called t (call.DbDestroy d) a w f = ended after_doom f t d w
 called t (call.Store d k v) a w f =
     with_face f d (with_block (f.face d) (λ st. after_store st k v))
+called t (call.Satisfy e p slot) a w f =
+    with_face f e (with_event (f.face e) (λ st. event.after_satisfy st slot p))
 called t (call.AddDependence from x i m) a w f =
-    with_face f x (with_links (f.face x) (λ slots. after_link slots i (mode_named m)))
+    linked_if (not (from == 0)) from (target_of (is_edt_face (f.face x)) x i)
+    (with_face f x (with_links (f.face x) (λ slots. after_link slots i (mode_named m))))
 called t (call.TemplateCreate function pc dc) a w f =
     with_face f a.value
     (part.Template (record { function = function; paramc = pc; depc = dc; destroyed = false }))
@@ -176,8 +197,9 @@ called t (call.EventCreateParams k fl most sats deps) a w f =
 called t (call.EventDestroy e) a w f =
     with_face f e (with_event (f.face e) event.after_destroy)
 called t (call.EdtCreate from pc params dc deps flags output) a w f =
-    with_core (with_face f a.value (new_face (f.face from) dc deps))
-    a.value (new_core (f.face from) a.value params)
+    deps_linked a.value 0 deps
+    (with_core (with_face f a.value (new_face (f.face from) dc deps))
+    a.value (new_core (f.face from) a.value params))
 called t other a w f = f
 
 -- THE PARTS AFTER AN ENTRY. The core of an EDT that acquires, waits, finds a block gone or starts
@@ -199,8 +221,15 @@ waited f t d =
     (with_face f d (with_block (f.face d) (λ st. after_ask st t (next_mode_on f t))))
     t (on_core (f.core t) (with_phase waiting_edt))
 
+-- what an accepted message does
+abbrev pub brought : What → Parts → Parts
+brought (what.Satisfy e slot p) f =
+    with_face f e (with_event (f.face e) (λ st. event.after_satisfy st slot p))
+brought other f = f
+
 abbrev pub changed : Entry → Parts → Parts
 changed (Call t home c a w) f = if is_done a.code then called t c a w f else f
+changed (Deliver m c) f = if is_done c then brought m.what f else f
 changed (Acquire t d) f = acquired f t d
 changed (Wait t d) f = waited f t d
 changed (StaleAcquire t d) f = passed_by f t

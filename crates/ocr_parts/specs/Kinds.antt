@@ -68,6 +68,11 @@ abbrev pub with_event : Part → (AnyEvent → AnyEvent) → Part
 with_event (part.Event st) step = part.Event (step st)
 with_event other step = other
 
+-- how often an event was satisfied, where it counts that
+abbrev pub counted_on : Part → ℕ
+counted_on (part.Event st) = event.counted st
+counted_on other = 0
+
 -- a block, a template or an event that was destroyed
 abbrev pub is_destroyed : Part → Bool
 is_destroyed (part.Block st) = st.destroyed

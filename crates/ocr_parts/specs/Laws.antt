@@ -1,5 +1,5 @@
 -- The laws of runs, and of the machine's parts.
-use Rattle.std.specs.Prelude.{◌≡◌, ◌≤◌, ◌↔◌, ℕ, List, [], ◌∷◌, Bool, true, false, Option, Some, None, is_some}
+use Rattle.std.specs.Prelude.{◌≡◌, ◌≤◌, ◌↔◌, ℕ, List, [], ◌∷◌, length, Bool, true, false, Option, Some, None, is_some}
 use Rattle.ocr_acquire.specs.declared.Mode.{Mode}
 use Rattle.ocr_acquire.specs.declared.Mode.TheVariants as mode
 use Rattle.ocr_acquire.specs.Mode.{mode_in, is_exclusive}
@@ -19,6 +19,7 @@ use Rattle.ocr_parts.specs.declared.part.Part.{Part}
 use Rattle.ocr_parts.specs.Loans.{kept_in}
 use Rattle.ocr_parts.specs.Calls.{next_member, block_calls, contents_of, loans_of}
 use Rattle.ocr_parts.specs.Parts.{Parts, parts_of}
+use Rattle.ocr_parts.specs.Kinds.{counted_on}
 use Rattle.ocr_parts.specs.Codes.{code_of}
 use Rattle.ocr_parts.specs.Effects.{changed, readied_on, settled_parts}
 use Rattle.ocr_parts.specs.LegalOn.{IsLegalOn, IsCallOn}
@@ -140,3 +141,8 @@ abbrev pub AwaitedLaw : Type 0
 AwaitedLaw = (s : Setting) (past : History) → IsRun s past → (t d : ℕ) (m : Mode)
     → next_member s past t ≡ Some (d, m) → is_some (mode_in t (block_holders s past d)) ≡ true
     → borrower s past d ≡ None
+
+-- EVENTS. A latch was satisfied at most once by each entry
+abbrev pub CountedLaw : Type 0
+CountedLaw =
+    (s : Setting) (past : History) (g : ℕ) → counted_on ((parts_of s past).face g) ≤ length past

@@ -1,7 +1,9 @@
 -- What the legality of an entry asks of the parts.
 use Rattle.std.specs.Prelude.{◌≡◌, ◌≤◌, ◌<◌, ◌⊎◌, ℕ, List, [], Bool, true, false, Option, Some, None, is_some, length, slice_index}
 use Rattle.ocr_guid.specs.Code.{number_of}
+use Rattle.ocr_guid.specs.declared.Code.{Code}
 use Rattle.ocr_guid.specs.declared.Code.TheVariants as code
+use Rattle.ocr_any_event.specs.AnyEvent as event
 use Rattle.ocr_acquire.specs.declared.Mode.{Mode}
 use Rattle.ocr_acquire.specs.Mode.{is_null, mode_in, is_exclusive}
 use Rattle.ocr_datablock.specs.Block as block
@@ -15,11 +17,12 @@ use Rattle.ocr_history.specs.declared.entry.Entry.{Entry}
 use Rattle.ocr_history.specs.declared.entry.Entry.TheVariants.{Call, Deliver, Acquire, Wait, StaleAcquire, Start, Free, End, Stop}
 use Rattle.ocr_history.specs.declared.entry.What.{What}
 use Rattle.ocr_history.specs.declared.entry.What.TheVariants as what
+use Rattle.ocr_parts.specs.declared.part.Part.{Part}
 use Rattle.ocr_parts.specs.declared.part.Part.TheVariants as part
 use Rattle.ocr_parts.specs.Calls.{is_number}
 use Rattle.ocr_parts.specs.Parts.{Parts}
 use Rattle.ocr_parts.specs.Kinds.{IsBlock, work_of, is_running, holds_of, mode_on, loan_on, is_acquiring}
-use Rattle.ocr_parts.specs.Codes.{code_of}
+use Rattle.ocr_parts.specs.Codes.{code_of, code_or, slot_most}
 use Rattle.ocr_parts.specs.Effects.{next_on, next_mode_on}
 
 -- A CALL. A number that nothing has yet
@@ -97,6 +100,7 @@ IsAnswered limit f t (call.AddDependence from x i m) a = a.value ≡ number_of a
 IsAnswered limit f t (call.EventCreate k fl) a = IsNamed limit f a
 IsAnswered limit f t (call.EventCreateParams k fl most sats deps) a = IsNamed limit f a
 IsAnswered limit f t (call.EventDestroy e) a = a.value ≡ number_of a.code
+IsAnswered limit f t (call.Satisfy e p slot) a = a.value ≡ number_of a.code
 -- no other call is built
 IsAnswered limit f t other a = ⊥
 
@@ -160,14 +164,26 @@ pub record IsEndOn (f : Parts) (t : ℕ) : Type 0 where
   pub running : is_running (f.core t) ≡ true
   pub nothing_held : holds_of (work_of (f.core t)) ≡ []
 
--- a delivered Set touches no part
-abbrev pub IsDeliverOn : What → Type 0
-IsDeliverOn (what.Set x i p) = Unit {0}
-IsDeliverOn other = ⊥
+-- a delivered Set touches no part, and a delivered Satisfy is answered as its event does; members
+-- of finish scopes are not built
+abbrev pub delivery_code : Part → ℕ → Code
+delivery_code (part.Event st) p = code_or (event.refusal st p)
+delivery_code other p = code.Done
+
+-- an event that has the slot
+abbrev pub IsSatisfiable : ℕ → Part → Type 0
+IsSatisfiable slot (part.Event st) = slot ≤ slot_most st
+IsSatisfiable slot other = ⊥
+
+abbrev pub IsDeliverOn : Parts → What → Code → Type 0
+IsDeliverOn f (what.Set x i p) c = c ≡ code.Done
+IsDeliverOn f (what.Satisfy e slot p) c =
+    IsSatisfiable slot (f.face e) × (c ≡ delivery_code (f.face e) p)
+IsDeliverOn f other c = ⊥
 
 abbrev pub IsLegalOn : ℕ → Parts → Entry → Type 0
 IsLegalOn limit f (Call t home c a w) = IsCallOn limit f t home c a w
-IsLegalOn limit f (Deliver m c) = IsDeliverOn m.what × (c ≡ code.Done)
+IsLegalOn limit f (Deliver m c) = IsDeliverOn f m.what c
 IsLegalOn limit f (Acquire t d) = IsAcquireOn f t d
 IsLegalOn limit f (Wait t d) = IsWaitOn f t d
 IsLegalOn limit f (StaleAcquire t d) = IsStaleOn f t d

@@ -1,6 +1,11 @@
 -- What an entry sends, and whom it lets go on.
-use Rattle.std.specs.Prelude.{ℕ, ◌+◌, List, [], ◌∷◌, if◌then◌else◌, Option, Some, None}
+use Rattle.std.specs.Prelude.{ℕ, ◌+◌, List, [], ◌∷◌, ◌++◌, map, not, ◌==◌, Bool, true, false, if◌then◌else◌, Option, Some, None}
 use Rattle.ocr_mail.specs.Mail as mail
+use Rattle.ocr_guid.specs.declared.target.Target.{Target}
+use Rattle.ocr_guid.specs.Target.{sent_by_firing, sent_by_linking}
+use Rattle.ocr_any_event.specs.AnyEvent as event
+use Rattle.ocr_any_event.specs.declared.AnyEvent.{AnyEvent}
+use Rattle.ocr_any_event.specs.declared.AnyEvent.TheVariants as any
 use Rattle.ocr_datablock.specs.Steps.{on_release, on_doom}
 use Rattle.ocr_meaning.specs.Holds.{is_done}
 use Rattle.ocr_meaning.specs.declared.call.Call as body
@@ -13,22 +18,58 @@ use Rattle.ocr_history.specs.declared.entry.What.TheVariants as what
 use Rattle.ocr_history.specs.History.{History, Setting}
 use Rattle.ocr_parts.specs.declared.part.Part.{Part}
 use Rattle.ocr_parts.specs.declared.part.Part.TheVariants as part
-use Rattle.ocr_parts.specs.Calls.{is_given}
+use Rattle.ocr_parts.specs.Calls.{is_given, is_object, slot_target, target_of}
+use Rattle.ocr_parts.specs.Effects.{linked_if}
+use Rattle.ocr_parts.specs.Kinds.{is_edt_face}
 use Rattle.ocr_parts.specs.Parts.{Parts, parts_of}
 
--- a dependence on a block or on NULL_GUID sets its slot at once
-abbrev pub dep_sets : ℕ → ℕ → List ℕ → List What
-dep_sets t k [] = []
-dep_sets t k (d ∷ rest) =
-    if is_given d then what.Set t k d ∷ dep_sets t (k + 1) rest else dep_sets t (k + 1) rest
+-- a payload to a target
+abbrev pub what_to : ℕ × Target → What
+what_to pair =
+    if pair.1.is_edt then what.Set pair.1.object pair.1.slot pair.0
+    else what.Satisfy pair.1.object pair.1.slot pair.0
 
-abbrev pub sent_by : body.Call → Answer → List What
-sent_by (call.AddDependence from x i m) a = what.Set x i from ∷ []
-sent_by (call.EdtCreate from pc ps dc ds fl o) a = dep_sets a.value 0 ds
-sent_by other a = []
+-- a latch carries NULL_GUID
+abbrev pub carried_by : AnyEvent → ℕ → ℕ
+carried_by (any.Latch st) p = 0
+carried_by other p = p
+
+-- what a satisfaction sets off
+abbrev pub satisfied : Part → ℕ → ℕ → List What
+satisfied (part.Event st) slot p =
+    map what_to (sent_by_firing (carried_by st p) (event.on_satisfy st slot p))
+satisfied other slot p = []
+
+-- a dependence on a block or on NULL_GUID reaches its target at once, one on an event where the
+-- event has something for it
+abbrev pub linked : Part → ℕ → Target → List What
+linked (part.Event st) d t = map what_to (sent_by_linking t (event.on_link st))
+linked other d t = what_to (d, t) ∷ []
+
+abbrev pub linked_by : Bool → ℕ → Target → Parts → List What
+linked_by true d t f = linked (f.face d) d t
+linked_by false d t f = what_to (d, t) ∷ []
+
+abbrev pub dep_sends : ℕ → ℕ → List ℕ → Parts → List What
+dep_sends t k [] f = []
+dep_sends t k (d ∷ rest) f =
+    (if is_given d then linked_by (is_object d) d (slot_target t k) f else [])
+    ++ dep_sends t (k + 1) rest (linked_if (is_object d) d (slot_target t k) f)
+
+abbrev pub sent_by : body.Call → Answer → Parts → List What
+sent_by (call.Satisfy e p slot) a f = satisfied (f.face e) slot p
+sent_by (call.AddDependence from x i m) a f =
+    linked_by (not (from == 0)) from (target_of (is_edt_face (f.face x)) x i) f
+sent_by (call.EdtCreate from pc ps dc ds fl o) a f = dep_sends a.value 0 ds f
+sent_by other a f = []
+
+abbrev pub sent_by_message : What → Parts → List What
+sent_by_message (what.Satisfy e slot p) f = satisfied (f.face e) slot p
+sent_by_message other f = []
 
 abbrev pub sends : Entry → Parts → List What
-sends (Call t home c a w) f = if is_done a.code then sent_by c a else []
+sends (Call t home c a w) f = if is_done a.code then sent_by c a f else []
+sends (Deliver m c) f = if is_done c then sent_by_message m.what f else []
 sends other f = []
 
 -- who goes on once the EDT gives the block back

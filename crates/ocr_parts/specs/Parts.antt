@@ -49,6 +49,7 @@ core other t calls loans = part.Vacant
 
 abbrev pub parts_of : Setting → History → Parts
 parts_of s past = record {
-  face = λ g. face (made s past g) (link_calls past g) (block_calls s past g) (event_calls past g);
+  face = λ g.
+      face (made s past g) (link_calls past g) (block_calls s past g) (event_calls s past g);
   core = λ t. core (made s past t) t (edt_calls s past t) (loans_of s past t);
 }

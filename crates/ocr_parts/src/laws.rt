@@ -1,5 +1,5 @@
 // The laws of runs and of the machine's parts.
-ghost use Rattle.ocr_parts.specs.Laws.{StartLaw, SetLaw, AfterLaw, EffectLaw, CodeLaw, LegalityLaw, FrameLaw, WithinLaw, RefusedLaw, HoldsLaw, SettledLaw, SettledLegalLaw, LentLaw, AllowedLaw, FreeLaw, AwaitedLaw};
+ghost use Rattle.ocr_parts.specs.Laws.{StartLaw, SetLaw, AfterLaw, EffectLaw, CodeLaw, LegalityLaw, FrameLaw, WithinLaw, RefusedLaw, HoldsLaw, SettledLaw, SettledLegalLaw, LentLaw, AllowedLaw, FreeLaw, AwaitedLaw, CountedLaw};
 
 /// In a run every EDT starts at most once, and only where its last slot is set.
 pub fn run_laws()
@@ -35,4 +35,9 @@ pub fn block_laws()
     ensures allowed { AllowedLaw }
     ensures free { FreeLaw }
     ensures awaited { AwaitedLaw }
+{}
+
+/// A latch was satisfied at most once by each entry, so it counts no more than there are entries.
+pub fn event_laws()
+    ensures counted { CountedLaw }
 {}

@@ -6,6 +6,6 @@ mod laws;
 mod loans;
 mod part;
 
-pub use laws::{block_laws, machine_laws, run_laws, settled_laws};
+pub use laws::{block_laws, event_laws, machine_laws, run_laws, settled_laws};
 pub use loans::{Kept, Loans};
 pub use part::{Core, Part, Stepped};

@@ -1,5 +1,4 @@
 use Rattle.std.proofs.Common.{◌∙◌, ◌≡◌, sym, ap, arith, length, Ok, Err, Result}
-use Rattle.std.proofs.Math.ListN.{set}
 use Rattle.std.specs.Prelude.{OnOk}
 use Rattle.ocr_datablock.specs.Lent.{Loan, after_store}
 use Rattle.ocr_parts.specs.Loans.{kept_after, with_loan}
