@@ -193,7 +193,7 @@ queued_idle s past t d m run queued = record {
   waits = queued.waits;
   not_held = not_held ((parts_of s past).face d) t m (once s past run d) queued.queued;
   not_gone = off_from (is_gone_on ((parts_of s past).face d)) (λ gone.
-      queue_in ((parts_of s past).face d) t m (gone_face (made s past d) (link_calls past d) (block_calls s past d) (event_calls past d) gone) queued.queued);
+      queue_in ((parts_of s past).face d) t m (gone_face (made s past d) (link_calls past d) (block_calls s past d) (event_calls s past d) gone) queued.queued);
 }
 
 set_fate : (s : Setting) (past : History) (t : ℕ) (xs : List ℕ) → open_slots s past t ≡ xs → IsRun s past → is_stopped past ≡ false → is_edt past t ≡ true → is_started past t ≡ false → Fates s past t

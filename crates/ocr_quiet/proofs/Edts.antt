@@ -34,7 +34,7 @@ none_made (Some (MadeEvent k fl most)) links blocks events is = cc is
 pub new_free : (s : Setting) (past : History) (a : Answer) (g : ℕ) → IsNamed s.limit (parts_of s past) a → makes a g ≡ true → made s past g ≡ None
 new_free s past a g named is =
     let both = both_true (is_done a.code) (a.value == g) is in
-    ap (made s past) (sym (eqb-true a.value g both.1)) ∙ none_made (made s past a.value) (link_calls past a.value) (block_calls s past a.value) (event_calls past a.value) (named.fresh both.0).vacant
+    ap (made s past) (sym (eqb-true a.value g both.1)) ∙ none_made (made s past a.value) (link_calls past a.value) (block_calls s past a.value) (event_calls s past a.value) (named.fresh both.0).vacant
 
 -- an accepted creation finds a template
 template_made : (m : Option Made) (links : List slot.SlotCall) (blocks : List block.BlockCall) (events : List EventCall) (ps : List ℕ) (dc : ℕ) → is_template (face m links blocks events) ≡ true → is_edt_made (edt_from m ps dc) ≡ true
@@ -63,6 +63,6 @@ edts_law s (Call u home (call.EdtCreate from pc ps dc ds fl o) a w ∷ past) run
     edt_made (makes a t) _ (made s past t) _ (λ is.
     let done : a.code ≡ code.Done = done_is a.code (both_true (is_done a.code) (a.value == t) is).0 in
     let kinds = done_kinds u (parts_of s past).face (call.EdtCreate from pc ps dc ds fl o) (sym run.1.on_parts.code ∙ done) in
-    template_made (made s past from) (link_calls past from) (block_calls s past from) (event_calls past from) ps dc (not_off _ (or_left (is_of_other_kind ATemplate ((parts_of s past).face from)) _ kinds)))
+    template_made (made s past from) (link_calls past from) (block_calls s past from) (event_calls s past from) ps dc (not_off _ (or_left (is_of_other_kind ATemplate ((parts_of s past).face from)) _ kinds)))
     (edts_law s past run.0 t)
 edts_law s (e ∷ past) run t = edts_law s past run.0 t

@@ -1,3 +1,7 @@
+pub mod Each
+pub mod Payloads
+pub mod Lasting
+pub mod Sent
 pub mod Moving
 pub mod Standing
 pub mod Waiting

@@ -1,5 +1,5 @@
 -- Who holds and who waits, where a block is destroyed and where an EDT finds one gone; and so in each entry.
-use Rattle.std.proofs.Common.{◌≡◌, inl, inr, ℕ, suc, ◌≤◌, List, [], ◌∷◌, true, false, Option, Some, None, ◌==◌, if◌then◌else◌, refl, sym, ◌∙◌, ap, subst, is_some, arith, Bool}
+use Rattle.std.proofs.Common.{◌≡◌, inl, inr, ℕ, suc, ◌+◌, not, ◌≤◌, List, [], ◌∷◌, true, false, Option, Some, None, ◌==◌, if◌then◌else◌, refl, sym, ◌∙◌, ap, subst, is_some, arith, Bool}
 use Rattle.std.proofs.lemmas.Bool.{eqb-true}
 use Rattle.ocr_acquire.specs.declared.Mode.{Mode}
 use Rattle.ocr_acquire.specs.Mode.{mode_in}
@@ -11,12 +11,12 @@ use Rattle.ocr_edt.specs.Phases.{next_of}
 use Rattle.ocr_edt.specs.Steps.{with_next}
 use Rattle.ocr_meaning.specs.declared.call.Answer.{Answer}
 use Rattle.ocr_history.specs.declared.entry.Entry.{Entry}
-use Rattle.ocr_history.specs.declared.entry.Entry.TheVariants.{Call, Acquire, Wait, Start, Free, End}
+use Rattle.ocr_history.specs.declared.entry.Entry.TheVariants.{Call, Deliver, Acquire, Wait, Start, Free, End}
 use Rattle.ocr_parts.specs.declared.part.Part.{Part}
 use Rattle.ocr_meaning.specs.Holds.{is_done}
 use Rattle.ocr_parts.specs.Parts.{Parts}
-use Rattle.ocr_parts.specs.Effects.{with_core, with_phase, awoken, next_on, hold_ended, dropping_core, ended, called, changed, doomed_template}
-use Rattle.ocr_parts.specs.Kinds.{with_block, on_core, progress_in, core_progress, next_in, loan_on, IsBlock, is_running, work_in, is_block}
+use Rattle.ocr_parts.specs.Effects.{with_face, linked_if, deps_linked, brought, with_core, with_phase, awoken, next_on, hold_ended, dropping_core, ended, called, changed, doomed_template}
+use Rattle.ocr_parts.specs.Kinds.{with_block, on_core, progress_in, core_progress, next_in, loan_on, IsBlock, is_running, work_in, is_block, is_edt_face}
 use Rattle.ocr_parts.specs.LegalOn.{IsCallOn, IsLegalOn}
 use Rattle.ocr_quiet.specs.Waits.{standing, is_gone_on, queue_on, held_in, rest_in, awaits_in, held_on, rest_on, awaits, IsHolding, IsOrdered, AreStanding, IsOnce}
 use Rattle.ocr_quiet.proofs.Moving.{Keeps, moved, faced, cored}
@@ -33,7 +33,12 @@ use Rattle.ocr_history.specs.declared.entry.Entry.TheVariants.{StaleAcquire}
 use Rattle.ocr_guid.specs.declared.Code.TheVariants as code
 use Rattle.ocr_parts.specs.Effects.{stale_edt, passed_by}
 use Rattle.ocr_parts.specs.Kinds.{with_template, with_event, is_destroyed}
-use Rattle.ocr_any_event.specs.AnyEvent.{after_destroy}
+use Rattle.ocr_any_event.specs.declared.AnyEvent.{AnyEvent}
+use Rattle.ocr_any_event.specs.AnyEvent.{after_satisfy, after_link, after_destroy}
+use Rattle.ocr_guid.specs.declared.target.Target.{Target}
+use Rattle.ocr_history.specs.declared.entry.What.{What}
+use Rattle.ocr_history.specs.declared.entry.What.TheVariants as what
+use Rattle.ocr_parts.specs.Calls.{is_object, slot_target, target_of}
 use Rattle.ocr_parts.specs.Codes.{ABlock, code_of, is_of_other_kind}
 use Rattle.ocr_quiet.proofs.Choices.{or_left, not_off}
 use Rattle.ocr_parts.proofs.After.{not_stale, done_is}
@@ -164,9 +169,21 @@ doomed_same : (x : Part) → (is_gone_on (with_template x doomed_template) ≡ i
 doomed_same (part.Template t) = (refl, refl, refl)
 doomed_same other = (refl, refl, refl)
 
-event_destroyed : (x : Part) → (is_gone_on (with_event x after_destroy) ≡ is_gone_on x) × (standing (with_event x after_destroy) ≡ standing x) × (queue_on (with_event x after_destroy) ≡ queue_on x)
-event_destroyed (part.Event st) = (refl, refl, refl)
-event_destroyed other = (refl, refl, refl)
+event_same : (x : Part) (step : AnyEvent → AnyEvent) → (is_gone_on (with_event x step) ≡ is_gone_on x) × (standing (with_event x step) ≡ standing x) × (queue_on (with_event x step) ≡ queue_on x)
+event_same (part.Event st) step = (refl, refl, refl)
+event_same other step = (refl, refl, refl)
+
+-- a step of an event
+stepped_standing : (f : Parts) (e : ℕ) (step : AnyEvent → AnyEvent) → AreStanding f → AreStanding (with_face f e (with_event (f.face e) step))
+stepped_standing f e step all = let same = event_same (f.face e) step in faced f e _ all same.0 same.1 same.2
+
+linked_standing : (b : Bool) (d : ℕ) (t : Target) (f : Parts) → AreStanding f → AreStanding (linked_if b d t f)
+linked_standing true d t f all = stepped_standing f d (λ st. after_link st t) all
+linked_standing false d t f all = all
+
+deps_standing : (t k : ℕ) (ds : List ℕ) (f : Parts) → AreStanding f → AreStanding (deps_linked t k ds f)
+deps_standing t k [] f all = all
+deps_standing t k (d ∷ rest) f all = deps_standing t (k + 1) rest (linked_if (is_object d) d (slot_target t k) f) (linked_standing (is_object d) d (slot_target t k) f all)
 
 called_standing : (limit : ℕ) (f : Parts) (t home : ℕ) (c : body.Call) (a : Answer) (w : List (ℕ × ℕ)) → AreStanding f → IsOnce f → is_done a.code ≡ true → IsCallOn limit f t home c a w → AreStanding (called t c a w f)
 called_standing limit f t home (call.DbCreate n fl) a w all once on legal = made_standing f t _ fl a.value all legal.running (legal.value.fresh on).vacant
@@ -174,7 +191,9 @@ called_standing limit f t home (call.DbRelease d) a w all once on legal = ended_
 called_standing limit f t home (call.DbDestroy d) a w all once on legal = destroyed_standing f t d w all once legal.running (fresh_of t f d a on legal.code)
 called_standing limit f t home (call.TemplateDestroy x) a w all once on legal = let same = doomed_same (f.face x) in faced f x _ all same.0 same.1 same.2
 called_standing limit f t home (call.Store d k v) a w all once on legal = let same = stored_same (f.face d) k v in faced f d _ all same.0 same.1 same.2
-called_standing limit f t home (call.AddDependence from x i m) a w all once on legal = let same = linked_same (f.face x) i _ in faced f x _ all same.0 same.1 same.2
+called_standing limit f t home (call.AddDependence from x i m) a w all once on legal =
+    let same = linked_same (f.face x) i _ in
+    linked_standing (not (from == 0)) from (target_of (is_edt_face (f.face x)) x i) _ (faced f x _ all same.0 same.1 same.2)
 called_standing limit f t home (call.TemplateCreate function pc dc) a w all once on legal =
     let vacant = (legal.value.fresh on).vacant in
     faced f a.value _ all (ap is_gone_on (sym vacant)) (ap standing (sym vacant)) (ap queue_on (sym vacant))
@@ -184,10 +203,16 @@ called_standing limit f t home (call.EventCreate k fl) a w all once on legal =
 called_standing limit f t home (call.EventCreateParams k fl most sats ds) a w all once on legal =
     let vacant = (legal.value.fresh on).vacant in
     faced f a.value _ all (ap is_gone_on (sym vacant)) (ap standing (sym vacant)) (ap queue_on (sym vacant))
-called_standing limit f t home (call.EventDestroy x) a w all once on legal = let same = event_destroyed (f.face x) in faced f x _ all same.0 same.1 same.2
+called_standing limit f t home (call.EventDestroy x) a w all once on legal = stepped_standing f x after_destroy all
+called_standing limit f t home (call.Satisfy e p slot) a w all once on legal = stepped_standing f e (λ st. after_satisfy st slot p) all
 called_standing limit f t home (call.EdtCreate from pc params dc deps flags output) a w all once on legal =
-    edt_standing f a.value (f.face from) dc deps params all (legal.value.named.fresh on).vacant (legal.value.no_core on)
+    deps_standing a.value 0 deps _ (edt_standing f a.value (f.face from) dc deps params all (legal.value.named.fresh on).vacant (legal.value.no_core on))
 called_standing limit f t home other a w all once on legal = all
+
+-- A MESSAGE
+brought_standing : (w : What) (f : Parts) → AreStanding f → AreStanding (brought w f)
+brought_standing (what.Satisfy e slot p) f all = stepped_standing f e (λ st. after_satisfy st slot p) all
+brought_standing other f all = all
 
 -- EACH ENTRY
 abbrev pub IsEmptyGone : Parts → Type 0
@@ -202,6 +227,7 @@ entry_standing limit (Call t home c a w) f all once empty legal = elim (is_done 
   | true ↦ λ on. called_standing limit f t home c a w all once on legal
   | false ↦ λ _. all
 ] refl
+entry_standing limit (Deliver m c) f all once empty legal = elim (is_done c) as (λ b. AreStanding (if b then brought m.what f else f)) [ true ↦ brought_standing m.what f all | false ↦ all ]
 entry_standing limit (Acquire t d) f all once empty legal = acquired_standing f t d all once legal.next legal.taken
 entry_standing limit (Wait t d) f all once empty legal = waited_standing f t d all legal.acquiring legal.next legal.refused
 entry_standing limit (StaleAcquire t d) f all once empty legal = passed_standing f t d _ all legal.next (empty d (gone_is (f.face d) legal.gone))

@@ -1,5 +1,5 @@
 -- An EDT whose slots are set goes on or stands in a queue, and in a quiet run nobody waits.
-use Rattle.std.proofs.Common.{◌≡◌, ◌⊎◌, inl, inr, ℕ, zero, suc, ◌+◌, ◌<◌, ◌≤◌, nat_lt, List, [], ◌∷◌, ◌++◌, Bool, true, false, Option, Some, None, ◌==◌, not, refl, sym, ◌∙◌, ap, subst, is_some, arith}
+use Rattle.std.proofs.Common.{◌≡◌, ◌⊎◌, inl, inr, ℕ, zero, suc, ◌+◌, ◌<◌, ◌≤◌, nat_lt, List, [], ◌∷◌, ◌++◌, true, false, Option, Some, None, ◌==◌, not, refl, sym, ◌∙◌, ap, subst, is_some, arith}
 use Rattle.std.proofs.lemmas.Bool.{eq-eqb}
 use Rattle.std.proofs.lemmas.Grind.{common_steps}
 use Rattle.ocr_guid.specs.Target.{EventCall}
@@ -37,7 +37,8 @@ use Rattle.ocr_parts.specs.Runs.{IsWaking, IsQuiet}
 use Rattle.ocr_quiet.proofs.Standing.{in_front, in_back, once_back}
 use Rattle.ocr_quiet.proofs.Waiting.{ready_standing}
 use Rattle.ocr_quiet.proofs.Stages.{once, standing_law, told_law, ready_told}
-use Rattle.ocr_quiet.proofs.Given.{bounded, wanted_law, ready_there}
+use Rattle.ocr_quiet.proofs.Given.{wanted_law, ready_there}
+use Rattle.ocr_quiet.proofs.Lasting.{bounded}
 use Rattle.ocr_slots.specs.Slots as slot
 use Rattle.ocr_datablock.specs.Block as block
 use Rattle.ocr_datablock.specs.Steps as block_steps
@@ -172,7 +173,7 @@ next_wakes s past t d m p ready is rest waits first =
     let member : next_member s past t ≡ Some (d, m) = core_next (made s past t) t (plan_of s past t) (edt_calls s past t) (loans_of s past t) (d, m) (ap (λ (x : Part). next_in (core_progress x)) (sym (ready_core s past t)) ∙ next) in
     let own : (k : Mode) → mode_in t (standing (f.face d)) ≡ Some k → k ≡ m = λ k stands. (holding_next y p d m k facts.above first waits (all.holds t d k stands)).1 in
     let its : Fate (f.face d) t m =
-    fate (made s past d) (link_calls past d) (block_calls s past d) (event_calls past d) t m facts.there facts.used (free_law s past ready.run d).grantable (awaited_law s past ready.run t d m member) own in
+    fate (made s past d) (link_calls past d) (block_calls s past d) (event_calls s past d) t m facts.there facts.used (free_law s past ready.run d).grantable (awaited_law s past ready.run t d m member) own in
     elim its [
       | inl taken ↦ inl (
         Acquire t d,
@@ -314,7 +315,7 @@ nobody_from s past run quiet (suc k) d above =
     elim (queue_on (f.face d)) as (λ q. queue_on (f.face d) ≡ q → q ≡ []) [
       | [] ↦ λ _. refl
       | one ∷ rest ↦ λ is. absurd (
-          let holder = holder_of (made s past d) (link_calls past d) (block_calls s past d) (event_calls past d) one rest (once s past run d) is in
+          let holder = holder_of (made s past d) (link_calls past d) (block_calls s past d) (event_calls s past d) one rest (once s past run d) is in
           let u : ℕ = holder.who in
           let all = standing_law s past run in
           let has : IsHolding (f.core u) d holder.mode = all.holds u d holder.mode holder.stands in

@@ -26,7 +26,7 @@ use Rattle.ocr_parts.specs.LegalOn.{IsCallOn}
 use Rattle.ocr_parts.specs.Legal.{IsRun, IsLegal}
 use Rattle.ocr_quiet.specs.Waits.{stands, standing, queue_on, held_on, rest_on, awaits, IsOrdered, AreStanding, IsOnce, is_gone_on}
 use Rattle.ocr_quiet.specs.Marks.{mark_in, mark, is_lost_in, IsTold, IsMarked}
-use Rattle.ocr_parts.proofs.After.{after_law}
+use Rattle.ocr_parts.proofs.After.{after_law, linked_core, deps_core}
 use Rattle.ocr_parts.proofs.Allowed.{allowed_law}
 use Rattle.ocr_quiet.proofs.Standing.{none_back}
 use Rattle.ocr_quiet.proofs.Waiting.{ready_standing, nothing_wanted}
@@ -47,7 +47,7 @@ once_on (Some (MadeBlock n c)) links blocks events are = once_law n c blocks are
 once_on other links blocks events are = tt
 
 pub once : (s : Setting) (past : History) → IsRun s past → IsOnce (parts_of s past)
-once s past run d = once_on (made s past d) (link_calls past d) (block_calls s past d) (event_calls past d) (allowed_law s past run d)
+once s past run d = once_on (made s past d) (link_calls past d) (block_calls s past d) (event_calls s past d) (allowed_law s past run d)
 
 -- AT A BLOCK THAT IS GONE nobody stands
 nobody_empty : (b : Bool) (xs : List (ℕ × Mode)) → (b && block.is_empty xs) ≡ true → xs ≡ []
@@ -63,11 +63,11 @@ gone_face (Some (MadeBlock n c)) links blocks events is =
 gone_face other links blocks events is = cc is
 
 pub readied_gone : (s : Setting) (past : History) (e : Entry) → IsEmptyGone (readied_on s past e (parts_of s past))
-readied_gone s past (Acquire t b) d = gone_face (made s past d) (link_calls past d) (block_calls s past d) (event_calls past d)
-readied_gone s past (Wait t b) d = gone_face (made s past d) (link_calls past d) (block_calls s past d) (event_calls past d)
-readied_gone s past (StaleAcquire t b) d = gone_face (made s past d) (link_calls past d) (block_calls s past d) (event_calls past d)
-readied_gone s past (Start t) d = gone_face (made s past d) (link_calls past d) (block_calls s past d) (event_calls past d)
-readied_gone s past other d = gone_face (made s past d) (link_calls past d) (block_calls s past d) (event_calls past d)
+readied_gone s past (Acquire t b) d = gone_face (made s past d) (link_calls past d) (block_calls s past d) (event_calls s past d)
+readied_gone s past (Wait t b) d = gone_face (made s past d) (link_calls past d) (block_calls s past d) (event_calls s past d)
+readied_gone s past (StaleAcquire t b) d = gone_face (made s past d) (link_calls past d) (block_calls s past d) (event_calls s past d)
+readied_gone s past (Start t) d = gone_face (made s past d) (link_calls past d) (block_calls s past d) (event_calls s past d)
+readied_gone s past other d = gone_face (made s past d) (link_calls past d) (block_calls s past d) (event_calls s past d)
 
 -- AT THE OPENING nobody holds and nobody waits
 stored_line : (xs : List ℕ) (k : ℕ) (ys : List block.BlockCall) → block.line_of 0 (stores_from k xs ++ ys) ≡ block.line_of 0 ys
@@ -156,7 +156,8 @@ called_mark : (limit : ℕ) (f : Parts) (t home : ℕ) (c : body.Call) (a : Answ
 called_mark limit f t home (call.DbCreate n fl) a w on legal u = mark_if f.core t u _ (creating_mark fl a.value (n / 8) (f.core t))
 called_mark limit f t home (call.DbRelease d) a w on legal u = mark_if f.core t u _ (dropping_mark d (f.core t))
 called_mark limit f t home (call.DbDestroy d) a w on legal u = mark_if f.core t u _ (dropping_mark d (f.core t))
-called_mark limit f t home (call.EdtCreate from pc params dc deps flags output) a w on legal u = mark_if f.core a.value u _ (new_mark (f.face from) a.value params ∙ ap mark (sym (legal.value.no_core on)))
+called_mark limit f t home (call.EdtCreate from pc params dc deps flags output) a w on legal u = ap mark (deps_core a.value 0 deps _ u) ∙ mark_if f.core a.value u _ (new_mark (f.face from) a.value params ∙ ap mark (sym (legal.value.no_core on)))
+called_mark limit f t home (call.AddDependence from x i m) a w on legal u = ap mark (linked_core (not (from == 0)) from _ _ u)
 called_mark limit f t home other a w on legal u = refl
 
 acquired_mark : (s : Edt) → is_lost_in s ≡ false → mark_in (acquired_edt (awoken s)) ≡ mark_in s

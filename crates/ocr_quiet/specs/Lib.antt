@@ -1,3 +1,4 @@
 pub mod Waits
 pub mod Marks
 pub mod Quiet
+pub mod Sent

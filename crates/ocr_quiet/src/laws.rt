@@ -1,5 +1,6 @@
 // The laws of the quiet end.
 ghost use Rattle.ocr_quiet.specs.Quiet.{StandingLaw, ToldLaw, WantedLaw, BoundLaw, EdtsLaw, WakeLaw, QuietLaw, NobodyLaw, FateLaw, IdleLaw, DrainLaw, DoneLaw};
+ghost use Rattle.ocr_quiet.specs.Sent.{SentLaw};
 
 /// What stands after every run: who stands at the blocks, how far the EDTs have come, and that what
 /// they want is there.
@@ -21,4 +22,10 @@ pub fn quiet_laws()
     ensures idle { IdleLaw }
     ensures drain { DrainLaw }
     ensures done { DoneLaw }
+{}
+
+/// Each message that is to be delivered is sound: it carries NULL_GUID or a block that was made,
+/// and satisfies a slot that its event has.
+pub fn sent_laws()
+    ensures { SentLaw }
 {}

@@ -1,5 +1,6 @@
 use Rattle.ocr_quiet.proofs.Stages.{standing_law, told_law}
-use Rattle.ocr_quiet.proofs.Given.{wanted_law, above_law}
+use Rattle.ocr_quiet.proofs.Given.{wanted_law}
+use Rattle.ocr_quiet.proofs.Lasting.{above_law}
 use Rattle.ocr_quiet.proofs.Edts.{edts_law}
 use Rattle.ocr_quiet.proofs.laws.standing_laws.Goals as goal
 
