@@ -1,7 +1,8 @@
 -- What the EDTs hold, through each entry.
-use Rattle.std.proofs.Common.{◌≡◌, ◌⊎◌, inl, inr, ℕ, ◌<◌, ◌/◌, List, [], ◌∷◌, ◌++◌, Bool, true, false, Option, Some, None, ◌==◌, if◌then◌else◌, refl, sym, ◌∙◌, ap, subst, is_some, length, arith}
+use Rattle.std.proofs.Common.{◌≡◌, ◌⊎◌, inl, inr, ℕ, ◌+◌, ◌<◌, ◌/◌, List, [], ◌∷◌, ◌++◌, Bool, true, false, not, Option, Some, None, ◌==◌, if◌then◌else◌, refl, sym, ◌∙◌, ap, subst, is_some, length, arith}
 use Rattle.std.proofs.lemmas.Bool.{eqb-true, ne_eqb}
 use Rattle.ocr_base.proofs.Booleans.{same, eqb_flips}
+use Rattle.ocr_guid.specs.declared.target.Target.{Target}
 use Rattle.ocr_acquire.specs.declared.Mode.{Mode}
 use Rattle.ocr_acquire.specs.declared.Mode.TheVariants as mode
 use Rattle.ocr_acquire.specs.Mode.{is_exclusive, mode_in}
@@ -9,6 +10,8 @@ use Rattle.ocr_acquire.specs.Writes.{written}
 use Rattle.ocr_datablock.specs.Block as block
 use Rattle.ocr_datablock.specs.Steps.{after_ask, after_release, after_store, after_lend, with_words, after_doom}
 use Rattle.ocr_datablock.specs.Lent.{Loan, loan_of}
+use Rattle.ocr_any_event.specs.declared.AnyEvent.{AnyEvent}
+use Rattle.ocr_any_event.specs.AnyEvent as event
 use Rattle.ocr_edt.specs.declared.Edt.{Edt}
 use Rattle.ocr_edt.specs.declared.Edt.TheVariants as phase
 use Rattle.ocr_edt.specs.Phases.{first_of, without}
@@ -18,25 +21,26 @@ use Rattle.ocr_meaning.specs.declared.call.Call as body
 use Rattle.ocr_meaning.specs.declared.call.Call.TheVariants as call
 use Rattle.ocr_meaning.specs.declared.call.Answer.{Answer}
 use Rattle.ocr_history.specs.declared.entry.Entry.{Entry}
-use Rattle.ocr_history.specs.declared.entry.Entry.TheVariants.{Call, Acquire, Wait, Start, Free, End, StaleAcquire}
+use Rattle.ocr_history.specs.declared.entry.Entry.TheVariants.{Call, Deliver, Acquire, Wait, Start, Free, End, StaleAcquire}
+use Rattle.ocr_history.specs.declared.entry.What.{What}
+use Rattle.ocr_history.specs.declared.entry.What.TheVariants as what
 use Rattle.ocr_history.specs.Made.{creator_of}
 use Rattle.ocr_parts.specs.declared.loans.Kept.{Kept}
 use Rattle.ocr_parts.specs.declared.part.Core.{Core}
 use Rattle.ocr_parts.specs.declared.part.Part.{Part}
 use Rattle.ocr_parts.specs.declared.part.Part.TheVariants as part
 use Rattle.ocr_parts.specs.Loans.{kept_in, without_kept, kept_of, kept_created}
-use Rattle.ocr_parts.specs.Calls.{is_number}
+use Rattle.ocr_parts.specs.Calls.{is_number, is_object, slot_target}
 use Rattle.ocr_parts.specs.Parts.{Parts}
-use Rattle.ocr_parts.specs.Kinds.{IsBlock, with_block, size_on, words_on, on_core, progress_in, core_progress, next_in, work_in, work_of, is_running, holds_of, kept_on, loan_on}
-use Rattle.ocr_parts.specs.Effects.{with_face, with_core, with_phase, made_ready, awoken, acquired_edt, waiting_edt, started_edt, holding_edt, dropped_edt, ended_edt, holding_core, creating_core, dropping_core, acquiring_core, next_on, next_mode_on, asked_if, granted, returned, hold_ended, new_face, new_core, ended, called, acquired, waited, changed, ready_at, stale_edt}
+use Rattle.ocr_parts.specs.Kinds.{IsBlock, with_block, with_event, size_on, words_on, on_core, progress_in, core_progress, next_in, work_in, work_of, is_running, holds_of, kept_on, loan_on}
+use Rattle.ocr_parts.specs.Effects.{with_face, with_core, with_phase, made_ready, awoken, acquired_edt, waiting_edt, started_edt, holding_edt, dropped_edt, ended_edt, holding_core, creating_core, dropping_core, acquiring_core, next_on, next_mode_on, asked_if, granted, returned, hold_ended, new_face, new_core, ended, linked_if, deps_linked, called, brought, acquired, waited, changed, ready_at, stale_edt}
 use Rattle.ocr_parts.specs.LegalOn.{IsLoanBack, IsEnding, IsGranted, IsTaken, IsCallOn, IsLegalOn, IsDooming}
 use Rattle.ocr_parts.proofs.Lent.{loan_kept}
-use Rattle.ocr_quiet.specs.Waits.{held_in, rest_in, held_on, rest_on, IsOrdered, AreStanding}
 use Rattle.ocr_quiet.proofs.Standing.{in_front, push_own}
 use Rattle.ocr_quiet.proofs.Waiting.{advances}
+use Rattle.ocr_quiet.specs.Waits.{held_in, rest_in, held_on, rest_on, IsOrdered, AreStanding}
 use Rattle.ocr_standing.specs.Held.{IsLoanKept, IsKeptWith, IsHeldSo, loans_on, AreKeptOnce, AreHeld}
 use Rattle.ocr_standing.proofs.Holding.{if_block, if_any, HoldsElse, IsKeeping, moved_held, faced_held, cored_held, step_stays, linked_stays, vacant_stays, vacant_none, none_kept, doomed_stays, evented_stays}
-use Rattle.ocr_any_event.specs.AnyEvent as event
 use Rattle.ocr_edt.specs.declared.Identity.{Identity}
 use Rattle.ocr_edt.specs.Steps.{with_next}
 
@@ -411,6 +415,22 @@ edt_made_held f g x dc deps params all face core =
 some_runs : (f : Parts) (t : ℕ) → is_running (f.core 0) ≡ false → is_running (f.core t) ≡ true → (t == 0) ≡ false
 some_runs f t never running = ne_eqb t 0 (λ is. absurd (let none : is_running (f.core t) ≡ false = ap (λ (n : ℕ). is_running (f.core n)) is ∙ never in cc (running, none)))
 
+-- AN EVENT IS LINKED, or satisfied
+evented_held : (f : Parts) (e : ℕ) (step : AnyEvent → AnyEvent) → AreHeld f → AreHeld (with_face f e (with_event (f.face e) step))
+evented_held f e step all = faced_held f e _ all (λ u n l is. evented_stays u (f.face e) step n l is)
+
+linked_held : (b : Bool) (d : ℕ) (t : Target) (f : Parts) → AreHeld f → AreHeld (linked_if b d t f)
+linked_held true d t f all = evented_held f d (λ st. event.after_link st t) all
+linked_held false d t f all = all
+
+deps_held : (t k : ℕ) (deps : List ℕ) (f : Parts) → AreHeld f → AreHeld (deps_linked t k deps f)
+deps_held t k [] f all = all
+deps_held t k (d ∷ rest) f all = deps_held t (k + 1) rest _ (linked_held (is_object d) d (slot_target t k) f all)
+
+brought_held : (w : What) (f : Parts) → AreHeld f → AreHeld (brought w f)
+brought_held (what.Satisfy e slot p) f all = evented_held f e (λ st. event.after_satisfy st slot p) all
+brought_held other f all = all
+
 -- EACH ENTRY
 called_held : (limit : ℕ) (f : Parts) (t home : ℕ) (c : body.Call) (a : Answer) (w : List (ℕ × ℕ)) → AreHeld f → is_running (f.core 0) ≡ false → is_done a.code ≡ true → IsCallOn limit f t home c a w → AreHeld (called t c a w f)
 called_held limit f t home (call.DbCreate n fl) a w all never on legal = block_made_held f t (n / 8) fl a.value all legal.running (some_runs f t never legal.running) (legal.value.fresh on).vacant
@@ -418,7 +438,7 @@ called_held limit f t home (call.DbRelease d) a w all never on legal = ended_hel
 called_held limit f t home (call.DbDestroy d) a w all never on legal = destroyed_held f t d w all legal.running (legal.value.0 on)
 called_held limit f t home (call.TemplateDestroy x) a w all never on legal = faced_held f x _ all (λ u n l is. doomed_stays u (f.face x) n l is)
 called_held limit f t home (call.Store d k v) a w all never on legal = faced_held f d _ all (λ u m l is. step_stays u (f.face d) (λ st. after_store st k v) m l (if_any (f.face d) _ (λ st. record { holders = λ n is. is; size = refl; lent = refl })) is)
-called_held limit f t home (call.AddDependence from x i m) a w all never on legal = faced_held f x _ all (λ u n l is. linked_stays u (f.face x) _ n l is)
+called_held limit f t home (call.AddDependence from x i m) a w all never on legal = linked_held (not (from == 0)) from _ _ (faced_held f x _ all (λ u n l is. linked_stays u (f.face x) _ n l is))
 called_held limit f t home (call.TemplateCreate function pc dc) a w all never on legal =
     let x : Part = part.Template (record { function = function; paramc = pc; depc = dc; destroyed = false }) in
     faced_held f a.value x all (λ u m l is. vacant_stays u (f.face a.value) x m l (legal.value.fresh on).vacant is)
@@ -428,8 +448,9 @@ called_held limit f t home (call.EventCreate k fl) a w all never on legal =
 called_held limit f t home (call.EventCreateParams k fl most sats nd) a w all never on legal =
     let x : Part = part.Event (event.state_of k fl most []) in
     faced_held f a.value x all (λ u m l is. vacant_stays u (f.face a.value) x m l (legal.value.fresh on).vacant is)
-called_held limit f t home (call.EventDestroy x) a w all never on legal = faced_held f x _ all (λ u n l is. evented_stays u (f.face x) _ n l is)
-called_held limit f t home (call.EdtCreate from pc params dc deps flags output) a w all never on legal = edt_made_held f a.value (f.face from) dc deps params all (legal.value.named.fresh on).vacant (legal.value.no_core on)
+called_held limit f t home (call.EventDestroy x) a w all never on legal = evented_held f x event.after_destroy all
+called_held limit f t home (call.Satisfy e p slot) a w all never on legal = evented_held f e (λ st. event.after_satisfy st slot p) all
+called_held limit f t home (call.EdtCreate from pc params dc deps flags output) a w all never on legal = deps_held a.value 0 deps _ (edt_made_held f a.value (f.face from) dc deps params all (legal.value.named.fresh on).vacant (legal.value.no_core on))
 called_held limit f t home other a w all never on legal = all
 
 pub entry_held : (limit : ℕ) (e : Entry) (f : Parts) → AreHeld f → AreStanding f → ((d : ℕ) → IsWhole (f.face d)) → is_running (f.core 0) ≡ false → IsLegalOn limit f e → AreHeld (changed e f)
@@ -437,6 +458,7 @@ entry_held limit (Call t home c a w) f all standing whole never legal = elim (is
   | true ↦ λ on. called_held limit f t home c a w all never on legal
   | false ↦ λ _. all
 ] refl
+entry_held limit (Deliver m c) f all standing whole never legal = elim (is_done c) as (λ b. AreHeld (if b then brought m.what f else f)) [ true ↦ brought_held m.what f all | false ↦ all ]
 entry_held limit (Acquire t d) f all standing whole never legal = acquired_held f t d all standing (whole d) legal.next legal.taken
 entry_held limit (Wait t d) f all standing whole never legal = waited_held f t d all
 entry_held limit (StaleAcquire t d) f all standing whole never legal = steady_held f t (λ e. stale_edt (awoken e)) all (λ c is. stale_steady c.edt)

@@ -1,5 +1,5 @@
 -- The plan of an EDT by its face and by what its slots are set to.
-use Rattle.std.proofs.Common.{◌≡◌, ℕ, zero, suc, ◌+◌, ◌<◌, List, [], ◌∷◌, not, Option, Some, None, refl, sym, ◌∙◌, ap, arith, length, map, Bool}
+use Rattle.std.proofs.Common.{◌≡◌, ℕ, zero, suc, ◌+◌, ◌<◌, List, [], ◌∷◌, not, Option, Some, None, refl, sym, ◌∙◌, ap, arith, length, map}
 use Rattle.std.specs.Prelude.{slice_index_or}
 use Rattle.std.specs.List.{filter, range_with_len}
 use Rattle.ocr_guid.specs.Target.{EventCall}
@@ -77,7 +77,7 @@ pub filled_law : FilledLaw
 filled_law s past t slots depv is len set =
     let n = depc_in (made s past t) in
     let links = link_calls past t in let sets = set_calls past t in
-    let state = face_slots (made s past t) links (block_calls s past t) (event_calls past t) slots is in
+    let state = face_slots (made s past t) links (block_calls s past t) (event_calls s past t) slots is in
     let count : length depv ≡ n = len ∙ (ap (λ (l : List Slot). length l) (sym state) ∙ many links sets n 0) in
     let from = set_from past t depv set in
     record {

@@ -1,13 +1,15 @@
 -- What an EDT finds in a block that it acquires in EW or CONST.
 use Rattle.std.proofs.Common.{◌≡◌, ℕ, ◌/◌, List, [], ◌∷◌, Bool, true, false, Option, Some, None, ◌==◌, ◌&&◌, if◌then◌else◌, refl, sym, ◌∙◌, ap, subst}
-use Rattle.std.proofs.lemmas.Bool.{eqb-true, eq-eqb}
+use Rattle.std.proofs.lemmas.Bool.{eqb-true}
 use Rattle.ocr_guid.specs.Target.{EventCall}
 use Rattle.ocr_acquire.specs.declared.Mode.{Mode}
 use Rattle.ocr_acquire.specs.declared.Mode.TheVariants as mode
-use Rattle.ocr_acquire.specs.Mode.{is_exclusive, mode_in}
+use Rattle.ocr_acquire.specs.Mode.{is_exclusive, mode_in, together}
 use Rattle.ocr_slots.specs.Slots as slot
 use Rattle.ocr_datablock.specs.Block as block
 use Rattle.ocr_datablock.specs.Lent.{Loan, loan_of}
+use Rattle.ocr_datablock.proofs.Laws.{holders_law, loan_law}
+use Rattle.ocr_datablock.proofs.Lines.{holders_together}
 use Rattle.ocr_edt.specs.Edt as edt
 use Rattle.ocr_meaning.specs.Holds.{is_done, is_isolated}
 use Rattle.ocr_meaning.specs.declared.call.Call as body
@@ -23,9 +25,10 @@ use Rattle.ocr_parts.specs.declared.part.Part.TheVariants as part
 use Rattle.ocr_parts.specs.Loans.{kept_in, without_kept, loan_in, given_loan, kept_created}
 use Rattle.ocr_parts.specs.Calls.{is_holding, is_number, next_mode, ask_calls, lend_calls, grant_calls, return_calls, end_calls, doom_calls, block_step, block_calls, contents_of, kept_now, loan_step, loans_of, edt_calls, link_calls, event_calls}
 use Rattle.ocr_parts.specs.Parts.{face, core, parts_of}
-use Rattle.ocr_parts.specs.Kinds.{IsBlock, is_running, kept_on}
+use Rattle.ocr_parts.specs.Kinds.{IsBlock, is_running, mode_on, kept_on}
 use Rattle.ocr_parts.specs.LegalOn.{IsAnswered, IsShared}
 use Rattle.ocr_parts.specs.Legal.{IsRun, IsLegal}
+use Rattle.ocr_parts.proofs.Allowed.{allowed_law}
 use Rattle.ocr_parts.proofs.Blocks.{borrower_is, asked_contents}
 use Rattle.ocr_parts.proofs.Lent.{loan_kept}
 use Rattle.ocr_quiet.specs.Waits.{held_on}
@@ -37,6 +40,7 @@ use Rattle.ocr_standing.specs.Lasting.{is_own}
 use Rattle.ocr_standing.specs.Found.{found, FoundLaw, UnchangedLaw}
 use Rattle.ocr_standing.proofs.Entries.{without_once}
 use Rattle.ocr_standing.proofs.Held.{holding_law}
+use Rattle.ocr_standing.proofs.Said.{stores_in_rw}
 use Rattle.ocr_standing.proofs.Working.{so_held}
 
 -- A LOAN began with these words, where there is one
@@ -130,18 +134,45 @@ found_law s past t d m run held isolated =
     let is : BeganWith (found s past t d) with_it.0.loan = subst (IsFoundIn (found s past t d)) here (began s past t d run) in
     ap loan_in with_it.1 ∙ block_found t m (found s past t d) with_it.0 ((parts_of s past).face d) with_it.2 isolated is
 
--- WHILE A BLOCK IS HELD in EW its words are lent to the holder
-lent_loan : (t : ℕ) (o : Option Loan) (st : block.State) → IsLoanKept t mode.Ew o st → is_number t st.borrower ≡ true
-lent_loan t None st unlent = cc (unlent.shared)
-lent_loan t (Some l) st of = of.lent
-
-record IsLent (md : Option Made) (blocks : List block.BlockCall) (t : ℕ) : Type 0 where
+-- WHILE A BLOCK IS HELD in EW or CONST no other EDT writes it
+record IsHeldIn (md : Option Made) (blocks : List block.BlockCall) (t : ℕ) (m : Mode) : Type 0 where
   there : md ≡ None → ⊥
-  lent : block.borrower_of blocks ≡ Some t
+  holder : mode_in t (block.holders_of (creator_in md) blocks) ≡ Some m
 
-lent_block : (md : Option Made) (links : List slot.SlotCall) (blocks : List block.BlockCall) (events : List EventCall) (t : ℕ) (kept : Kept) → IsBlock (face md links blocks events) (IsKeptWith t mode.Ew kept) → IsLent md blocks t
-lent_block (Some (MadeBlock n c)) links blocks events t kept is = record { there = λ none. cc none; lent = borrower_is t (block.borrower_of blocks) (lent_loan t kept.loan (block.state_of n c blocks) is.loan) }
-lent_block other links blocks events t kept is = absurd is
+held_block : (md : Option Made) (links : List slot.SlotCall) (blocks : List block.BlockCall) (events : List EventCall) (t : ℕ) (m : Mode) (kept : Kept) → IsBlock (face md links blocks events) (IsKeptWith t m kept) → IsHeldIn md blocks t m
+held_block (Some (MadeBlock n c)) links blocks events t m kept is = record { there = λ none. cc none; holder = is.holder }
+held_block other links blocks events t m kept is = absurd is
+
+shared_holder : (md : Option Made) (links : List slot.SlotCall) (blocks : List block.BlockCall) (events : List EventCall) (t k : ℕ) (m : Mode) (o : Option Mode) → o ≡ Some m → IsBlock (face md links blocks events) (IsShared t k o)
+    → mode_in t (block.holders_of (creator_in md) blocks) ≡ Some m
+shared_holder (Some (MadeBlock n c)) links blocks events t k m o held is = sym is.same ∙ held
+shared_holder other links blocks events t k m o held is = absurd is
+
+alone_other : (by t : ℕ) (m : Mode) → (by == t) ≡ false → mode_in t ((by, mode.Ew) ∷ []) ≡ Some m → ⊥
+alone_other by t m apart held = elim (by == t) as (λ b. b ≡ false → ◌≡◌ {A = Option Mode} (if b then Some mode.Ew else None) (Some m) → ⊥) [ true ↦ λ off _. cc off | false ↦ λ _ is. cc is ] apart held
+
+-- no other EDT has its words on loan
+not_back : (s : Setting) (past : History) (by t d : ℕ) (m : Mode) → IsRun s past → IsHeldIn (made s past d) (block_calls s past d) t m → (by == t) ≡ false → is_number by (block.borrower_of (block_calls s past d)) ≡ false
+not_back s past by t d m run held apart = off_from (is_number by (block.borrower_of (block_calls s past d))) (λ on.
+    let alone = (loan_law (size_in (made s past d)) (creator_in (made s past d)) (block_calls s past d) by (allowed_law s past run d) (borrower_is by (block.borrower_of (block_calls s past d)) on)).0 in
+    alone_other by t m apart (sym (ap (mode_in t) alone) ∙ held.holder))
+
+-- and none stores in it
+writes_beside : (m : Mode) → is_isolated m ≡ true → together mode.Rw m ≡ false
+writes_beside mode.Ew is = refl
+writes_beside mode.Const is = refl
+writes_beside other is = cc is
+
+no_store : (s : Setting) (past : History) (by home b k v : ℕ) (a : Answer) (w : List (ℕ × ℕ)) (t d : ℕ) (m : Mode) → IsRun s past → IsLegal s past (Call by home (call.Store b k v) a w) → IsHeldIn (made s past d) (block_calls s past d) t m → is_isolated m ≡ true → (by == t) ≡ false
+    → (b == d) ≡ true → ⊥
+no_store s past by home b k v a w t d m run legal held isolated apart here =
+    let writes : mode_in by (block.holders_of (creator_in (made s past b)) (block_calls s past b)) ≡ Some mode.Rw =
+    shared_holder (made s past b) (link_calls past b) (block_calls s past b) (event_calls s past b) by k mode.Rw (mode_on ((parts_of s past).core by) b) (stores_in_rw s past by home b k v a w run legal) legal.on_parts.value.0 in
+    let at : mode_in by (block.holders_of (creator_in (made s past d)) (block_calls s past d)) ≡ Some mode.Rw =
+    subst (λ (g : ℕ). mode_in by (block.holders_of (creator_in (made s past g)) (block_calls s past g)) ≡ Some mode.Rw) (eqb-true b d here) writes in
+    let on : together mode.Rw m ≡ true = holders_together by t mode.Rw m (block.holders_of (creator_in (made s past d)) (block_calls s past d)) (holders_law (creator_in (made s past d)) (block_calls s past d)) apart at held.holder in
+    let off : together mode.Rw m ≡ false = writes_beside m isolated in
+    cc (on, off)
 
 made_there : (s : Setting) (past : History) (t : ℕ) (c : body.Call) (a : Answer) (u : ℕ) → IsAnswered s.limit (parts_of s past) t c a → (made s past u ≡ None → ⊥) → is_new c a u ≡ false
 made_there s past t (call.DbCreate n fl) a u legal there = off_from (makes a u) (λ on. there (new_free s past a u legal on))
@@ -150,9 +181,6 @@ made_there s past t (call.EventCreate kind fl) a u legal there = off_from (makes
 made_there s past t (call.EventCreateParams kind fl most sats nd) a u legal there = off_from (makes a u) (λ on. there (new_free s past a u legal on))
 made_there s past t (call.EdtCreate from pc ps dc ds fl o) a u legal there = off_from (makes a u) (λ on. there (new_free s past a u legal.named on))
 made_there s past t other a u legal there = refl
-
-not_back : (by t : ℕ) (o : Option ℕ) → o ≡ Some t → (by == t) ≡ false → is_number by o ≡ false
-not_back by t o is apart = ap (is_number by) is ∙ off_from (t == by) (λ same. let on : (by == t) ≡ true = eq-eqb by t (sym (eqb-true t by same)) in cc (on, apart))
 
 returned_same : (n by : ℕ) (w : List (ℕ × ℕ)) (calls : List block.BlockCall) → is_number by (block.borrower_of calls) ≡ false → block.contents n (return_calls by w calls) ≡ block.contents n calls
 returned_same n by w calls off = rw off refl
@@ -165,22 +193,15 @@ doomed_if : (n by : ℕ) (w : List (ℕ × ℕ)) (calls : List block.BlockCall) 
 doomed_if n by w calls true off = returned_same n by w calls off
 doomed_if n by w calls false off = refl
 
-not_lent : (md : Option Made) (links : List slot.SlotCall) (blocks : List block.BlockCall) (events : List EventCall) (t k : ℕ) (o : Option Mode) → IsBlock (face md links blocks events) (IsShared t k o) → block.borrower_of blocks ≡ None
-not_lent (Some (MadeBlock n c)) links blocks events t k o is = is.not_lent
-not_lent other links blocks events t k o is = absurd is
-
-step_same : (s : Setting) (past : History) (by : ℕ) (c : body.Call) (a : Answer) (w : List (ℕ × ℕ)) (t d n : ℕ) → IsAnswered s.limit (parts_of s past) by c a → block.borrower_of (block_calls s past d) ≡ Some t → (by == t) ≡ false
+step_same : (s : Setting) (past : History) (by home : ℕ) (c : body.Call) (a : Answer) (w : List (ℕ × ℕ)) (t d n : ℕ) (m : Mode) → IsRun s past → IsLegal s past (Call by home c a w) → IsHeldIn (made s past d) (block_calls s past d) t m → is_isolated m ≡ true → (by == t) ≡ false
     → block.contents n (block_step by c a w d (block_calls s past d)) ≡ block.contents n (block_calls s past d)
-step_same s past by (call.DbRelease b) a w t d n legal lent apart = ended_if n by w (block_calls s past d) (is_done a.code && (b == d)) (not_back by t (block.borrower_of (block_calls s past d)) lent apart)
-step_same s past by (call.DbDestroy b) a w t d n legal lent apart = doomed_if n by w (block_calls s past d) (is_done a.code && (b == d)) (not_back by t (block.borrower_of (block_calls s past d)) lent apart)
-step_same s past by (call.Store b k v) a w t d n legal lent apart = elim (is_done a.code && (b == d)) as (λ c. (is_done a.code && (b == d)) ≡ c → block.contents n (if c then block.Store k v ∷ block_calls s past d else block_calls s past d) ≡ block.contents n (block_calls s past d)) [
-  | true ↦ λ on. absurd (
-      let here : b ≡ d = eqb-true b d (both_true (is_done a.code) (b == d) on).1 in
-      let none : block.borrower_of (block_calls s past d) ≡ None = subst (λ (g : ℕ). block.borrower_of (block_calls s past g) ≡ None) here (not_lent (made s past b) (link_calls past b) (block_calls s past b) (event_calls past b) by k _ legal.0) in
-      cc (lent, none))
+step_same s past by home (call.DbRelease b) a w t d n m run legal held isolated apart = ended_if n by w (block_calls s past d) (is_done a.code && (b == d)) (not_back s past by t d m run held apart)
+step_same s past by home (call.DbDestroy b) a w t d n m run legal held isolated apart = doomed_if n by w (block_calls s past d) (is_done a.code && (b == d)) (not_back s past by t d m run held apart)
+step_same s past by home (call.Store b k v) a w t d n m run legal held isolated apart = elim (is_done a.code && (b == d)) as (λ c. (is_done a.code && (b == d)) ≡ c → block.contents n (if c then block.Store k v ∷ block_calls s past d else block_calls s past d) ≡ block.contents n (block_calls s past d)) [
+  | true ↦ λ on. absurd (no_store s past by home b k v a w t d m run legal held isolated apart (both_true (is_done a.code) (b == d) on).1)
   | false ↦ λ _. refl
 ] refl
-step_same s past by other a w t d n legal lent apart = refl
+step_same s past by home other a w t d n m run legal held isolated apart = refl
 
 lend_same : (n t : ℕ) (m : Mode) (calls : List block.BlockCall) → block.contents n (lend_calls t m calls) ≡ block.contents n calls
 lend_same n t m calls = elim (is_exclusive m) as (λ b. block.contents n (if b then block.Lend t ∷ calls else calls) ≡ block.contents n calls) [ true ↦ refl | false ↦ refl ]
@@ -194,20 +215,19 @@ asked_same n t m calls true = refl
 asked_same n t m calls false = refl
 
 pub unchanged_law : UnchangedLaw
-unchanged_law s past e t d run legal held apart =
-    let with_it = kept_with s past t d mode.Ew run held in
-    let is = lent_block (made s past d) (link_calls past d) (block_calls s past d) (event_calls past d) t with_it.0 with_it.2 in
-    by_entry e legal apart is.there is.lent
+unchanged_law s past e t d m run legal held isolated apart =
+    let with_it = kept_with s past t d m run held in
+    by_entry e legal apart (held_block (made s past d) (link_calls past d) (block_calls s past d) (event_calls s past d) t m with_it.0 with_it.2)
   where
-    by_entry : (e : Entry) → IsLegal s past e → is_own e t ≡ false → (made s past d ≡ None → ⊥) → block.borrower_of (block_calls s past d) ≡ Some t → contents_of s (e ∷ past) d ≡ contents_of s past d
-    by_entry (Call by home c a w) legal apart there lent =
-        let off : is_new c a d ≡ false = made_there s past by c a d legal.on_parts.value there in
+    by_entry : (e : Entry) → IsLegal s past e → is_own e t ≡ false → IsHeldIn (made s past d) (block_calls s past d) t m → contents_of s (e ∷ past) d ≡ contents_of s past d
+    by_entry (Call by home c a w) legal apart held =
+        let off : is_new c a d ≡ false = made_there s past by c a d legal.on_parts.value held.there in
         let size : size_in (made s (Call by home c a w ∷ past) d) ≡ size_in (made s past d) = ap size_in (made_kept s past by home c a w d off) in
         let calls : block_calls s (Call by home c a w ∷ past) d ≡ block_step by c a w d (block_calls s past d) = rw off refl in
         ap (λ (n : ℕ). block.contents n (block_calls s (Call by home c a w ∷ past) d)) size
         ∙ ap (block.contents (size_in (made s past d))) calls
-        ∙ step_same s past by c a w t d (size_in (made s past d)) legal.on_parts.value lent apart
-    by_entry (Acquire u b) legal apart there lent = granted_if (size_in (made s past d)) (creator_in (made s past d)) u (next_mode s past u) (block_calls s past d) (b == d)
-    by_entry (Wait u b) legal apart there lent = asked_same (size_in (made s past d)) u (next_mode s past u) (block_calls s past d) (b == d)
-    by_entry (Free u b w) legal apart there lent = ended_if (size_in (made s past d)) u w (block_calls s past d) (b == d) (not_back u t (block.borrower_of (block_calls s past d)) lent apart)
-    by_entry other legal apart there lent = refl
+        ∙ step_same s past by home c a w t d (size_in (made s past d)) m run legal held isolated apart
+    by_entry (Acquire u b) legal apart held = granted_if (size_in (made s past d)) (creator_in (made s past d)) u (next_mode s past u) (block_calls s past d) (b == d)
+    by_entry (Wait u b) legal apart held = asked_same (size_in (made s past d)) u (next_mode s past u) (block_calls s past d) (b == d)
+    by_entry (Free u b w) legal apart held = ended_if (size_in (made s past d)) u w (block_calls s past d) (b == d) (not_back s past u t d m run held apart)
+    by_entry other legal apart held = refl

@@ -1,5 +1,5 @@
 -- What the EDTs of a run hold, and that a running EDT may give back what it holds.
-use Rattle.std.proofs.Common.{◌≡◌, inl, inr, ℕ, List, [], ◌∷◌, true, false, Option, Some, None, ◌==◌, ◌&&◌, if◌then◌else◌, refl, sym, ◌∙◌, ap, subst, is_some, length, arith, Bool}
+use Rattle.std.proofs.Common.{◌≡◌, inl, inr, ℕ, List, [], ◌∷◌, true, false, Option, Some, None, ◌==◌, ◌&&◌, if◌then◌else◌, refl, sym, ◌∙◌, ap, subst, is_some, length, arith}
 use Rattle.std.proofs.lemmas.Bool.{eqb-true}
 use Rattle.ocr_guid.specs.Target.{EventCall}
 use Rattle.ocr_acquire.specs.declared.Mode.{Mode}
@@ -75,11 +75,11 @@ whole_face (Some (MadeBlock n c)) links blocks events = λ none. let words = wor
 whole_face other links blocks events = tt
 
 readied_whole : (s : Setting) (past : History) (e : Entry) (d : ℕ) → IsWhole ((readied_on s past e (parts_of s past)).face d)
-readied_whole s past (Acquire t b) d = whole_face (made s past d) (link_calls past d) (block_calls s past d) (event_calls past d)
-readied_whole s past (Wait t b) d = whole_face (made s past d) (link_calls past d) (block_calls s past d) (event_calls past d)
-readied_whole s past (StaleAcquire t b) d = whole_face (made s past d) (link_calls past d) (block_calls s past d) (event_calls past d)
-readied_whole s past (Start t) d = whole_face (made s past d) (link_calls past d) (block_calls s past d) (event_calls past d)
-readied_whole s past other d = whole_face (made s past d) (link_calls past d) (block_calls s past d) (event_calls past d)
+readied_whole s past (Acquire t b) d = whole_face (made s past d) (link_calls past d) (block_calls s past d) (event_calls s past d)
+readied_whole s past (Wait t b) d = whole_face (made s past d) (link_calls past d) (block_calls s past d) (event_calls s past d)
+readied_whole s past (StaleAcquire t b) d = whole_face (made s past d) (link_calls past d) (block_calls s past d) (event_calls s past d)
+readied_whole s past (Start t) d = whole_face (made s past d) (link_calls past d) (block_calls s past d) (event_calls s past d)
+readied_whole s past other d = whole_face (made s past d) (link_calls past d) (block_calls s past d) (event_calls s past d)
 
 -- AFTER EACH RUN
 new_held : (m : Option Made) (t e : ℕ) → (mode_in e (held_on (core m t [] [])) ≡ None) × (kept_on (core m t [] []) e ≡ None)

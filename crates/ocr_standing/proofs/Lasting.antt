@@ -2,9 +2,11 @@
 use Rattle.std.proofs.Common.{◌≡◌, ◌≢◌, ℕ, zero, suc, ◌+◌, ◌<◌, ◌≤◌, List, [], ◌∷◌, map, cond, Bool, true, false, Option, Some, None, ◌==◌, ◌&&◌, not, if◌then◌else◌, refl, sym, ◌∙◌, ap, subst, is_some, arith}
 use Rattle.std.proofs.lemmas.Bool.{eqb-true, eqb-false, ltb-true}
 use Rattle.std.specs.List.{filter, range_with_len}
+use Rattle.ocr_guid.specs.Target.{EventCall}
 use Rattle.ocr_guid.specs.declared.Code.{Code}
 use Rattle.ocr_slots.specs.declared.Slot.{Slot}
 use Rattle.ocr_slots.specs.Slots as slot
+use Rattle.ocr_datablock.specs.Block as block
 use Rattle.ocr_meaning.specs.Holds.{is_done}
 use Rattle.ocr_meaning.specs.declared.call.Call as body
 use Rattle.ocr_meaning.specs.declared.call.Call.TheVariants as call
@@ -14,16 +16,17 @@ use Rattle.ocr_history.specs.declared.entry.Message.{Message}
 use Rattle.ocr_history.specs.declared.entry.What.{What}
 use Rattle.ocr_history.specs.declared.entry.What.TheVariants as what
 use Rattle.ocr_history.specs.History.{History, Setting}
-use Rattle.ocr_history.specs.Made.{Made, made, makes, is_new, depc_in, is_edt_made}
-use Rattle.ocr_parts.specs.Calls.{mode_named, link_step, link_calls, set_step, set_calls, depc_of, open_slots, slots_now}
-use Rattle.ocr_parts.specs.Parts.{parts_of}
+use Rattle.ocr_history.specs.Made.{Made, MadeEdt, made, makes, is_new, depc_in, is_edt_made}
+use Rattle.ocr_parts.specs.Calls.{mode_named, link_step, link_calls, block_calls, event_calls, set_step, set_calls, depc_of, open_slots, slots_now}
+use Rattle.ocr_parts.specs.Parts.{face, parts_of}
+use Rattle.ocr_parts.specs.Kinds.{is_edt_face}
 use Rattle.ocr_parts.specs.LegalOn.{IsAnswered, IsCallOn}
 use Rattle.ocr_parts.specs.Legal.{IsRun, IsLegal}
 use Rattle.ocr_quiet.proofs.Choices.{off_from, not_off, both_true}
-use Rattle.ocr_quiet.proofs.Stages.{made_kept}
 use Rattle.ocr_quiet.proofs.Edts.{new_free, edts_law}
+use Rattle.ocr_quiet.proofs.Stages.{made_kept}
 use Rattle.ocr_standing.specs.Lasting.{MadeLaw, StaysLaw}
-use Rattle.ocr_standing.proofs.Once.{dependence_slot, is_once, set_once_law, bit}
+use Rattle.ocr_standing.proofs.Once.{dependence_slot, set_once_law, set_linked}
 
 -- WHAT IS MADE lasts
 keeps_made : (b : Bool) (x y : Option Made) (m : Made) → (b ≡ true → y ≡ None) → y ≡ Some m → (if b then x else y) ≡ Some m
@@ -68,23 +71,25 @@ range_off p a (suc n) k none low high = elim (p a) as (λ b. p a ≡ b → cond 
 pub all_set : (s : Setting) (past : History) (t k : ℕ) → open_slots s past t ≡ [] → k < depc_of s past t → slot.is_set (set_calls past t) k ≡ true
 all_set s past t k none below = not_off _ (range_off (λ j. not (slot.is_set (set_calls past t) j)) 0 (depc_of s past t) k none (omega arith) (omega (arith, below)))
 
-set_linked : (s : Setting) (past : History) (t k : ℕ) → IsRun s past → slot.is_set (set_calls past t) k ≡ true → slot.is_linked (link_calls past t) k ≡ false → ⊥
-set_linked s past t k run set off =
-    let once = is_once s past t k run in
-    let one : bit (slot.is_set (set_calls past t) k) ≡ 1 = ap bit set in
-    let none : bit (slot.is_linked (link_calls past t) k) ≡ 0 = ap bit off in
-    omega (arith, once, one, none)
+edt_face : (m : Option Made) (links : List slot.SlotCall) (blocks : List block.BlockCall) (events : List EventCall) → is_edt_made m ≡ true → is_edt_face (face m links blocks events) ≡ true
+edt_face (Some (MadeEdt f ps n)) links blocks events is = refl
+edt_face other links blocks events is = cc is
 
 -- no accepted dependence links one of them
-links_stay : (s : Setting) (past : History) (t home : ℕ) (c : body.Call) (a : Answer) (w : List (ℕ × ℕ)) (u : ℕ) → IsRun s past → IsCallOn s.limit (parts_of s past) t home c a w → open_slots s past u ≡ [] → link_step c a u (link_calls past u) ≡ link_calls past u
-links_stay s past t home (call.AddDependence from x i m) a w u run legal set = elim (is_done a.code && (x == u)) as (λ b. (is_done a.code && (x == u)) ≡ b → (if b then slot.Linking i (mode_named m) ∷ link_calls past u else link_calls past u) ≡ link_calls past u) [
+links_stay : (s : Setting) (past : History) (t home : ℕ) (c : body.Call) (a : Answer) (w : List (ℕ × ℕ)) (u : ℕ) → IsRun s past → IsCallOn s.limit (parts_of s past) t home c a w → is_edt_made (made s past u) ≡ true → open_slots s past u ≡ [] → link_step c a u (link_calls past u) ≡ link_calls past u
+links_stay s past t home (call.AddDependence from x i m) a w u run legal is_made set = elim (is_done a.code && (x == u)) as (λ b. (is_done a.code && (x == u)) ≡ b → (if b then slot.Linking i (mode_named m) ∷ link_calls past u else link_calls past u) ≡ link_calls past u) [
   | true ↦ λ is. absurd (
       let both = both_true (is_done a.code) (x == u) is in
-      let slot_is = dependence_slot s past t home from x i m a w both.0 legal in
-      set_linked s past x i run (all_set s past x i (subst (λ (n : ℕ). open_slots s past n ≡ []) (sym (eqb-true x u both.1)) set) (ltb-true i (depc_of s past x) slot_is.0)) slot_is.1)
+      let here : u ≡ x = sym (eqb-true x u both.1) in
+      let there : is_edt_face ((parts_of s past).face x) ≡ true = edt_face (made s past x) (link_calls past x) (block_calls s past x) (event_calls s past x) (subst (λ (n : ℕ). is_edt_made (made s past n) ≡ true) here is_made) in
+      let slot_is = dependence_slot s past t home from x i m a w both.0 legal there in
+      let filled = all_set s past x i (subst (λ (n : ℕ). open_slots s past n ≡ []) here set) (ltb-true i (depc_of s past x) slot_is.0) in
+      let linked = set_linked s past x i run filled in
+      let off = slot_is.1 in
+      cc (linked, off))
   | false ↦ λ _. refl
 ] refl
-links_stay s past t home other a w u run legal set = refl
+links_stay s past t home other a w u run legal is_made set = refl
 
 -- and no message sets one
 sets_stay : (s : Setting) (past : History) (m : Message) (c : Code) (w : What) (u : ℕ) → m.what ≡ w → IsRun s past → IsLegal s past (Deliver m c) → open_slots s past u ≡ [] → set_step w u (set_calls past u) ≡ set_calls past u
@@ -101,14 +106,14 @@ sets_stay s past m c other u is run legal set = refl
 abbrev slots_by : ℕ → List slot.SlotCall → List slot.SlotCall → List Slot
 slots_by n links sets = map (λ k. record { mode = slot.mode_of links k; payload = slot.payload_of sets k }) (slot.slots_of n)
 
-call_stays : (s : Setting) (past : History) (t home : ℕ) (c : body.Call) (a : Answer) (w : List (ℕ × ℕ)) (u : ℕ) → IsRun s past → IsCallOn s.limit (parts_of s past) t home c a w → is_new c a u ≡ false → open_slots s past u ≡ [] → slots_now s (Call t home c a w ∷ past) u ≡ slots_now s past u
-call_stays s past t home c a w u run legal off set =
+call_stays : (s : Setting) (past : History) (t home : ℕ) (c : body.Call) (a : Answer) (w : List (ℕ × ℕ)) (u : ℕ) → IsRun s past → IsCallOn s.limit (parts_of s past) t home c a w → is_edt_made (made s past u) ≡ true → is_new c a u ≡ false → open_slots s past u ≡ [] → slots_now s (Call t home c a w ∷ past) u ≡ slots_now s past u
+call_stays s past t home c a w u run legal is_made off set =
     let depc : depc_of s (Call t home c a w ∷ past) u ≡ depc_of s past u = ap depc_in (made_kept s past t home c a w u off) in
-    let links : link_calls (Call t home c a w ∷ past) u ≡ link_calls past u = rw off (links_stay s past t home c a w u run legal set) in
+    let links : link_calls (Call t home c a w ∷ past) u ≡ link_calls past u = rw off (links_stay s past t home c a w u run legal is_made set) in
     let sets : set_calls (Call t home c a w ∷ past) u ≡ set_calls past u = rw off refl in
     λ i. slots_by (depc i) (links i) (sets i)
 
 pub stays_law : StaysLaw
-stays_law s past (Call t home c a w) u run legal is_one set = call_stays s past t home c a w u run legal.on_parts (made_old s past t c a u legal.on_parts.value (edts_law s past run u ∙ is_one)) set
+stays_law s past (Call t home c a w) u run legal is_one set = let is_made : is_edt_made (made s past u) ≡ true = edts_law s past run u ∙ is_one in call_stays s past t home c a w u run legal.on_parts is_made (made_old s past t c a u legal.on_parts.value is_made) set
 stays_law s past (Deliver m c) u run legal is_one set = ap (slots_by (depc_of s past u) (link_calls past u)) (sets_stay s past m c m.what u refl run legal set)
 stays_law s past other u run legal is_one set = refl

@@ -1,6 +1,8 @@
 pub mod Holding
 pub mod Entries
 pub mod Held
+pub mod Named
+pub mod Targets
 pub mod Once
 pub mod Lasting
 pub mod Planned
@@ -9,4 +11,5 @@ pub mod Kept
 pub mod Filled
 pub mod Plain
 pub mod Working
+pub mod Said
 pub mod Found

@@ -1,174 +1,69 @@
--- Each slot is set once: it is linked once, and each link sends one message that sets it.
-use Rattle.std.proofs.Common.{◌≡◌, ℕ, zero, suc, ◌+◌, ◌<◌, ◌≤◌, List, [], ◌∷◌, ◌++◌, Bool, true, false, ◌==◌, ◌||◌, ◌&&◌, not, nat_lt, if◌then◌else◌, Option, Some, None, refl, sym, ◌∙◌, ap, subst, is_some, arith, rules, length, Ok, Err, ◌⊎◌, inl, inr}
-use Rattle.std.specs.Prelude.{slice_index_or}
+-- Each slot is set once: it is linked once, and each link sends one message that sets it, at once or
+-- once the event that keeps the slot as a target reaches it.
+use Rattle.std.proofs.Common.{◌≡◌, ℕ, zero, suc, ◌+◌, ◌<◌, ◌≤◌, List, [], ◌∷◌, Bool, true, false, ◌==◌, ◌||◌, ◌&&◌, not, nat_lt, if◌then◌else◌, Option, Some, None, refl, sym, ◌∙◌, ap, subst, is_some, arith, length, Ok, Err}
 use Rattle.std.proofs.lemmas.Grind.{common_steps}
-use Rattle.std.proofs.lemmas.Bool.{eqb-true, ltb-true}
-use Rattle.ocr_guid.specs.Target.{EventCall, was_destroyed}
+use Rattle.std.proofs.lemmas.Bool.{eqb-true, ltb-true, ltb-false, le-ltb, ne_eqb}
 use mathlib.Core.Option.{some, some-injective, some-ne-none}
 use lib.ListN.{get_elem?}
+use Rattle.ocr_base.proofs.Booleans.{same, and_false}
+use Rattle.ocr_guid.specs.Target.{EventCall, was_destroyed}
+use Rattle.ocr_guid.specs.declared.target.Target.{Target}
 use Rattle.ocr_guid.specs.declared.Code.{Code}
+use Rattle.ocr_guid.specs.declared.Code.TheVariants as code
 use Rattle.ocr_mail.specs.Mail.{named, same_name, drop_one, without, tally}
 use Rattle.ocr_acquire.specs.declared.Mode.{Mode}
+use Rattle.ocr_acquire.specs.declared.Mode.TheVariants as mode
+use Rattle.ocr_template.specs.declared.Template.{Template}
+use Rattle.ocr_template.specs.Template.{count_meant, counts_of, is_refused}
 use Rattle.ocr_slots.proofs.Laws.{answer_law}
+use Rattle.ocr_slots.specs.Slots as slot
+use Rattle.ocr_datablock.specs.Block as block
+use Rattle.ocr_meaning.specs.Holds.{is_done}
+use Rattle.ocr_meaning.specs.declared.call.Call.TheVariants as call
 use Rattle.ocr_meaning.specs.declared.call.Answer.{Answer}
 use Rattle.ocr_history.specs.declared.entry.Entry.{Entry}
 use Rattle.ocr_history.specs.declared.entry.Entry.TheVariants.{Call, Deliver}
 use Rattle.ocr_history.specs.declared.entry.Message.{Message}
 use Rattle.ocr_history.specs.declared.entry.What.{What}
-use Rattle.ocr_history.specs.History.{History, Setting}
-use Rattle.ocr_history.specs.Made.{Made, MadeTemplate, MadeEdt, made, makes, opened, edt_from, depc_in}
-use Rattle.ocr_meaning.specs.Holds.{is_done}
-use Rattle.ocr_parts.specs.Calls.{mode_named, is_given, with_dep, dep_links, link_calls, set_step, set_calls, block_calls, depc_of, event_calls}
-use Rattle.ocr_parts.specs.Codes.{link_code, counted_code, creation_code}
-use Rattle.ocr_parts.specs.Messages.{sends, dep_sets, delivered, pending}
-use Rattle.ocr_parts.specs.Parts.{parts_of, face}
-use Rattle.ocr_parts.specs.Legal.{IsRun, IsLegal}
-use Rattle.ocr_standing.specs.Lasting.{SetOnceLaw, DeliveredLaw, delivery_count}
-use Rattle.ocr_quiet.proofs.Edts.{new_free}
-use Rattle.ocr_quiet.proofs.Choices.{both_true}
-use Rattle.ocr_parts.proofs.After.{done_is}
-use Rattle.ocr_parts.proofs.After.{linkable, accepted}
-use Rattle.ocr_history.specs.declared.objects.TheConstants.{ARGUMENTS, MAIN_EDT}
-use Rattle.ocr_template.specs.declared.Template.{Template}
-use Rattle.ocr_template.specs.Template.{count_meant, counts_of, is_refused}
-use Rattle.ocr_parts.specs.LegalOn.{IsCallOn}
-use Rattle.ocr_guid.specs.declared.Code.TheVariants as code
-use Rattle.ocr_mail.specs.Mail as mail
-use Rattle.ocr_acquire.specs.declared.Mode.TheVariants as mode
-use Rattle.ocr_slots.specs.Slots as slot
-use Rattle.ocr_datablock.specs.Block as block
-use Rattle.ocr_meaning.specs.declared.call.Call.TheVariants as call
 use Rattle.ocr_history.specs.declared.entry.What.TheVariants as what
+use Rattle.ocr_history.specs.declared.objects.TheConstants.{ARGUMENTS, MAIN_EDT}
+use Rattle.ocr_history.specs.History.{History, Setting}
+use Rattle.ocr_history.specs.Made.{Made, MadeTemplate, MadeEdt, made, makes, is_new, opened, edt_from, depc_in}
+use Rattle.ocr_parts.specs.Calls.{mode_named, is_given, target_of, with_dep, dep_links, link_calls, set_step, set_calls, block_calls, depc_of, event_calls}
+use Rattle.ocr_parts.specs.Codes.{brings_block, link_code, counted_code, creation_code}
+use Rattle.ocr_parts.specs.Kinds.{is_edt_face}
+use Rattle.ocr_parts.specs.Messages.{what_to, sends, delivered, pending}
+use Rattle.ocr_parts.specs.Parts.{parts_of, face}
+use Rattle.ocr_parts.specs.LegalOn.{IsCallOn}
+use Rattle.ocr_parts.specs.Legal.{IsRun, IsLegal}
+use Rattle.ocr_parts.proofs.Within.{done_is}
+use Rattle.ocr_parts.proofs.After.{linkable, accepted}
+use Rattle.ocr_standing.specs.Lasting.{SetOnceLaw, DeliveredLaw, delivery_count}
+use Rattle.ocr_quiet.proofs.Choices.{both_true}
+use Rattle.ocr_quiet.proofs.Edts.{new_free}
+use Rattle.ocr_standing.proofs.Named.{one, tally_append, drop_less, named_once, named_other, once_named, carried, weight, carried_append, carried_named, dropped, at_of}
+use Rattle.ocr_standing.proofs.Targets.{given, entry_links, kept_now, kept_opened, run_keeps}
 
--- MESSAGES: each name is pending at most once
-abbrev one : ℕ × ℕ → ℕ × ℕ → ℕ
-one nm x = if (nm.0 == x.0) && (nm.1 == x.1) then 1 else 0
-
-module _ {N : Type 0} where
-  tally_append : (f : ℕ × ℕ → ℕ) (xs ys : List (ℕ × ℕ × N)) → tally f (xs ++ ys) ≡ tally f xs + tally f ys
-  tally_append f [] ys = omega arith
-  tally_append f (x ∷ xs) ys = let r = tally_append f xs ys in omega (arith, r)
-
-  drop_less : (f : ℕ × ℕ → ℕ) (nm : ℕ × ℕ) (xs : List (ℕ × ℕ × N)) → tally f (drop_one nm xs) ≤ tally f xs
-  drop_less f nm [] = omega arith
-  drop_less f nm (x ∷ xs) = elim (same_name nm x) as (λ b. tally f (if b then xs else x ∷ drop_one nm xs) ≤ f (x.0, x.1) + tally f xs) [
-    | true ↦ omega arith
-    | false ↦ let r = drop_less f nm xs in omega arith
-  ]
-
-  less : (f : ℕ × ℕ → ℕ) (o : Option (ℕ × ℕ)) (xs : List (ℕ × ℕ × N)) → tally f (without o xs) ≤ tally f xs
-  less f None xs = omega arith
-  less f (Some nm) xs = drop_less f nm xs
-
-  named_low : (nm : ℕ × ℕ) (n i : ℕ) (xs : List N) → nm.1 < i → tally (one nm) (named n i xs) ≡ 0
-  named_low nm n i [] lt = refl
-  named_low nm n i (x ∷ xs) lt = let r = named_low nm n (suc i) xs (omega arith) in let z = apart nm n i lt in omega (arith, r, z)
-    where
-      apart : (nm : ℕ × ℕ) (n i : ℕ) → nm.1 < i → one nm (n, i) ≡ 0
-      apart nm n i lt = grind (arith, common_steps)
-
-  named_once : (nm : ℕ × ℕ) (n i : ℕ) (xs : List N) → tally (one nm) (named n i xs) ≤ 1
-  named_once nm n i [] = omega arith
-  named_once nm n i (x ∷ xs) = elim (nm.1 == i) as (λ b. (nm.1 == i) ≡ b → one nm (n, i) + tally (one nm) (named n (suc i) xs) ≤ 1) [
-    | true ↦ λ is. let e : nm.1 ≡ i = eqb-true nm.1 i is in let r = named_low nm n (suc i) xs (omega arith) in let m = most nm n i in omega (arith, r, m)
-    | false ↦ λ off. let r = named_once nm n (suc i) xs in let z = none nm n i off in omega (arith, r, z)
-  ] refl
-    where
-      most : (nm : ℕ × ℕ) (n i : ℕ) → one nm (n, i) ≤ 1
-      most nm n i = elim ((nm.0 == n) && (nm.1 == i)) as (λ b. (if b then 1 else 0) ≤ 1) [ true ↦ omega arith | false ↦ omega arith ]
-
-      none : (nm : ℕ × ℕ) (n i : ℕ) → (nm.1 == i) ≡ false → one nm (n, i) ≡ 0
-      none nm n i off = rw off (and_false (nm.0 == n))
-        where
-          and_false : (b : Bool) → ◌≡◌ {A = ℕ} (if b && false then 1 else 0) 0
-          and_false true = refl
-          and_false false = refl
-
-  named_other : (nm : ℕ × ℕ) (n i : ℕ) (xs : List N) → (nm.0 == n) ≡ false → tally (one nm) (named n i xs) ≡ 0
-  named_other nm n i [] off = refl
-  named_other nm n i (x ∷ xs) off = let r = named_other nm n (suc i) xs off in let z : one nm (n, i) ≡ 0 = rw off refl in omega (arith, r, z)
-
-module _ {E N : Type 0} (send : List E → E → List N) (deliver : E → Option (ℕ × ℕ)) where
-  not_yet : (past : List E) (nm : ℕ × ℕ) → length past ≤ nm.0 → tally (one nm) (mail.pending send deliver past) ≡ 0
-  not_yet [] nm le = refl
-  not_yet (e ∷ past) nm le =
-      let r = not_yet past nm (omega (arith, le)) in
-      let l = less (one nm) (deliver e) (mail.pending send deliver past) in
-      let o : (nm.0 == length past) ≡ false = later nm.0 (length past) (omega (arith, le)) in
-      let z = named_other nm (length past) 0 (send past e) o in
-      let a = tally_append (one nm) (without (deliver e) (mail.pending send deliver past)) (named (length past) 0 (send past e)) in
-      omega (arith, a, z, l, r)
-    where
-      later : (a b : ℕ) → b < a → (a == b) ≡ false
-      later a b lt = grind (arith, common_steps)
-
-  pub once_named : (past : List E) (nm : ℕ × ℕ) → tally (one nm) (mail.pending send deliver past) ≤ 1
-  once_named [] nm = omega arith
-  once_named (e ∷ past) nm =
-      let l = less (one nm) (deliver e) (mail.pending send deliver past) in
-      let a = tally_append (one nm) (without (deliver e) (mail.pending send deliver past)) (named (length past) 0 (send past e)) in
-      elim (nm.0 == length past) as (λ b. (nm.0 == length past) ≡ b → tally (one nm) (mail.pending send deliver (e ∷ past)) ≤ 1) [
-        | true ↦ λ is. let e0 : nm.0 ≡ length past = eqb-true nm.0 (length past) is in let r = not_yet past nm (omega arith) in let m = named_once nm (length past) 0 (send past e) in omega (arith, a, l, r, m)
-        | false ↦ λ off. let r = once_named past nm in let z = named_other nm (length past) 0 (send past e) off in omega (arith, a, l, r, z)
-      ] refl
-
--- WHAT MESSAGES BRING, each weighed
-module _ {N : Type 0} (f : N → ℕ) where
-  abbrev pub brought : List (ℕ × ℕ × N) → ℕ
-  brought [] = 0
-  brought (x ∷ xs) = f x.2 + brought xs
-
-  abbrev pub weight : List N → ℕ
-  weight [] = 0
-  weight (x ∷ xs) = f x + weight xs
-
-  pub brought_append : (xs ys : List (ℕ × ℕ × N)) → brought (xs ++ ys) ≡ brought xs + brought ys
-  brought_append [] ys = omega arith
-  brought_append (x ∷ xs) ys = let r = brought_append xs ys in omega (arith, r)
-
-  pub brought_named : (n i : ℕ) (xs : List N) → brought (named n i xs) ≡ weight xs
-  brought_named n i [] = refl
-  brought_named n i (x ∷ xs) = let r = brought_named n (suc i) xs in omega (arith, r)
-
-  one_same : (n i : ℕ) → one (n, i) (n, i) ≡ 1
-  one_same n i = grind (arith, common_steps)
-
-  has_one : (n i : ℕ) (x : N) (xs : List (ℕ × ℕ × N)) (k : ℕ) → get_elem? xs k ≡ some (n, i, x) → 1 ≤ tally (one (n, i)) xs
-  has_one n i x [] k at = absurd (some-ne-none (n, i, x) (sym at))
-  has_one n i x (y ∷ ys) zero at =
-      let e : y ≡ (n, i, x) = some-injective y (n, i, x) at in
-      let o : one (n, i) (y.0, y.1) ≡ 1 = ap (λ (z : ℕ × ℕ × N). one (n, i) (z.0, z.1)) e ∙ one_same n i in omega (arith, o)
-  has_one n i x (y ∷ ys) (suc k) at = let r = has_one n i x ys k at in omega arith
-
-  -- a message that goes takes its weight with it
-  pub dropped : (n i : ℕ) (x : N) (xs : List (ℕ × ℕ × N)) (k : ℕ) → get_elem? xs k ≡ some (n, i, x) → tally (one (n, i)) xs ≤ 1 → brought (drop_one (n, i) xs) + f x ≡ brought xs
-  dropped n i x [] k at most = absurd (some-ne-none (n, i, x) (sym at))
-  dropped n i x (y ∷ ys) zero at most =
-      let e : y ≡ (n, i, x) = some-injective y (n, i, x) at in
-      let same : same_name (n, i) y ≡ true = ap (same_name (n, i)) e ∙ same_is n i in
-      let w : f y.2 ≡ f x = ap (λ (z : ℕ × ℕ × N). f z.2) e in
-      rw same (omega (arith, w))
-    where
-      same_is : (n i : ℕ) → ((n == n) && (i == i)) ≡ true
-      same_is n i = search rules
-  dropped n i x (y ∷ ys) (suc k) at most = elim (same_name (n, i) y) as (λ b. same_name (n, i) y ≡ b → brought (if b then ys else y ∷ drop_one (n, i) ys) + f x ≡ f y.2 + brought ys) [
-    | true ↦ λ is. let o : one (n, i) (y.0, y.1) ≡ 1 = rw is refl in let r = has_one n i x ys k at in absurd (omega (arith, o, r, most))
-    | false ↦ λ _. let r = dropped n i x ys k at (omega (arith, most)) in omega (arith, r)
-  ] refl
-
-at_of : {A : Type 0} (xs : List A) (k : ℕ) (d x : A) → k < length xs → slice_index_or xs k d ≡ x → get_elem? xs k ≡ some x
-at_of [] k d x lt is = absurd (omega (arith, lt))
-at_of (y ∷ ys) zero d x lt is = ap (λ (z : _). some z) is
-at_of (y ∷ ys) (suc k) d x lt is = at_of ys k d x (omega (arith, lt)) is
-
--- THE MESSAGES that set a slot, whether it is set, and whether it is linked
-abbrev sets_at : ℕ → ℕ → What → ℕ
-sets_at t k (what.Set x i p) = if (x == t) && (i == k) then 1 else 0
-sets_at t k other = 0
-
-abbrev pub bit : Bool → ℕ
+-- THE MESSAGES that set a slot, whether it is set, and whether it is there and linked
+abbrev bit : Bool → ℕ
 bit true = 1
 bit false = 0
+
+bit_most : (b : Bool) → bit b ≤ 1
+bit_most true = omega arith
+bit_most false = omega arith
+
+some_bit : (b : Bool) → 1 ≤ bit b → b ≡ true
+some_bit true is = refl
+some_bit false is = absurd (omega (arith, is))
+
+if_zero : (b : Bool) (n : ℕ) → n ≡ 0 → (if b then n else 0) ≡ 0
+if_zero true n is = is
+if_zero false n is = refl
+
+abbrev sets_at : ℕ → ℕ → What → ℕ
+sets_at t k (what.Set x i p) = bit ((x == t) && (i == k))
+sets_at t k other = 0
 
 abbrev set_num : List slot.SlotCall → ℕ → ℕ
 set_num calls k = bit (slot.is_set calls k)
@@ -176,41 +71,51 @@ set_num calls k = bit (slot.is_set calls k)
 abbrev link_num : List slot.SlotCall → ℕ → ℕ
 link_num calls k = bit (slot.is_linked calls k)
 
+abbrev slot_num : ℕ → List slot.SlotCall → ℕ → ℕ
+slot_num n calls k = bit (nat_lt k n && slot.is_linked calls k)
+
+-- the slot as a target
+abbrev to_slot : ℕ → ℕ → Target → ℕ
+to_slot t k x = bit (x.is_edt && ((x.object == t) && (x.slot == k)))
+
+sets_blind : (t k p : ℕ) (x : Target) → sets_at t k (what_to (p, x)) ≡ to_slot t k x
+sets_blind t k p x = elim x.is_edt as (λ b. sets_at t k (if b then what.Set x.object x.slot p else what.Satisfy x.object x.slot p) ≡ bit (b && ((x.object == t) && (x.slot == k)))) [ true ↦ refl | false ↦ refl ]
+
 -- what a delivery sets
 set_more : (w : What) (t k : ℕ) (calls : List slot.SlotCall) → set_num (set_step w t calls) k ≤ set_num calls k + sets_at t k w
-set_more (what.Set x i p) t k calls = elim (x == t) as (λ b. set_num (if b then slot.Setting i p ∷ calls else calls) k ≤ set_num calls k + (if b && (i == k) then 1 else 0)) [
-  | true ↦ elim (i == k) as (λ b. bit (is_some (if b then Some p else slot.payload_of calls k)) ≤ set_num calls k + (if b then 1 else 0)) [ true ↦ omega arith | false ↦ omega arith ]
+set_more (what.Set x i p) t k calls = elim (x == t) as (λ b. set_num (if b then slot.Setting i p ∷ calls else calls) k ≤ set_num calls k + bit (b && (i == k))) [
+  | true ↦ elim (i == k) as (λ b. bit (is_some (if b then Some p else slot.payload_of calls k)) ≤ set_num calls k + bit b) [ true ↦ omega arith | false ↦ omega arith ]
   | false ↦ omega arith
 ]
 set_more other t k calls = omega arith
 
 -- the list of a creation
-given_sets : (t x k j : ℕ) (ds : List ℕ) → (x == t) ≡ false → weight (sets_at t k) (dep_sets x j ds) ≡ 0
-given_sets t x k j [] off = refl
-given_sets t x k j (d ∷ ds) off = elim (is_given d) as (λ b. weight (sets_at t k) (if b then what.Set x j d ∷ dep_sets x (j + 1) ds else dep_sets x (j + 1) ds) ≡ 0) [
-  | true ↦ let r = given_sets t x k (j + 1) ds off in (let z = here x t j k off in omega (arith, r, z))
-  | false ↦ given_sets t x k (j + 1) ds off
-]
-  where
-    here : (x t j k : ℕ) → (x == t) ≡ false → ◌≡◌ {A = ℕ} (if (x == t) && (j == k) then 1 else 0) 0
-    here x t j k off = rw off refl
+other_slot : (t j k : ℕ) → (j == k) ≡ false → bit ((t == t) && (j == k)) ≡ 0
+other_slot t j k off = rw (off, and_false (t == t)) refl
 
-below_sets : (t k j : ℕ) (ds : List ℕ) → k < j → weight (sets_at t k) (dep_sets t j ds) ≡ 0
-below_sets t k j [] lt = refl
-below_sets t k j (d ∷ ds) lt = elim (is_given d) as (λ b. weight (sets_at t k) (if b then what.Set t j d ∷ dep_sets t (j + 1) ds else dep_sets t (j + 1) ds) ≡ 0) [
-  | true ↦ let r = below_sets t k (j + 1) ds (omega arith) in let z = off t k j lt in omega (arith, r, z)
-  | false ↦ below_sets t k (j + 1) ds (omega arith)
-]
-  where
-    off : (t k j : ℕ) → k < j → ◌≡◌ {A = ℕ} (if (t == t) && (j == k) then 1 else 0) 0
-    off t k j lt = grind (arith, common_steps)
+given_other : (t x k j : ℕ) (ds : List ℕ) → (x == t) ≡ false → given (to_slot t k) x j ds ≡ 0
+given_other t x k j [] off = refl
+given_other t x k j (d ∷ ds) off =
+    let r = given_other t x k (j + 1) ds off in
+    let z = if_zero (is_given d) (bit ((x == t) && (j == k))) (rw off refl) in
+    omega (arith, r, z)
+
+given_below : (t k j : ℕ) (ds : List ℕ) → k < j → given (to_slot t k) t j ds ≡ 0
+given_below t k j [] lt = refl
+given_below t k j (d ∷ ds) lt =
+    let r = given_below t k (j + 1) ds (omega (arith, lt)) in
+    let z = if_zero (is_given d) (bit ((t == t) && (j == k))) (other_slot t j k (ne_eqb j k (λ is. omega (arith, lt, is)))) in
+    omega (arith, r, z)
+
+given_past : (t k j : ℕ) (ds : List ℕ) → j + length ds ≤ k → given (to_slot t k) t j ds ≡ 0
+given_past t k j [] le = refl
+given_past t k j (d ∷ ds) le =
+    let r = given_past t k (j + 1) ds (omega (arith, le)) in
+    let z = if_zero (is_given d) (bit ((t == t) && (j == k))) (other_slot t j k (ne_eqb j k (λ is. omega (arith, le, is)))) in
+    omega (arith, r, z)
 
 link_more : (i k : ℕ) (m : Mode) (calls : List slot.SlotCall) → link_num calls k ≤ link_num (slot.Linking i m ∷ calls) k
-link_more i k m calls = elim (i == k) as (λ b. link_num calls k ≤ bit (is_some (if b then Some m else slot.mode_of calls k))) [ true ↦ top (slot.is_linked calls k) | false ↦ omega arith ]
-  where
-    top : (b : Bool) → bit b ≤ 1
-    top true = omega arith
-    top false = omega arith
+link_more i k m calls = elim (i == k) as (λ b. link_num calls k ≤ bit (is_some (if b then Some m else slot.mode_of calls k))) [ true ↦ bit_most (slot.is_linked calls k) | false ↦ omega arith ]
 
 more_links : (k j : ℕ) (ds : List ℕ) (calls : List slot.SlotCall) → link_num calls k ≤ link_num (dep_links j ds calls) k
 more_links k j [] calls = omega arith
@@ -221,38 +126,33 @@ more_links k j (d ∷ ds) calls =
     with_more : (k j d : ℕ) (calls : List slot.SlotCall) → link_num calls k ≤ link_num (with_dep j d calls) k
     with_more k j d calls = elim (is_given d) as (λ b. link_num calls k ≤ link_num (if b then slot.Linking j mode.Rw ∷ calls else calls) k) [ true ↦ link_more j k mode.Rw calls | false ↦ omega arith ]
 
+more_slots : (n i k : ℕ) (m : Mode) (calls : List slot.SlotCall) → slot_num n calls k ≤ slot_num n (slot.Linking i m ∷ calls) k
+more_slots n i k m calls = elim (nat_lt k n) as (λ b. bit (b && slot.is_linked calls k) ≤ bit (b && slot.is_linked (slot.Linking i m ∷ calls) k)) [ true ↦ link_more i k m calls | false ↦ omega arith ]
+
 linked_here : (j : ℕ) (m : Mode) (calls : List slot.SlotCall) → link_num (slot.Linking j m ∷ calls) j ≡ 1
-linked_here j m calls = pick (j == j) (Some m) (slot.mode_of calls j) (same j)
-  where
-    same : (n : ℕ) → (n == n) ≡ true
-    same n = search rules
+linked_here j m calls = rw (same j) refl
 
-    pick : (b : Bool) (x y : Option Mode) → b ≡ true → bit (is_some (if b then Some m else y)) ≡ 1
-    pick true x y is = refl
-    pick false x y is = cc is
-
-created_sets : (t k j : ℕ) (ds : List ℕ) (calls : List slot.SlotCall) → weight (sets_at t k) (dep_sets t j ds) ≤ link_num (dep_links j ds calls) k
-created_sets t k j [] calls = omega arith
-created_sets t k j (d ∷ ds) calls = elim (is_given d) as (λ b. weight (sets_at t k) (if b then what.Set t j d ∷ dep_sets t (j + 1) ds else dep_sets t (j + 1) ds) ≤ link_num (dep_links (j + 1) ds (if b then slot.Linking j mode.Rw ∷ calls else calls)) k) [
-  | true ↦ elim (j == k) as (λ b. (j == k) ≡ b → (if (t == t) && b then 1 else 0) + weight (sets_at t k) (dep_sets t (j + 1) ds) ≤ link_num (dep_links (j + 1) ds (slot.Linking j mode.Rw ∷ calls)) k) [
+given_links : (t k j : ℕ) (ds : List ℕ) (calls : List slot.SlotCall) → given (to_slot t k) t j ds ≤ link_num (dep_links j ds calls) k
+given_links t k j [] calls = omega arith
+given_links t k j (d ∷ ds) calls = elim (is_given d) as (λ b. (if b then bit ((t == t) && (j == k)) else 0) + given (to_slot t k) t (j + 1) ds ≤ link_num (dep_links (j + 1) ds (if b then slot.Linking j mode.Rw ∷ calls else calls)) k) [
+  | true ↦ elim (j == k) as (λ b. (j == k) ≡ b → bit ((t == t) && (j == k)) + given (to_slot t k) t (j + 1) ds ≤ link_num (dep_links (j + 1) ds (slot.Linking j mode.Rw ∷ calls)) k) [
     | true ↦ λ is.
         let e : j ≡ k = eqb-true j k is in
-        let z = below_sets t k (j + 1) ds (omega arith) in
+        let z = given_below t k (j + 1) ds (omega (arith, e)) in
         let l = more_links k (j + 1) ds (slot.Linking j mode.Rw ∷ calls) in
         let h = subst (λ (n : ℕ). link_num (slot.Linking j mode.Rw ∷ calls) n ≡ 1) e (linked_here j mode.Rw calls) in
-        let o = at_most (t == t) in omega (arith, z, l, h, o)
-    | false ↦ λ _. let r = created_sets t k (j + 1) ds (slot.Linking j mode.Rw ∷ calls) in let o = none (t == t) in omega (arith, r, o)
+        let o = bit_most ((t == t) && (j == k)) in omega (arith, z, l, h, o)
+    | false ↦ λ off. let r = given_links t k (j + 1) ds (slot.Linking j mode.Rw ∷ calls) in let o = other_slot t j k off in omega (arith, r, o)
   ] refl
-  | false ↦ created_sets t k (j + 1) ds calls
+  | false ↦ let r = given_links t k (j + 1) ds calls in omega (arith, r)
 ]
-  where
-    at_most : (b : Bool) → (if b && true then 1 else 0) ≤ 1
-    at_most true = omega arith
-    at_most false = omega arith
 
-    none : (b : Bool) → ◌≡◌ {A = ℕ} (if b && false then 1 else 0) 0
-    none true = refl
-    none false = refl
+-- as many as the slots that are there and linked
+given_slots : (t k n : ℕ) (ds : List ℕ) → length ds ≤ n → given (to_slot t k) t 0 ds ≤ slot_num n (dep_links 0 ds []) k
+given_slots t k n ds fits = elim (nat_lt k n) as (λ b. nat_lt k n ≡ b → given (to_slot t k) t 0 ds ≤ bit (b && slot.is_linked (dep_links 0 ds []) k)) [
+  | true ↦ λ _. given_links t k 0 ds []
+  | false ↦ λ is. let le : n ≤ k = ltb-false k n is in let z = given_past t k 0 ds (omega (arith, fits, le)) in omega (arith, z)
+] refl
 
 -- WHAT IS LINKED is a slot of the EDT
 if_einval : (b : Bool) (rest : Code) → (if not b then code.Einval else rest) ≡ code.Done → (b ≡ true) × (rest ≡ code.Done)
@@ -269,12 +169,12 @@ linkable_slot (Some (MadeEdt f ps n)) links blocks events i is =
     (found.0, if_eperm (slot.is_linked links i) found.1)
 linkable_slot other links blocks events i is = cc is
 
--- the slot that an accepted dependence links
+-- the slot that an accepted dependence of an EDT links
 pub dependence_slot : (s : Setting) (past : History) (u home from x i m : ℕ) (a : Answer) (w : List (ℕ × ℕ)) → is_done a.code ≡ true → IsCallOn s.limit (parts_of s past) u home (call.AddDependence from x i m) a w
-    → (nat_lt i (depc_of s past x) ≡ true) × (slot.is_linked (link_calls past x) i ≡ false)
-dependence_slot s past u home from x i m a w on legal =
-    linkable_slot (made s past x) (link_calls past x) (block_calls s past x) (event_calls past x) i
-    (linkable ((parts_of s past).face x) i m (accepted u (parts_of s past).face (call.AddDependence from x i m) (sym legal.code ∙ done_is a.code on)))
+    → is_edt_face ((parts_of s past).face x) ≡ true → (nat_lt i (depc_of s past x) ≡ true) × (slot.is_linked (link_calls past x) i ≡ false)
+dependence_slot s past u home from x i m a w on legal there =
+    linkable_slot (made s past x) (link_calls past x) (block_calls s past x) (event_calls s past x) i
+    (linkable (brings_block (parts_of s past).face from) ((parts_of s past).face x) i m (accepted u (parts_of s past).face (call.AddDependence from x i m) (sym legal.code ∙ done_is a.code on)) there)
 
 length_fits : (k n : ℕ) → ((k == 0) || (k == n)) ≡ true → k ≤ n
 length_fits k n is = elim (k == 0) as (λ b. (k == 0) ≡ b → (b || (k == n)) ≡ true → k ≤ n) [
@@ -299,213 +199,156 @@ template_fits other links blocks events pc dc params deps flags is = cc is
 created_fits : (s : Setting) (past : History) (u home from pc dc fl : ℕ) (ps ds : List ℕ) (o : Bool) (a : Answer) (w : List (ℕ × ℕ)) → is_done a.code ≡ true → IsCallOn s.limit (parts_of s past) u home (call.EdtCreate from pc ps dc ds fl o) a w
     → length ds ≤ depc_in (edt_from (made s past from) ps dc)
 created_fits s past u home from pc dc fl ps ds o a w on legal =
-    template_fits (made s past from) (link_calls past from) (block_calls s past from) (event_calls past from) pc dc ps ds fl
+    template_fits (made s past from) (link_calls past from) (block_calls s past from) (event_calls s past from) pc dc ps ds fl
     (accepted u (parts_of s past).face (call.EdtCreate from pc ps dc ds fl o) (sym legal.code ∙ done_is a.code on))
 
--- the slots that a list of dependences links
-some_linked : (i k : ℕ) (m : Mode) (calls : List slot.SlotCall) → slot.is_linked (slot.Linking i m ∷ calls) k ≡ true → (i ≡ k) ⊎ (slot.is_linked calls k ≡ true)
-some_linked i k m calls is = elim (i == k) as (λ b. (i == k) ≡ b → is_some (if b then Some m else slot.mode_of calls k) ≡ true → (i ≡ k) ⊎ (slot.is_linked calls k ≡ true)) [
-  | true ↦ λ here _. inl (eqb-true i k here)
-  | false ↦ λ _ is. inr is
-] refl is
+-- EACH ENTRY links a slot as often as the slot is linked then and was not before
+abbrev slot_now : Setting → History → ℕ → ℕ → ℕ
+slot_now s past t k = slot_num (depc_of s past t) (link_calls past t) k
 
-deps_below : (j n k : ℕ) (ds : List ℕ) (calls : List slot.SlotCall) → j + length ds ≤ n → (slot.is_linked calls k ≡ true → k < n) → slot.is_linked (dep_links j ds calls) k ≡ true → k < n
-deps_below j n k [] calls le before is = before is
-deps_below j n k (d ∷ ds) calls le before is =
-    deps_below (j + 1) n k ds (with_dep j d calls) (omega (arith, le)) (λ linked. elim (is_given d) as (λ b. slot.is_linked (if b then slot.Linking j mode.Rw ∷ calls else calls) k ≡ true → k < n) [
-      | true ↦ λ linked. elim (some_linked j k mode.Rw calls linked) [
-        | inl here ↦ omega (arith, le, here)
-        | inr was ↦ before was
-      ]
-      | false ↦ λ linked. before linked
-    ] linked) is
-
-links_if : (b : Bool) (ls ms : List slot.SlotCall) (m n : Option Made) (k : ℕ) → (b ≡ true → slot.is_linked ls k ≡ true → k < depc_in m) → (slot.is_linked ms k ≡ true → k < depc_in n) → slot.is_linked (if b then ls else ms) k ≡ true → k < depc_in (if b then m else n)
-links_if true ls ms m n k new old is = new refl is
-links_if false ls ms m n k new old is = old is
-
-pub linked_below : (s : Setting) (past : History) (t k : ℕ) → IsRun s past → slot.is_linked (link_calls past t) k ≡ true → k < depc_of s past t
-linked_below s [] t k run is = opened_below s t k (t == MAIN_EDT) refl is
+no_slot : (m : Option Made) (links : List slot.SlotCall) (k : ℕ) → m ≡ None → slot_num (depc_in m) links k ≡ 0
+no_slot m links k none = ap (λ (n : Option Made). slot_num (depc_in n) links k) none ∙ ap (λ (b : Bool). bit (b && slot.is_linked links k)) (none_below k)
   where
-    opened_below : (s : Setting) (t k : ℕ) (b : Bool) → (t == MAIN_EDT) ≡ b → slot.is_linked (if b then slot.Linking 0 mode.Rw ∷ [] else []) k ≡ true → k < depc_in (opened s t)
-    opened_below s t k true e is =
-        let zero_is : (0 ≡ k) ⊎ (slot.is_linked [] k ≡ true) = some_linked 0 k mode.Rw [] is in
-        let depc : depc_in (opened s t) ≡ 1 = ap (λ (n : ℕ). depc_in (opened s n)) (eqb-true t MAIN_EDT e) in
-        elim zero_is [ inl here ↦ omega (arith, here, depc) | inr never ↦ cc never ]
-    opened_below s t k false e is = cc is
-linked_below s (Call u home (call.DbCreate n fl) a w ∷ past) t k run is = links_if (makes a t) [] (link_calls past t) _ (made s past t) k (λ _ never. cc never) (linked_below s past t k run.0) is
-linked_below s (Call u home (call.TemplateCreate f pc dc) a w ∷ past) t k run is = links_if (makes a t) [] (link_calls past t) _ (made s past t) k (λ _ never. cc never) (linked_below s past t k run.0) is
-linked_below s (Call u home (call.EventCreate kind fl) a w ∷ past) t k run is = links_if (makes a t) [] (link_calls past t) _ (made s past t) k (λ _ never. cc never) (linked_below s past t k run.0) is
-linked_below s (Call u home (call.EventCreateParams kind fl most sats nd) a w ∷ past) t k run is = links_if (makes a t) [] (link_calls past t) _ (made s past t) k (λ _ never. cc never) (linked_below s past t k run.0) is
-linked_below s (Call u home (call.EdtCreate from pc ps dc ds fl o) a w ∷ past) t k run is =
-    links_if (makes a t) (dep_links 0 ds []) (link_calls past t) (edt_from (made s past from) ps dc) (made s past t) k
-    (λ on linked. let fits = created_fits s past u home from pc dc fl ps ds o a w (both_true (is_done a.code) (a.value == t) on).0 run.1.on_parts in deps_below 0 _ k ds [] (omega (arith, fits)) (λ never. cc never) linked)
-    (linked_below s past t k run.0) is
-linked_below s (Call u home (call.AddDependence from x i m) a w ∷ past) t k run is = elim (is_done a.code && (x == t)) as (λ b. (is_done a.code && (x == t)) ≡ b → slot.is_linked (if b then slot.Linking i (mode_named m) ∷ link_calls past t else link_calls past t) k ≡ true → k < depc_of s past t) [
-  | true ↦ λ on is.
-      let both = both_true (is_done a.code) (x == t) on in
-      let slot_is = dependence_slot s past u home from x i m a w both.0 run.1.on_parts in
-      elim (some_linked i k (mode_named m) (link_calls past t) is) [
-        | inl here ↦ subst (λ (n : ℕ). n < depc_of s past t) here (subst (λ (n : ℕ). i < depc_of s past n) (eqb-true x t both.1) (ltb-true i (depc_of s past x) slot_is.0))
-        | inr was ↦ linked_below s past t k run.0 was
-      ]
-  | false ↦ λ _ is. linked_below s past t k run.0 is
-] refl is
-linked_below s (Call u home other a w ∷ past) t k run is = linked_below s past t k run.0 is
-linked_below s (other ∷ past) t k run is = linked_below s past t k run.0 is
+    none_below : (k : ℕ) → nat_lt k 0 ≡ false
+    none_below k = le-ltb k 0 (omega arith)
 
--- so what is not made has no link
-unlinked : (s : Setting) (past : History) (t k : ℕ) → IsRun s past → made s past t ≡ None → link_num (link_calls past t) k ≡ 0
-unlinked s past t k run none = elim (slot.is_linked (link_calls past t) k) as (λ b. slot.is_linked (link_calls past t) k ≡ b → bit b ≡ 0) [
-  | true ↦ λ is. absurd (let below = linked_below s past t k run is in let bare : depc_of s past t ≡ 0 = ap depc_in none in omega (arith, below, bare))
-  | false ↦ λ _. refl
-] refl
+-- an object that is no EDT is made
+other_links : (b done : Bool) (new old : Option Made) (links : List slot.SlotCall) (k : ℕ) → (b ≡ true → old ≡ None) → slot_num (depc_in old) links k + (if done then 0 else 0) ≤ slot_num (depc_in (if b then new else old)) (if b then [] else links) k
+other_links true done new old links k free = let z = no_slot old links k (free refl) in let n = if_zero done 0 refl in omega (arith, z, n)
+other_links false done new old links k free = let n = if_zero done 0 refl in omega (arith, n)
 
--- EACH SLOT: as many messages that set it, and settings, as links
-abbrev waiting : Setting → History → ℕ → ℕ → ℕ
-waiting s past t k = brought (sets_at t k) (pending s past)
+-- an EDT is made
+edt_links : (t x k : ℕ) (done : Bool) (ds : List ℕ) (new old : Option Made) (links : List slot.SlotCall) → ((done && (x == t)) ≡ true → old ≡ None) → (done ≡ true → length ds ≤ depc_in new)
+    → slot_num (depc_in old) links k + (if done then given (to_slot t k) x 0 ds else 0) ≤ slot_num (depc_in (if done && (x == t) then new else old)) (if done && (x == t) then dep_links 0 ds [] else links) k
+edt_links t x k true ds new old links free fits = elim (x == t) as (λ b. (x == t) ≡ b → (b ≡ true → old ≡ None) → slot_num (depc_in old) links k + given (to_slot t k) x 0 ds ≤ slot_num (depc_in (if b then new else old)) (if b then dep_links 0 ds [] else links) k) [
+  | true ↦ λ is free.
+      let z = no_slot old links k (free refl) in
+      let same : given (to_slot t k) x 0 ds ≡ given (to_slot t k) t 0 ds = ap (λ (n : ℕ). given (to_slot t k) n 0 ds) (eqb-true x t is) in
+      let g = given_slots t k (depc_in new) ds (fits refl) in
+      omega (arith, z, same, g)
+  | false ↦ λ off _. let z = given_other t x k 0 ds off in omega (arith, z)
+] refl free
+edt_links t x k false ds new old links free fits = omega arith
 
-abbrev IsOnce : Setting → History → ℕ → ℕ → Type 0
-IsOnce s past t k = waiting s past t k + set_num (set_calls past t) k ≤ link_num (link_calls past t) k
-
--- what an entry that delivers nothing adds
-added : (s : Setting) (past : History) (e : Entry) (t k : ℕ) → delivered e ≡ None → waiting s (e ∷ past) t k ≡ waiting s past t k + weight (sets_at t k) (sends e (parts_of s past))
-added s past e t k none =
-    ap (λ (o : Option (ℕ × ℕ)). brought (sets_at t k) (without o (pending s past) ++ named (length past) 0 (sends e (parts_of s past)))) none
-    ∙ (brought_append (sets_at t k) (pending s past) (named (length past) 0 (sends e (parts_of s past)))
-    ∙ ap (λ (n : ℕ). waiting s past t k + n) (brought_named (sets_at t k) (length past) 0 (sends e (parts_of s past))))
-
-no_more : (s : Setting) (past : History) (e : Entry) (t k : ℕ) → delivered e ≡ None → weight (sets_at t k) (sends e (parts_of s past)) ≡ 0 → waiting s (e ∷ past) t k ≡ waiting s past t k
-no_more s past e t k none z = let a = added s past e t k none in omega (arith, a, z)
-
-nothing : (b : Bool) (t k : ℕ) → weight (sets_at t k) (if b then [] else []) ≡ 0
-nothing true t k = refl
-nothing false t k = refl
-
-fresh_once : (s : Setting) (past : History) (t k : ℕ) → IsRun s past → made s past t ≡ None → IsOnce s past t k → waiting s past t k ≡ 0
-fresh_once s past t k run none once = let l = unlinked s past t k run none in omega (arith, once, l)
-
-new_once : (b : Bool) (k n w : ℕ) (ls links sets : List slot.SlotCall) → (b ≡ true → w ≡ 0) → (b ≡ true → n ≤ link_num ls k) → (b ≡ false → n ≡ 0) → w + set_num sets k ≤ link_num links k
-    → (w + n) + set_num (if b then [] else sets) k ≤ link_num (if b then ls else links) k
-new_once true k n w ls links sets zero_w few none once = let z = zero_w refl in let f = few refl in omega (arith, z, f)
-new_once false k n w ls links sets zero_w few none once = let z = none refl in omega (arith, z, once)
-
-sent_new : (b : Bool) (t x k : ℕ) (ds : List ℕ) → (b && (x == t)) ≡ false → weight (sets_at t k) (if b then dep_sets x 0 ds else []) ≡ 0
-sent_new true t x k ds off = given_sets t x k 0 ds off
-sent_new false t x k ds off = refl
-
-sent_few : (b : Bool) (t x k : ℕ) (ds : List ℕ) → (b && (x == t)) ≡ true → weight (sets_at t k) (if b then dep_sets x 0 ds else []) ≤ link_num (dep_links 0 ds []) k
-sent_few b t x k ds on =
-    let on2 = both_true b (x == t) on in
-    subst (λ (y : ℕ). weight (sets_at t k) (if b then dep_sets y 0 ds else []) ≤ link_num (dep_links 0 ds []) k) (sym (eqb-true x t on2.1)) (rw on2.0 (created_sets t k 0 ds []))
-
-linked_once : (x t i k q w : ℕ) (m : Mode) (links sets : List slot.SlotCall) → ((x == t) ≡ true → slot.is_linked links i ≡ false) → w + set_num sets k ≤ link_num links k
-    → (w + ((if (x == t) && (i == k) then 1 else 0) + 0)) + set_num sets k ≤ link_num (if x == t then slot.Linking i m ∷ links else links) k
-linked_once x t i k q w m links sets free once = elim (x == t) as (λ b. (x == t) ≡ b → (w + ((if b && (i == k) then 1 else 0) + 0)) + set_num sets k ≤ link_num (if b then slot.Linking i m ∷ links else links) k) [
-  | true ↦ λ same. elim (i == k) as (λ b. (i == k) ≡ b → (w + ((if b then 1 else 0) + 0)) + set_num sets k ≤ bit (is_some (if b then Some m else slot.mode_of links k))) [
-    | true ↦ λ e. let z : link_num links k ≡ 0 = subst (λ (n : ℕ). link_num links n ≡ 0) (eqb-true i k e) (ap bit (free same)) in omega (arith, once, z)
-    | false ↦ λ _. omega (arith, once)
-  ] refl
-  | false ↦ λ _. omega (arith, once)
-] refl
-
-abbrev first_block : Option ℕ
-first_block = Some ARGUMENTS
-
-first_slot : (b : Bool) → bit (is_some (if b then first_block else None)) ≤ bit (is_some (if b then Some mode.Rw else None))
-first_slot true = omega arith
-first_slot false = omega arith
-
-pub is_once : (s : Setting) (past : History) (t k : ℕ) → IsRun s past → IsOnce s past t k
-is_once s [] t k run = elim (t == MAIN_EDT) as (λ b. 0 + set_num (if b then slot.Setting 0 ARGUMENTS ∷ [] else []) k ≤ link_num (if b then slot.Linking 0 mode.Rw ∷ [] else []) k) [
-  | true ↦ let f = first_slot (0 == k) in omega (arith, f)
+-- a dependence is added
+added_links : (there : Bool) (t x i k n : ℕ) (m : Mode) (links : List slot.SlotCall) → (there ≡ true → (x == t) ≡ true → (nat_lt i n ≡ true) × (slot.is_linked links i ≡ false))
+    → slot_num n links k + to_slot t k (target_of there x i) ≤ slot_num n (if x == t then slot.Linking i m ∷ links else links) k
+added_links false t x i k n m links free = elim (x == t) as (λ b. slot_num n links k + 0 ≤ slot_num n (if b then slot.Linking i m ∷ links else links) k) [
+  | true ↦ let l = more_slots n i k m links in omega (arith, l)
   | false ↦ omega arith
 ]
-is_once s (Call u home (call.DbCreate n fl) a w ∷ past) t k run =
-    let e = Call u home (call.DbCreate n fl) a w in let before = is_once s past t k run.0 in
-    let no = no_more s past e t k refl (nothing (is_done a.code) t k) in
-    let r = new_once (makes a t) k 0 (waiting s past t k) [] (link_calls past t) (set_calls past t) (λ on. fresh_once s past t k run.0 (new_free s past a t run.1.on_parts.value on) before) (λ _. omega arith) (λ _. refl) before in
-    omega (arith, no, r)
-is_once s (Call u home (call.TemplateCreate f pc dc) a w ∷ past) t k run =
-    let e = Call u home (call.TemplateCreate f pc dc) a w in let before = is_once s past t k run.0 in
-    let no = no_more s past e t k refl (nothing (is_done a.code) t k) in
-    let r = new_once (makes a t) k 0 (waiting s past t k) [] (link_calls past t) (set_calls past t) (λ on. fresh_once s past t k run.0 (new_free s past a t run.1.on_parts.value on) before) (λ _. omega arith) (λ _. refl) before in
-    omega (arith, no, r)
-is_once s (Call u home (call.EventCreate kind fl) a w ∷ past) t k run =
-    let e = Call u home (call.EventCreate kind fl) a w in let before = is_once s past t k run.0 in
-    let no = no_more s past e t k refl (nothing (is_done a.code) t k) in
-    let r = new_once (makes a t) k 0 (waiting s past t k) [] (link_calls past t) (set_calls past t) (λ on. fresh_once s past t k run.0 (new_free s past a t run.1.on_parts.value on) before) (λ _. omega arith) (λ _. refl) before in
-    omega (arith, no, r)
-is_once s (Call u home (call.EventCreateParams kind fl most sats nd) a w ∷ past) t k run =
-    let e = Call u home (call.EventCreateParams kind fl most sats nd) a w in let before = is_once s past t k run.0 in
-    let no = no_more s past e t k refl (nothing (is_done a.code) t k) in
-    let r = new_once (makes a t) k 0 (waiting s past t k) [] (link_calls past t) (set_calls past t) (λ on. fresh_once s past t k run.0 (new_free s past a t run.1.on_parts.value on) before) (λ _. omega arith) (λ _. refl) before in
-    omega (arith, no, r)
-is_once s (Call u home (call.EdtCreate from pc ps dc ds fl o) a w ∷ past) t k run =
-    let e = Call u home (call.EdtCreate from pc ps dc ds fl o) a w in let before = is_once s past t k run.0 in
-    let ad = added s past e t k refl in
-    let r = new_once (makes a t) k (weight (sets_at t k) (if is_done a.code then dep_sets a.value 0 ds else [])) (waiting s past t k) (dep_links 0 ds []) (link_calls past t) (set_calls past t)
-    (λ on. fresh_once s past t k run.0 (new_free s past a t run.1.on_parts.value.named on) before) (λ on. sent_few (is_done a.code) t a.value k ds on) (λ off. sent_new (is_done a.code) t a.value k ds off) before in
-    omega (arith, ad, r)
-is_once s (Call u home (call.AddDependence from x i m) a w ∷ past) t k run =
-    let e = Call u home (call.AddDependence from x i m) a w in let before = is_once s past t k run.0 in
-    let ad = added s past e t k refl in
-    let r = elim (is_done a.code) as (λ b. is_done a.code ≡ b → (waiting s past t k + weight (sets_at t k) (if b then what.Set x i from ∷ [] else [])) + set_num (set_calls past t) k ≤ link_num (if b && (x == t) then slot.Linking i (mode_named m) ∷ link_calls past t else link_calls past t) k) [
-      | true ↦ λ on. linked_once x t i k from (waiting s past t k) (mode_named m) (link_calls past t) (set_calls past t)
-          (λ same. subst (λ (n : ℕ). slot.is_linked (link_calls past n) i ≡ false) (eqb-true x t same)
-          (dependence_slot s past u home from x i m a w on run.1.on_parts).1) before
-      | false ↦ λ _. omega (arith, before)
-    ] refl in
-    omega (arith, ad, r)
-is_once s (Call u home other a w ∷ past) t k run =
-    let before = is_once s past t k run.0 in
-    let no = no_more s past (Call u home other a w) t k refl (nothing (is_done a.code) t k) in omega (arith, no, before)
-is_once s (Deliver m c ∷ past) t k run =
-    let before = is_once s past t k run.0 in
-    let here = run.1.said in
+added_links true t x i k n m links free = elim (x == t) as (λ b. (b ≡ true → (nat_lt i n ≡ true) × (slot.is_linked links i ≡ false)) → slot_num n links k + bit (b && (i == k)) ≤ slot_num n (if b then slot.Linking i m ∷ links else links) k) [
+  | true ↦ λ free. elim (i == k) as (λ b. (i == k) ≡ b → slot_num n links k + bit b ≤ bit (nat_lt k n && is_some (if b then Some m else slot.mode_of links k))) [
+    | true ↦ λ is.
+        let here = free refl in
+        let e : i ≡ k = eqb-true i k is in
+        let low : nat_lt k n ≡ true = subst (λ (j : ℕ). nat_lt j n ≡ true) e here.0 in
+        let off : slot.is_linked links k ≡ false = subst (λ (j : ℕ). slot.is_linked links j ≡ false) e here.1 in
+        rw (low, off) (omega arith)
+    | false ↦ λ _. omega arith
+  ] refl
+  | false ↦ λ _. omega arith
+] (free refl)
+
+entry_slots : (s : Setting) (past : History) (e : Entry) (t k : ℕ) → IsRun s past → IsLegal s past e → slot_now s past t k + entry_links (to_slot t k) e (parts_of s past) ≤ slot_now s (e ∷ past) t k
+entry_slots s past (Call u home (call.DbCreate n fl) a w) t k run legal = other_links (makes a t) (is_done a.code) _ (made s past t) (link_calls past t) k (new_free s past a t legal.on_parts.value)
+entry_slots s past (Call u home (call.TemplateCreate f pc dc) a w) t k run legal = other_links (makes a t) (is_done a.code) _ (made s past t) (link_calls past t) k (new_free s past a t legal.on_parts.value)
+entry_slots s past (Call u home (call.EventCreate kind fl) a w) t k run legal = other_links (makes a t) (is_done a.code) _ (made s past t) (link_calls past t) k (new_free s past a t legal.on_parts.value)
+entry_slots s past (Call u home (call.EventCreateParams kind fl most sats nd) a w) t k run legal = other_links (makes a t) (is_done a.code) _ (made s past t) (link_calls past t) k (new_free s past a t legal.on_parts.value)
+entry_slots s past (Call u home (call.EdtCreate from pc ps dc ds fl o) a w) t k run legal =
+    edt_links t a.value k (is_done a.code) ds (edt_from (made s past from) ps dc) (made s past t) (link_calls past t) (new_free s past a t legal.on_parts.value.named)
+    (λ on. created_fits s past u home from pc dc fl ps ds o a w on legal.on_parts)
+entry_slots s past (Call u home (call.AddDependence from x i m) a w) t k run legal = elim (is_done a.code) as (λ b. is_done a.code ≡ b → slot_now s past t k + (if b then to_slot t k (target_of (is_edt_face ((parts_of s past).face x)) x i) else 0)
+    ≤ slot_num (depc_of s past t) (if b && (x == t) then slot.Linking i (mode_named m) ∷ link_calls past t else link_calls past t) k) [
+      | true ↦ λ on. added_links (is_edt_face ((parts_of s past).face x)) t x i k (depc_of s past t) (mode_named m) (link_calls past t) (λ there same.
+          subst (λ (n : ℕ). (nat_lt i (depc_of s past n) ≡ true) × (slot.is_linked (link_calls past n) i ≡ false)) (eqb-true x t same) (dependence_slot s past u home from x i m a w on legal.on_parts there))
+      | false ↦ λ _. omega arith
+    ] refl
+entry_slots s past (Call u home other a w) t k run legal = let n = if_zero (is_done a.code) 0 refl in omega (arith, n)
+entry_slots s past other t k run legal = omega arith
+
+-- EACH SLOT: at most as many messages that set it, settings, and events that keep it, as links
+abbrev waiting : Setting → History → ℕ → ℕ → ℕ
+waiting s past t k = carried (sets_at t k) (pending s past)
+
+abbrev undelivered : Setting → History → Entry → ℕ → ℕ → ℕ
+undelivered s past e t k = carried (sets_at t k) (without (delivered e) (pending s past))
+
+abbrev IsOnce : Setting → History → ℕ → ℕ → Type 0
+IsOnce s past t k = (waiting s past t k + kept_now (to_slot t k) s past) + set_num (set_calls past t) k ≤ slot_now s past t k
+
+-- what an entry sends is pending then
+sent_more : (s : Setting) (past : History) (e : Entry) (t k : ℕ) → waiting s (e ∷ past) t k ≡ undelivered s past e t k + weight (sets_at t k) (sends e (parts_of s past))
+sent_more s past e t k =
+    carried_append (sets_at t k) (without (delivered e) (pending s past)) (named (length past) 0 (sends e (parts_of s past)))
+    ∙ ap (λ (n : ℕ). undelivered s past e t k + n) (carried_named (sets_at t k) (length past) 0 (sends e (parts_of s past)))
+
+-- what a delivery takes from those that are pending
+going : (s : Setting) (past : History) (m : Message) (c : Code) (t k : ℕ) → IsLegal s past (Deliver m c) → undelivered s past (Deliver m c) t k + sets_at t k m.what ≡ waiting s past t k
+going s past m c t k legal =
+    let here = legal.said in
     let at = at_of (pending s past) here.0 (m.place, m.index, m.what) (m.place, m.index, m.what) here.1 here.2 in
     let unique = once_named (λ (q : History) (e : Entry). sends e (parts_of s q)) delivered past (m.place, m.index) in
-    let gone = dropped (sets_at t k) m.place m.index m.what (pending s past) here.0 at unique in
-    let ap0 = brought_append (sets_at t k) (drop_one (m.place, m.index) (pending s past)) [] in
+    dropped (sets_at t k) m.place m.index m.what (pending s past) here.0 at unique
+
+-- a delivery sets a slot in place of its message
+sets_new : (b : Bool) (sets : List slot.SlotCall) (k : ℕ) → set_num (if b then [] else sets) k ≤ set_num sets k
+sets_new true sets k = omega arith
+sets_new false sets k = omega arith
+
+set_for : (s : Setting) (past : History) (e : Entry) (t k : ℕ) → IsLegal s past e → undelivered s past e t k + set_num (set_calls (e ∷ past) t) k ≤ waiting s past t k + set_num (set_calls past t) k
+set_for s past (Call u home c a w) t k legal = let n = sets_new (is_new c a t) (set_calls past t) k in omega (arith, n)
+set_for s past (Deliver m c) t k legal =
+    let gone = going s past m c t k legal in
     let more = set_more m.what t k (set_calls past t) in
-    omega (arith, before, gone, ap0, more)
-is_once s (other ∷ past) t k run = let before = is_once s past t k run.0 in let no = no_more s past other t k refl refl in omega (arith, no, before)
+    omega (arith, gone, more)
+set_for s past other t k legal = omega arith
+
+opened_slot : (k : ℕ) → set_num (slot.Setting 0 ARGUMENTS ∷ []) k ≤ slot_num 1 (slot.Linking 0 mode.Rw ∷ []) k
+opened_slot k = elim (0 == k) as (λ b. (0 == k) ≡ b → bit (is_some (if b then Some ARGUMENTS else None)) ≤ bit (nat_lt k 1 && is_some (if b then Some mode.Rw else None))) [
+  | true ↦ λ is. let low : nat_lt k 1 ≡ true = subst (λ (n : ℕ). nat_lt n 1 ≡ true) (eqb-true 0 k is) refl in rw low (omega arith)
+  | false ↦ λ _. omega arith
+] refl
+
+opened_once : (s : Setting) (t k : ℕ) → set_num (set_calls [] t) k ≤ slot_now s [] t k
+opened_once s t k = elim (t == MAIN_EDT) as (λ b. (t == MAIN_EDT) ≡ b → set_num (if b then slot.Setting 0 ARGUMENTS ∷ [] else []) k ≤ slot_num (depc_in (opened s t)) (if b then slot.Linking 0 mode.Rw ∷ [] else []) k) [
+  | true ↦ λ is. subst (λ (n : ℕ). set_num (slot.Setting 0 ARGUMENTS ∷ []) k ≤ slot_num (depc_in (opened s n)) (slot.Linking 0 mode.Rw ∷ []) k) (sym (eqb-true t MAIN_EDT is)) (opened_slot k)
+  | false ↦ λ _. omega arith
+] refl
+
+is_once : (s : Setting) (past : History) (t k : ℕ) → IsRun s past → IsOnce s past t k
+is_once s [] t k run = let kept = kept_opened (to_slot t k) s in let o = opened_once s t k in omega (arith, kept, o)
+is_once s (e ∷ past) t k run =
+    let before = is_once s past t k run.0 in
+    let sent = sent_more s past e t k in
+    let set = set_for s past e t k run.1 in
+    let keeps = run_keeps (sets_at t k) (to_slot t k) (sets_blind t k) s past e run.0 run.1 in
+    let links = entry_slots s past e t k run.0 run.1 in
+    omega (arith, before, sent, set, keeps, links)
 
 set_is : (o : Option ℕ) → bit (is_some o) ≡ 0 → o ≡ None
 set_is None is = refl
 set_is (Some p) is = absurd (omega (arith, is))
 
-top : (b : Bool) → bit b ≤ 1
-top true = omega arith
-top false = omega arith
-
--- what a delivery takes from those that are pending
-record IsGoing (s : Setting) (past : History) (m : Message) : Type 0 where
-  unique : tally (one (m.place, m.index)) (pending s past) ≤ 1
-  gone : (t k : ℕ) → brought (sets_at t k) (drop_one (m.place, m.index) (pending s past)) + sets_at t k m.what ≡ waiting s past t k
-
-going : (s : Setting) (past : History) (m : Message) (c : Code) → IsLegal s past (Deliver m c) → IsGoing s past m
-going s past m c legal =
-    let here = legal.said in
-    let at = at_of (pending s past) here.0 (m.place, m.index, m.what) (m.place, m.index, m.what) here.1 here.2 in
-    let unique = once_named (λ (q : History) (e : Entry). sends e (parts_of s q)) delivered past (m.place, m.index) in
-    record { unique = unique; gone = λ t k. dropped (sets_at t k) m.place m.index m.what (pending s past) here.0 at unique }
-
-own_weight : (t k : ℕ) → ◌≡◌ {A = ℕ} (if (t == t) && (k == k) then 1 else 0) 1
-own_weight t k = grind (arith, common_steps)
-
-is_linked_by : (b : Bool) → 1 ≤ bit b → b ≡ true
-is_linked_by true is = refl
-is_linked_by false is = absurd (omega (arith, is))
+own_slot : (t k : ℕ) → bit ((t == t) && (k == k)) ≡ 1
+own_slot t k = rw (same t, same k) refl
 
 pub set_once_law : SetOnceLaw
 set_once_law s past m c t k p run legal is =
     let before = is_once s past t k run in
-    let gone = (going s past m c legal).gone t k in
-    let w : sets_at t k m.what ≡ 1 = ap (sets_at t k) is ∙ own_weight t k in
-    let l = top (slot.is_linked (link_calls past t) k) in
-    let linked : slot.is_linked (link_calls past t) k ≡ true = is_linked_by (slot.is_linked (link_calls past t) k) (omega (arith, before, gone, w)) in
-    record { exists = linked_below s past t k run linked; linked = linked; unset = set_is (slot.payload_of (set_calls past t) k) (omega (arith, before, gone, w, l)) }
+    let gone = going s past m c t k legal in
+    let w : sets_at t k m.what ≡ 1 = ap (sets_at t k) is ∙ own_slot t k in
+    let there : (nat_lt k (depc_of s past t) && slot.is_linked (link_calls past t) k) ≡ true = some_bit (nat_lt k (depc_of s past t) && slot.is_linked (link_calls past t) k) (omega (arith, before, gone, w)) in
+    let l = bit_most (nat_lt k (depc_of s past t) && slot.is_linked (link_calls past t) k) in
+    let both = both_true (nat_lt k (depc_of s past t)) (slot.is_linked (link_calls past t) k) there in
+    record { exists = ltb-true k (depc_of s past t) both.0; linked = both.1; unset = set_is (slot.payload_of (set_calls past t) k) (omega (arith, before, gone, w, l)) }
+
+-- what is set is linked
+pub set_linked : (s : Setting) (past : History) (t k : ℕ) → IsRun s past → slot.is_set (set_calls past t) k ≡ true → slot.is_linked (link_calls past t) k ≡ true
+set_linked s past t k run set =
+    let before = is_once s past t k run in
+    let one : set_num (set_calls past t) k ≡ 1 = ap bit set in
+    (both_true (nat_lt k (depc_of s past t)) (slot.is_linked (link_calls past t) k) (some_bit (nat_lt k (depc_of s past t) && slot.is_linked (link_calls past t) k) (omega (arith, before, one)))).1
 
 -- A MESSAGE IS DELIVERED ONCE
 drop_name : (n i : ℕ) (w : What) (xs : List (ℕ × ℕ × What)) (k : ℕ) → get_elem? xs k ≡ some (n, i, w) → tally (one (n, i)) (drop_one (n, i) xs) + 1 ≤ tally (one (n, i)) xs

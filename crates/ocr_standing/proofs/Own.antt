@@ -136,7 +136,7 @@ stale_new : (b : Bool) (calls was : List edt.EdtCall) → b ≡ false → edt.st
 stale_new true calls was off same = cc off
 stale_new false calls was off same = same
 
-not_going : (past : History) (u t : ℕ) → is_started past t ≡ true → is_started past u ≡ false → (u == t) ≡ true → ⊥
+pub not_going : (past : History) (u t : ℕ) → is_started past t ≡ true → is_started past u ≡ false → (u == t) ≡ true → ⊥
 not_going past u t on off here = let none : is_started past t ≡ false = subst (λ (n : ℕ). is_started past n ≡ false) (eqb-true u t here) off in cc (on, none)
 
 stale_stays : (s : Setting) (past : History) (e : Entry) (t : ℕ) → IsRun s past → IsLegal s past e → is_edt_made (made s past t) ≡ true → is_started past t ≡ true → edt.stale_of (edt_calls s (e ∷ past) t) ≡ edt.stale_of (edt_calls s past t)

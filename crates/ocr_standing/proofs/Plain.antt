@@ -207,7 +207,7 @@ acquiring_idle other is = cc is
 pub acquire_on : (s : Setting) (past : History) (t d : ℕ) (m : Mode) → IsRun s past → IsNow s past t d m (ready_at t (plan_of s past t) (parts_of s past)) → IsAvailable ((parts_of s past).face d) t m → IsOnParts s past (Acquire t d)
 acquire_on s past t d m run is avail =
     let f : Parts = ready_at t (plan_of s past t) (parts_of s past) in
-    let taken : IsBlock (f.face d) (IsTaken t m) = available (made s past d) (link_calls past d) (block_calls s past d) (event_calls past d) t m is.facts.used (free_law s past run d).grantable (awaited_law s past run t d m is.member) is.own avail in
+    let taken : IsBlock (f.face d) (IsTaken t m) = available (made s past d) (link_calls past d) (block_calls s past d) (event_calls s past d) t m is.facts.used (free_law s past run d).grantable (awaited_law s past run t d m is.member) is.own avail in
     record { next = is.next ∙ ap (λ (k : Mode). Some (d, k)) is.mode; taken = subst (λ (k : Mode). IsBlock (f.face d) (IsTaken t k)) is.mode taken }
 
 pub wait_on : (s : Setting) (past : History) (t d : ℕ) (m : Mode) → IsRun s past → IsNow s past t d m (ready_at t (plan_of s past t) (parts_of s past)) → is_acquiring ((ready_at t (plan_of s past t) (parts_of s past)).core t) ≡ true
@@ -231,7 +231,7 @@ acquire_from : (s : Setting) (past : History) (t d : ℕ) (m : Mode) → IsRun s
 acquire_from s past t d m run ready avail =
     let f : Parts = ready_at t (plan_of s past t) (parts_of s past) in
     let is = now s past t d m run ready in
-    let taken : IsBlock (f.face d) (IsTaken t m) = available (made s past d) (link_calls past d) (block_calls s past d) (event_calls past d) t m is.facts.used (free_law s past run d).grantable (awaited_law s past run t d m is.member) is.own avail in
+    let taken : IsBlock (f.face d) (IsTaken t m) = available (made s past d) (link_calls past d) (block_calls s past d) (event_calls s past d) t m is.facts.used (free_law s past run d).grantable (awaited_law s past run t d m is.member) is.own avail in
     record {
       open_run = ready.ready.open_run;
       on_parts = record { next = is.next ∙ ap (λ (k : Mode). Some (d, k)) is.mode; taken = subst (λ (k : Mode). IsBlock (f.face d) (IsTaken t k)) is.mode taken };

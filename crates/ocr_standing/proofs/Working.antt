@@ -108,7 +108,7 @@ dooming_law s past t d run running is =
       | false ↦ λ off.
           let none : mode_on y d ≡ None = none_of t d x y (mode_on y d) refl off (λ m has. let with_it = held_with s past t d m run has in kept_holder x t m with_it.0 with_it.2) in
           let none_kept : kept_on y d ≡ None = so_none t x (mode_in d (held_on y)) (kept_on y d) (ap (mode_in d) (running_core y running).0 ∙ none) ((holding_law s past run).so t d) in
-          unheld (made s past d) (link_calls past d) (block_calls s past d) (event_calls past d) t (mode_on y d) (kept_on y d) (allowed_law s past run d) is off none none_kept
+          unheld (made s past d) (link_calls past d) (block_calls s past d) (event_calls s past d) t (mode_on y d) (kept_on y d) (allowed_law s past run d) is off none none_kept
     ] refl
 
 -- A WORD of a block that is shared
@@ -163,6 +163,6 @@ sharing_law s past t d k run entered =
     let found = entered_hold (mode_on y d) (kept_on y d) k entered in
     let with_it = held_with s past t d found.0 run found.2 in
     let same_kept : found.1 ≡ with_it.0 = (let both : Some found.1 ≡ Some with_it.0 = sym found.3 ∙ with_it.1 in cc both) in
-    shared_block (made s past d) (link_calls past d) (block_calls s past d) (event_calls past d) t k (mode_on y d) found.0 found.1
+    shared_block (made s past d) (link_calls past d) (block_calls s past d) (event_calls s past d) t k (mode_on y d) found.0 found.1
     ((free_law s past run d).shared t found.0) found.2 found.4
     (subst (λ (kept : Kept). IsBlock ((parts_of s past).face d) (IsKeptWith t found.0 kept)) (sym same_kept) with_it.2)

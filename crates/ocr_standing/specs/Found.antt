@@ -1,7 +1,6 @@
 -- What an EDT finds in a block that it acquires in EW or CONST.
 use Rattle.std.specs.Prelude.{◌≡◌, ℕ, List, [], ◌∷◌, true, false, ◌&&◌, ◌==◌, if◌then◌else◌, Some}
 use Rattle.ocr_acquire.specs.declared.Mode.{Mode}
-use Rattle.ocr_acquire.specs.declared.Mode.TheVariants as mode
 use Rattle.ocr_acquire.specs.Mode.{mode_in}
 use Rattle.ocr_datablock.specs.Lent.{loan_of}
 use Rattle.ocr_history.specs.declared.entry.Entry.{Entry}
@@ -28,8 +27,9 @@ FoundLaw = (s : Setting) (past : History) (t d : ℕ) (m : Mode) → IsRun s pas
     → mode_in d (held_on ((parts_of s past).core t)) ≡ Some m → is_isolated m ≡ true
     → loan_on ((parts_of s past).core t) d ≡ Some (loan_of m (found s past t d) [])
 
--- as long as it holds the block in EW, no entry of another EDT changes the block's contents
+-- and no entry of another EDT changes the block's contents
 abbrev pub UnchangedLaw : Type 0
-UnchangedLaw = (s : Setting) (past : History) (e : Entry) (t d : ℕ) → IsRun s past
-    → IsLegal s past e → mode_in d (held_on ((parts_of s past).core t)) ≡ Some mode.Ew
-    → is_own e t ≡ false → contents_of s (e ∷ past) d ≡ contents_of s past d
+UnchangedLaw = (s : Setting) (past : History) (e : Entry) (t d : ℕ) (m : Mode) → IsRun s past
+    → IsLegal s past e → mode_in d (held_on ((parts_of s past).core t)) ≡ Some m
+    → is_isolated m ≡ true → is_own e t ≡ false
+    → contents_of s (e ∷ past) d ≡ contents_of s past d

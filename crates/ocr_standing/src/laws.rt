@@ -56,7 +56,7 @@ pub fn working_laws()
 {}
 
 /// What an EDT finds in a block that it acquires in `Ew` or `Const` are the contents before that,
-/// and while it holds the block in `Ew` no entry of another EDT changes them.
+/// and while it holds the block so no entry of another EDT changes them.
 pub fn found_laws()
     ensures found { FoundLaw }
     ensures unchanged { UnchangedLaw }
