@@ -1,7 +1,7 @@
 -- What an accepted call tells of the parts at hand.
-use Rattle.std.proofs.Common.{◌≡◌, ◌≤◌, ◌<◌, ℕ, List, length, Bool, true, false, not, ◌||◌, if◌then◌else◌, refl, sym, ◌∙◌, ap, arith}
+use Rattle.std.proofs.Common.{◌≡◌, ◌≤◌, ℕ, List, [], ◌∷◌, length, Bool, true, false, not, ◌||◌, ◌==◌, if◌then◌else◌, refl, sym, ◌∙◌, ap, arith}
 use Rattle.std.proofs.lemmas.Grind.{common_steps}
-use Rattle.ocr_datablock.specs.Block.{State}
+use Rattle.std.proofs.lemmas.Bool.{eqb-true}
 use Rattle.ocr_guid.specs.declared.Code.{Code}
 use Rattle.ocr_guid.specs.declared.Code.TheVariants as code
 use Rattle.ocr_meaning.specs.Holds.{is_done}
@@ -12,12 +12,12 @@ use Rattle.ocr_template.specs.declared.Template.{Template}
 use Rattle.ocr_template.specs.Template.{counts_of, count_meant}
 use Rattle.ocr_parts.specs.declared.part.Part.{Part}
 use Rattle.ocr_parts.specs.declared.part.Part.TheVariants as part
-use Rattle.ocr_parts.specs.Codes.{wanted, wanted_sources, is_any, is_missing, is_of_other_kind, is_refused_as_stale, is_its_own, number_code, block_code, counted_code, creation_code, event_code, channel_code, dependence_code, link_code, code_of}
-use Rattle.ocr_parts.specs.Kinds.{IsBlock, is_template, is_event, is_destroyed}
+use Rattle.ocr_parts.specs.Calls.{is_object}
+use Rattle.ocr_parts.specs.Codes.{wanted, wanted_sources, is_any, is_missing, is_of_other_kind, is_refused_as_stale, is_its_own, number_code, block_code, counted_code, creation_code, event_code, channel_code, Source, code_of}
+use Rattle.ocr_parts.specs.Kinds.{IsBlock, is_vacant, is_template, is_event, is_destroyed}
 use Rattle.ocr_any_event.specs.AnyEvent.{is_destroyed as destroyed_event}
-use Rattle.ocr_parts.specs.LegalOn.{IsEnding, IsDooming, IsShared}
-use Rattle.ocr_parts.specs.Parts.{Parts}
-use Rattle.ocr_machine.specs.AtHand.{AtHand, state, HasFace, HasCore, IsAccepted, IsStorable, slots_meant}
+use Rattle.ocr_parts.specs.LegalOn.{IsEnding, IsDooming}
+use Rattle.ocr_machine.specs.AtHand.{AtHand, state, HasFace, HasCore, IsAccepted, IsStorable, AreOthers, slots_meant}
 use Rattle.ocr_machine.proofs.Steps.{block_weaker}
 
 last_if : (b : Bool) (c rest : Code) → (c ≡ code.Done → ⊥) → (if b then c else rest) ≡ code.Done → rest ≡ code.Done
@@ -43,6 +43,10 @@ kinds_fit t f c is = not_first _ code.Einval _ (λ wrong. cc wrong) (second_of t
 not_or : (b c : Bool) → (b || c) ≡ false → b ≡ false
 not_or true c is = cc is
 not_or false c is = refl
+
+or_last : (b c : Bool) → (b || c) ≡ false → c ≡ false
+or_last true c is = cc is
+or_last false c is = is
 
 neither : (b c : Bool) → (not b || c) ≡ false → b ≡ true
 neither true c is = refl
@@ -121,12 +125,6 @@ event_face h t k fl a accepted = accepted.made.face refl
 pub channel_face : (h : AtHand) (t k fl most sats ds : ℕ) (a : Answer) → IsAccepted h t (call.EventCreateParams k fl most sats ds) a → HasFace h a.value
 channel_face h t k fl most sats ds a accepted = accepted.made.face refl
 
-linkable_code : (x : Part) (i m : ℕ) → dependence_code x i m ≡ code.Done → link_code x i ≡ code.Done
-linkable_code x i m is = last_if _ code.Einval _ (λ wrong. cc wrong) is
-
-pub slot_linkable : (h : AtHand) (t from x i m : ℕ) (a : Answer) → IsAccepted h t (call.AddDependence from x i m) a → link_code ((state h).face x) i ≡ code.Done
-slot_linkable h t from x i m a accepted = linkable_code ((state h).face x) i m (number_done t (state h).face (call.AddDependence from x i m) accepted.code)
-
 pub template_face : (h : AtHand) (t f pc dc : ℕ) (a : Answer) → IsAccepted h t (call.TemplateCreate f pc dc) a → HasFace h a.value
 template_face h t f pc dc a accepted = accepted.made.face refl
 
@@ -155,11 +153,25 @@ pub deps_given : (h : AtHand) (t from pc : ℕ) (ps : List ℕ) (dc : ℕ) (ds :
     → length ds ≤ slots_meant ((state h).face from) dc
 deps_given h t from pc ps dc ds fl o a accepted = (few h t from pc ps dc ds fl o a accepted).given
 
-pub deps_few : (h : AtHand) (t from pc : ℕ) (ps : List ℕ) (dc : ℕ) (ds : List ℕ) (fl : ℕ) (o : Bool) (a : Answer) → IsAccepted h t (call.EdtCreate from pc ps dc ds fl o) a → length ds ≤ 32
-deps_few h t from pc ps dc ds fl o a accepted =
-    let given : length ds ≤ slots_meant ((state h).face from) dc = deps_given h t from pc ps dc ds fl o a accepted in
-    let most : slots_meant ((state h).face from) dc ≤ 32 = slots_most h t from pc ps dc ds fl o a accepted in
-    omega (arith, given, most)
+-- what is named as a dependence is there, and what is made was not
+not_vacant : (f : ℕ → Part) (g d : ℕ) → f g ≡ part.Vacant → is_vacant (f d) ≡ false → (g == d) ≡ false
+not_vacant f g d vacant there = elim (g == d) as (λ b. (g == d) ≡ b → b ≡ false) [
+  | true ↦ λ same. let here : f d ≡ part.Vacant = ap f (sym (eqb-true g d same)) ∙ vacant in cc (sym there ∙ ap is_vacant here)
+  | false ↦ λ _. refl
+] refl
+
+others : (f : ℕ → Part) (g : ℕ) (ds : List ℕ) → f g ≡ part.Vacant → is_any is_missing f (wanted_sources ds) ≡ false → AreOthers g ds
+others f g [] vacant are = tt
+others f g (d ∷ rest) vacant are = elim (is_object d) as (λ b. is_any is_missing f (if b then (d, Source) ∷ wanted_sources rest else wanted_sources rest) ≡ false → (b ≡ true → (g == d) ≡ false) × AreOthers g rest) [
+  | true ↦ λ is. (λ _. not_vacant f g d vacant (not_or (is_vacant (f d)) _ is), others f g rest vacant (or_last (is_vacant (f d)) _ is))
+  | false ↦ λ is. (λ wrong. cc wrong, others f g rest vacant is)
+] are
+
+pub deps_others : (h : AtHand) (t from pc : ℕ) (ps : List ℕ) (dc : ℕ) (ds : List ℕ) (fl : ℕ) (o : Bool) (a : Answer) → IsAccepted h t (call.EdtCreate from pc ps dc ds fl o) a → AreOthers a.value ds
+deps_others h t from pc ps dc ds fl o a accepted =
+    let f : ℕ → Part = (state h).face in
+    others f a.value ds (accepted.answered.named.fresh (ap is_done accepted.done)).vacant
+    (or_last (is_vacant (f from)) _ (not_first _ code.Enoent _ (λ wrong. cc wrong) accepted.code))
 
 pub edt_face : (h : AtHand) (t from pc : ℕ) (ps : List ℕ) (dc : ℕ) (ds : List ℕ) (fl : ℕ) (o : Bool) (a : Answer) → IsAccepted h t (call.EdtCreate from pc ps dc ds fl o) a → HasFace h a.value
 edt_face h t from pc ps dc ds fl o a accepted = accepted.made.face refl

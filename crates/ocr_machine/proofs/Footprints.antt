@@ -5,19 +5,21 @@ use Rattle.std.proofs.lemmas.Bool.{eqb-true}
 use Rattle.std.specs.List.{All}
 use Rattle.ocr_history.specs.Numbers.{is_in, placed}
 use Rattle.ocr_history.specs.declared.entry.Entry.{Entry}
-use Rattle.ocr_history.specs.declared.entry.Entry.TheVariants.{Call, Deliver, Acquire, Wait, StaleAcquire, Start, Free, End, Stop}
+use Rattle.ocr_history.specs.declared.entry.Entry.TheVariants.{Call, Deliver, Acquire, Wait, StaleAcquire, Start, Free, End}
+use Rattle.ocr_history.specs.declared.entry.What.{What}
+use Rattle.ocr_history.specs.declared.entry.What.TheVariants as what
 use Rattle.ocr_meaning.specs.Call.{is_creation}
 use Rattle.ocr_meaning.specs.Holds.{is_done}
 use Rattle.ocr_meaning.specs.declared.call.Call as body
 use Rattle.ocr_meaning.specs.declared.call.Call.TheVariants as call
 use Rattle.ocr_meaning.specs.declared.call.Answer.{Answer}
 use Rattle.ocr_parts.specs.Codes.{Sort, wanted}
-use Rattle.ocr_parts.specs.Footprint.{is_wanted, names_face, on_face, makes_core, on_core_of, and_face, and_core, and_wanted, and_made, call_footprint, footprint_of, is_touched, Covers}
+use Rattle.ocr_parts.specs.Footprint.{is_wanted, names_face, is_brought_to, on_face, makes_core, on_core_of, and_face, and_core, and_wanted, and_made, call_footprint, message_footprint, footprint_of, is_touched, Covers}
 use Rattle.ocr_parts.specs.LegalOn.{IsAnswered, IsFresh, IsNamed}
 use Rattle.ocr_parts.specs.Parts.{Parts}
-use Rattle.ocr_parts.specs.Taken.{is_within, has, keys}
+use Rattle.ocr_parts.specs.Taken.{is_within, keys}
 use Rattle.ocr_parts.specs.declared.part.Part.{Part}
-use Rattle.ocr_machine.specs.AtHand.{AtHand, state, HasFace, HasCore, HasMade}
+use Rattle.ocr_machine.specs.AtHand.{AtHand, state, HasMade}
 use Rattle.ocr_machine.proofs.Places.{has_keys, no_face, back_again}
 
 or_swap : (a b c : Bool) → (a || (b || c)) ≡ (b || (a || c))
@@ -136,8 +138,13 @@ pair_face limit t d xs g on within = elim (either (t == g) (d == g) on) [
 pair_core : (limit t d u : ℕ) → (t == u) ≡ true → is_within limit u ≡ true → is_in (limit + u) (and_face limit t (and_face limit d (and_core limit t []))) ≡ true
 pair_core limit t d u on within = stays_face limit t (limit + u) _ (stays_face limit d (limit + u) _ (core_named limit t u [] on within))
 
+message_face : (limit : ℕ) (m : What) (g : ℕ) → is_brought_to m g ≡ true → is_within limit g ≡ true → is_in g (message_footprint limit m) ≡ true
+message_face limit (what.Satisfy e slot p) g on within = face_named limit e g [] on within
+message_face limit other g on within = cc on
+
 pub named_face : (limit : ℕ) (e : Entry) (g : ℕ) → on_face e g ≡ true → is_within limit g ≡ true → is_in g (footprint_of limit e) ≡ true
 named_face limit (Call t home c a w) g on within = call_face limit c a _ g on within
+named_face limit (Deliver m c) g on within = message_face limit m.what g on within
 named_face limit (Acquire t d) g on within = pair_face limit t d _ g on within
 named_face limit (Wait t d) g on within = pair_face limit t d _ g on within
 named_face limit (StaleAcquire t d) g on within = pair_face limit t d _ g on within
@@ -248,8 +255,13 @@ small_made limit c a n xs rest is = elim (is_creation c) as (λ b. is_in n (if b
 nowhere : (n : ℕ) (P : Type 0) → is_in n [] ≡ true → P
 nowhere n P is = cc is
 
+small_message : (limit : ℕ) (m : What) (n : ℕ) → is_in n (message_footprint limit m) ≡ true → n ≤ limit + limit
+small_message limit (what.Satisfy e slot p) n is = small_face limit e n [] (nowhere n _) is
+small_message limit other n is = nowhere n _ is
+
 pub small : (limit : ℕ) (e : Entry) (n : ℕ) → is_in n (footprint_of limit e) ≡ true → n ≤ limit + limit
 small limit (Call t home c a w) n is = small_wanted limit (wanted c) n _ (small_made limit c a n _ (small_core limit t n [] (nowhere n _))) is
+small limit (Deliver m c) n is = small_message limit m.what n is
 small limit (Acquire t d) n is = small_face limit t n _ (small_face limit d n _ (small_core limit t n [] (nowhere n _))) is
 small limit (Wait t d) n is = small_face limit t n _ (small_face limit d n _ (small_core limit t n [] (nowhere n _))) is
 small limit (StaleAcquire t d) n is = small_face limit t n _ (small_face limit d n _ (small_core limit t n [] (nowhere n _))) is

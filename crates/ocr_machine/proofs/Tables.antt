@@ -1,5 +1,5 @@
 -- The table of a run: its parts, and what its slots were set to.
-use Rattle.std.proofs.Common.{◌≡◌, ℕ, zero, suc, ◌+◌, ◌-◌, ◌<◌, ◌≤◌, ◌↔◌, List, [], ◌∷◌, ◌++◌, length, drop, append_assoc, unwrap_or, map, filter, not, slice_index_or, slice_set, Bool, true, false, ◌==◌, ◌||◌, ◌&&◌, if◌then◌else◌, Option, Some, None, is_some, arith, refl, sym, ◌∙◌, ap, subst, rules}
+use Rattle.std.proofs.Common.{◌≡◌, ℕ, zero, suc, ◌+◌, ◌-◌, ◌<◌, ◌≤◌, ◌↔◌, List, [], ◌∷◌, ◌++◌, length, drop, append_assoc, unwrap_or, map, filter, not, slice_set, true, false, ◌==◌, ◌||◌, ◌&&◌, if◌then◌else◌, Option, Some, None, is_some, arith, refl, sym, ◌∙◌, ap, subst, rules}
 use Rattle.std.proofs.lemmas.Grind.{common_steps}
 use Rattle.std.proofs.lemmas.Bool.{eqb-true}
 use Rattle.std.specs.List.{range_with_len}
@@ -11,16 +11,16 @@ use Rattle.ocr_edt.specs.Edt as edt
 use Rattle.ocr_history.specs.History as history
 use Rattle.ocr_history.specs.Numbers.{is_in}
 use Rattle.ocr_history.specs.declared.entry.What.TheVariants as what
-use Rattle.ocr_history.specs.Made.{Made, MadeBlock, MadeTemplate, MadeEdt, MadeEvent, made, depc_in, is_new}
+use Rattle.ocr_history.specs.Made.{Made, MadeBlock, MadeTemplate, MadeEdt, MadeEvent, made, depc_in}
 use Rattle.ocr_history.specs.declared.entry.Entry.{Entry}
-use Rattle.ocr_history.specs.declared.entry.Entry.TheVariants.{Call, Deliver, Acquire, Wait, StaleAcquire, Start, Free, End, Stop}
-use Rattle.ocr_slots.specs.Slots.{SlotCall, Setting, mode_of, payload_of, is_set, slots_of, state_of, slot_at}
+use Rattle.ocr_history.specs.declared.entry.Entry.TheVariants.{Call, Deliver, Acquire, Wait, StaleAcquire, Start, Free}
+use Rattle.ocr_slots.specs.Slots.{SlotCall, mode_of, payload_of, is_set, slots_of, state_of, slot_at}
 use Rattle.ocr_slots.specs.declared.Slot.{Slot}
 use Rattle.ocr_parts.specs.declared.loans.Kept.{Kept}
 use Rattle.ocr_parts.specs.declared.part.Core.{Core}
 use Rattle.ocr_parts.specs.declared.part.Part.{Part}
 use Rattle.ocr_parts.specs.declared.part.Part.TheVariants as part
-use Rattle.ocr_parts.specs.Calls.{link_calls, set_calls, set_step, depc_of, open_slots, payload_or_null, payloads_of, depv_of, depv_in, value_of_slot, edt_calls, loans_of, slot_now, slots_now, plan_of, asks_in}
+use Rattle.ocr_parts.specs.Calls.{link_calls, set_calls, set_step, depc_of, open_slots, payload_or_null, payloads_of, depv_of, depv_in, value_of_slot, edt_calls, loans_of, slots_now, plan_of, asks_in}
 use Rattle.ocr_parts.specs.Effects.{changed, readied, readied_on, edt_in, ready_at, with_core, with_phase, made_ready, next_on}
 use Rattle.ocr_parts.specs.Kinds.{on_core, core_progress, next_in, is_running}
 use Rattle.ocr_parts.specs.Laws.{AfterLaw, WithinLaw}
@@ -29,7 +29,7 @@ use Rattle.ocr_parts.specs.Messages.{sends, resumes}
 use Rattle.ocr_parts.specs.Parts.{Parts, parts_of, face, core}
 use Rattle.ocr_parts.specs.Taken.{look, has, as_face, as_core, is_within, IsWithin, parts_in, place_of, ArePlaced}
 use Rattle.ocr_machine.specs.Sets.{filled, are_set, payloads_in, slots_in, stale_on, set_after}
-use Rattle.ocr_machine.specs.Table.{part_at, all_parts, AreAllPlaced, row_at, state_in, face_on, core_on, sets_in, slots_on, plan_on, IsLike, IsOf, IsBefore}
+use Rattle.ocr_machine.specs.Table.{part_at, all_parts, AreAllPlaced, state_in, face_on, core_on, sets_in, slots_on, plan_on, IsLike, IsOf, IsBefore}
 use Rattle.ocr_machine.specs.declared.table.Table.{Table}
 use Rattle.ocr_machine.proofs.Places.{parts_by, place_is, AreKept, kept_as, kept_set, core_set}
 
@@ -150,6 +150,14 @@ pub resumes_readied : (ms : List (ℕ × Mode)) (e : Entry) (f : Parts) → resu
 resumes_readied ms (Call t home c a w) f = refl
 resumes_readied ms (Free t d w) f = refl
 resumes_readied ms other f = refl
+
+-- nor does a face
+pub face_readied : (ms : List (ℕ × Mode)) (e : Entry) (f : Parts) (g : ℕ) → (readied ms e f).face g ≡ f.face g
+face_readied ms (Acquire t d) f g = refl
+face_readied ms (Wait t d) f g = refl
+face_readied ms (StaleAcquire t d) f g = refl
+face_readied ms (Start t) f g = refl
+face_readied ms other f g = refl
 
 -- AN ENTRY of a table: it is made ready, changed, and its slots are noted
 pub ready_is : (s : history.Setting) (past : history.History) (e : Entry) (old ready : Table) → IsOf s past old

@@ -1,5 +1,5 @@
 -- The parts that an entry has at hand, and what is told of a step that changes them.
-use Rattle.std.specs.Prelude.{◌≡◌, ◌≤◌, ◌<◌, ℕ, ◌+◌, List, Bool, true, false, Option, None, is_some, length}
+use Rattle.std.specs.Prelude.{◌≡◌, ◌<◌, ℕ, ◌+◌, ◌==◌, List, [], ◌∷◌, Bool, true, false, Option, None, is_some}
 use Rattle.ocr_guid.specs.declared.Code.TheVariants.{Done}
 use Rattle.ocr_template.specs.Template.{count_meant}
 use Rattle.ocr_acquire.specs.Mode.{mode_in}
@@ -7,10 +7,10 @@ use Rattle.ocr_datablock.specs.Block as block
 use Rattle.ocr_datablock.specs.Lent.{Loan}
 use Rattle.ocr_meaning.specs.Call.{is_creation}
 use Rattle.ocr_meaning.specs.declared.call.Call as body
-use Rattle.ocr_meaning.specs.declared.call.Call.TheVariants as call
 use Rattle.ocr_meaning.specs.declared.call.Answer.{Answer}
 use Rattle.ocr_parts.specs.declared.part.Part.{Part}
 use Rattle.ocr_parts.specs.declared.part.Part.TheVariants as part
+use Rattle.ocr_parts.specs.Calls.{is_object}
 use Rattle.ocr_parts.specs.Codes.{code_of}
 use Rattle.ocr_parts.specs.Footprint.{makes_core}
 use Rattle.ocr_parts.specs.Kinds.{is_running}
@@ -83,8 +83,7 @@ pub record IsStorable (k : ℕ) (st : block.State) : Type 0 where
   pub exists : k < st.size
   pub not_lent : st.borrower ≡ None
 
--- a slot that can be linked has a small number
-abbrev pub HasFewSlots : body.Call → Type 0
-HasFewSlots (call.AddDependence from x i m) = i < 32
-HasFewSlots (call.EdtCreate from pc ps dc ds fl o) = length ds ≤ 32
-HasFewSlots other = Unit {0}
+-- the dependences name no such object as this
+abbrev pub AreOthers : ℕ → List ℕ → Type 0
+AreOthers g [] = Unit {0}
+AreOthers g (d ∷ rest) = (is_object d ≡ true → (g == d) ≡ false) × AreOthers g rest

@@ -1,29 +1,32 @@
 // What an accepted call does.
-ghost use Rattle.std.specs.Prelude.{◌≡◌, ◌≤◌, ◌<◌, [], None, IfOk, List, true, length};
+ghost use Rattle.std.specs.Prelude.{◌≡◌, ◌≤◌, ◌<◌, ◌-◌, ◌^◌, ◌==◌, ℕ, [], None, IfOk, List, true, false, not};
 ghost use Rattle.ocr_datablock.specs.Steps.{after_store};
 ghost use Rattle.ocr_guid.specs.declared.Code.TheVariants as code;
 ghost use Rattle.ocr_slots.specs.declared.Slot.{Slot};
 ghost use Rattle.ocr_slots.specs.Steps.{after_link};
-ghost use Rattle.ocr_parts.specs.Calls.{mode_named};
-ghost use Rattle.ocr_parts.specs.Codes.{link_code};
-ghost use Rattle.ocr_parts.specs.Effects.{with_face, called, doomed_template};
-ghost use Rattle.ocr_parts.specs.Kinds.{IsBlock, with_block, with_links, with_template, is_template, with_event, is_event};
+ghost use Rattle.ocr_parts.specs.Calls.{mode_named, target_of};
+ghost use Rattle.ocr_parts.specs.Codes.{link_code, dependence_code, brings_block};
+ghost use Rattle.ocr_parts.specs.Effects.{with_face, called, doomed_template, linked_if};
+ghost use Rattle.ocr_parts.specs.Kinds.{IsBlock, with_block, with_links, with_template, is_template, with_event, is_event, is_edt_face, counted_on};
 ghost use Rattle.ocr_any_event.specs.AnyEvent.{after_destroy};
-ghost use Rattle.ocr_parts.specs.Messages.{sent_by, dep_sets, resumed_by_call};
-ghost use Rattle.ocr_machine.specs.AtHand.{state, Becomes, IsAccepted, IsStorable, HasFewSlots};
+ghost use Rattle.ocr_parts.specs.Messages.{sent_by, linked_by, resumed_by_call};
+ghost use Rattle.ocr_machine.specs.AtHand.{state, Becomes, IsAccepted, IsStorable};
 
 use crate::ending::{destroy, end_hold};
-use crate::making::{create_block, create_edt, create_event, create_template};
+use crate::events::{depend, satisfy_at};
+use crate::making::{create_block, create_event, create_template, make_edt};
+use crate::table::Entered;
 use crate::taken::Taken;
 use ocr_acquire::Mode;
 use ocr_base::NoMemory;
 use ocr_guid::Guid;
+use ocr_guid::target::Target;
 use ocr_history::{What, Writes};
 use ocr_meaning::{Answer, Call};
 use ocr_parts::Part;
 use std::alloc::Global;
 
-/// What an accepted call does; gives who is resumed.
+/// What an accepted call does; gives what it sends, and who is resumed.
 pub(crate) fn call_step(
     alloc: Global,
     parts: &mut Taken,
@@ -31,38 +34,45 @@ pub(crate) fn call_step(
     call: &Call,
     answer: &Answer,
     writes: &Writes,
-) -> Result<Vec<Guid>, NoMemory>
-    requires { IsAccepted parts.old edt call.now answer.now }
+) -> Result<Entered, NoMemory>
+    requires accepted { IsAccepted parts.old edt call.now answer.now }
+    requires counts { (g : ℕ) → counted_on ((state parts.old).face g) < 2 ^ 64 - 1 }
     ensures parts { IfOk result (λ _. Becomes parts.old parts.new
         (called edt call.now answer.now writes.now (state parts.old))) }
-    ensures resumed { IfOk result (λ r. r.items ≡ resumed_by_call edt call.now (state parts.old)) }
-    ensures few { HasFewSlots call.now }
+    ensures messages { IfOk result (λ r. r.messages.items
+        ≡ sent_by call.now answer.now (state parts.old)) }
+    ensures resumed { IfOk result (λ r. r.resumed.items
+        ≡ resumed_by_call edt call.now (state parts.old)) }
 {
     match call {
-        Call::Print { .. } => Ok(Vec::new(alloc)),
-        Call::Load { block: _, word: _ } => Ok(Vec::new(alloc)),
+        Call::Print { .. } => Ok(nothing(alloc)),
+        Call::Load { block: _, word: _ } => Ok(nothing(alloc)),
         Call::Store { block, word, value } => {
             store_at(parts, *block, *word, *value);
-            Ok(Vec::new(alloc))
+            Ok(nothing(alloc))
         }
         Call::DbCreate { length, flags } => {
             create_block(alloc, parts, edt, *length, *flags, answer.value)?;
-            Ok(Vec::new(alloc))
+            Ok(nothing(alloc))
         }
-        Call::DbRelease { block } => end_hold(alloc, parts, edt, *block, writes),
-        Call::DbDestroy { block } => destroy(alloc, parts, edt, *block, writes),
+        Call::DbRelease { block } => {
+            Ok(only_resumed(alloc, end_hold(alloc, parts, edt, *block, writes)?))
+        }
+        Call::DbDestroy { block } => {
+            Ok(only_resumed(alloc, destroy(alloc, parts, edt, *block, writes)?))
+        }
         Call::TemplateDestroy { template } => {
             doom_template(parts, *template);
-            Ok(Vec::new(alloc))
+            Ok(nothing(alloc))
         }
         Call::AddDependence {
-            source: _,
+            source,
             target,
             slot,
             mode,
         } => {
-            link_at(parts, *target, *slot, *mode);
-            Ok(Vec::new(alloc))
+            let messages = add_dependence(alloc, parts, *source, *target, *slot, *mode)?;
+            Ok(only_sent(alloc, messages))
         }
         Call::TemplateCreate {
             function,
@@ -70,7 +80,7 @@ pub(crate) fn call_step(
             depc,
         } => {
             create_template(parts, *function, *paramc, *depc, answer.value);
-            Ok(Vec::new(alloc))
+            Ok(nothing(alloc))
         }
         Call::EdtCreate {
             template,
@@ -81,12 +91,12 @@ pub(crate) fn call_step(
             flags: _,
             output: _,
         } => {
-            create_edt(alloc, parts, *template, params, *depc, deps, answer.value)?;
-            Ok(Vec::new(alloc))
+            let messages = make_edt(alloc, parts, *template, params, *depc, deps, answer.value)?;
+            Ok(only_sent(alloc, messages))
         }
         Call::EventCreate { kind, flags } => {
             create_event(alloc, parts, *kind, *flags, 0, answer.value);
-            Ok(Vec::new(alloc))
+            Ok(nothing(alloc))
         }
         Call::EventCreateParams {
             kind,
@@ -96,13 +106,52 @@ pub(crate) fn call_step(
             nb_deps: _,
         } => {
             create_event(alloc, parts, *kind, *flags, *max_gen, answer.value);
-            Ok(Vec::new(alloc))
+            Ok(nothing(alloc))
         }
         Call::EventDestroy { event } => {
             destroy_event(parts, *event);
-            Ok(Vec::new(alloc))
+            Ok(nothing(alloc))
         }
-        Call::Satisfy { .. } | Call::Shutdown | Call::Abort { .. } => unreachable!(),
+        Call::Satisfy {
+            event,
+            payload,
+            slot,
+        } => {
+            let messages = satisfy_at(alloc, parts, *event, *slot, *payload)?;
+            Ok(only_sent(alloc, messages))
+        }
+        Call::Shutdown | Call::Abort { .. } => unreachable!(),
+    }
+}
+
+/// A call that sends nothing and lets nobody go on.
+fn nothing(alloc: Global) -> Entered
+    ensures messages { result.messages.items ≡ [] }
+    ensures resumed { result.resumed.items ≡ [] }
+{
+    Entered {
+        messages: Vec::new(alloc),
+        resumed: Vec::new(alloc),
+    }
+}
+
+fn only_sent(alloc: Global, messages: Vec<What>) -> Entered
+    ensures messages { result.messages.items ≡ messages.items }
+    ensures resumed { result.resumed.items ≡ [] }
+{
+    Entered {
+        messages,
+        resumed: Vec::new(alloc),
+    }
+}
+
+fn only_resumed(alloc: Global, resumed: Vec<Guid>) -> Entered
+    ensures messages { result.messages.items ≡ [] }
+    ensures resumed { result.resumed.items ≡ resumed.items }
+{
+    Entered {
+        messages: Vec::new(alloc),
+        resumed,
     }
 }
 
@@ -143,6 +192,43 @@ fn destroy_event(parts: &mut Taken, event: u64)
     parts.put_face(event, Part::Event(made));
 }
 
+/// A slot of an EDT or of an event gets a source; gives what goes to it at once.
+fn add_dependence(
+    alloc: Global,
+    parts: &mut Taken,
+    source: u64,
+    target: u64,
+    slot: u64,
+    mode: u64,
+) -> Result<Vec<What>, NoMemory>
+    requires apart { (source == target) ≡ false }
+    requires accepted { dependence_code (brings_block (state parts.old).face source)
+        ((state parts.old).face target) slot mode ≡ code.Done }
+    ensures parts { IfOk result (λ _. Becomes parts.old parts.new
+        (linked_if (not (source == 0)) source
+        (target_of (is_edt_face ((state parts.old).face target)) target slot)
+        (with_face (state parts.old) target
+        (with_links ((state parts.old).face target)
+        (λ slots. after_link slots slot (mode_named mode)))))) }
+    ensures messages { IfOk result (λ r. r.items
+        ≡ linked_by (not (source == 0)) source
+        (target_of (is_edt_face ((state parts.old).face target)) target slot)
+        (state parts.old)) }
+{
+    let is_edt = parts.is_edt(target);
+    if is_edt {
+        link_at(parts, target, slot, mode);
+    }
+    let target = Target {
+        object: Guid(target),
+        is_edt,
+        slot: slot as u32,
+    };
+    let mut messages = Vec::new(alloc);
+    depend(alloc, parts, &mut messages, source != 0, source, &target)?;
+    Ok(messages)
+}
+
 /// The slot of an EDT is linked.
 fn link_at(parts: &mut Taken, edt: u64, slot: u64, mode: u64)
     requires { link_code ((state parts.old).face edt) slot ≡ code.Done }
@@ -165,56 +251,4 @@ fn named_mode(mode: u64) -> Mode
         Some(mode) => mode,
         None => Mode::Null,
     }
-}
-
-/// The messages of an accepted call.
-pub(crate) fn sent(alloc: Global, call: &Call, answer: &Answer) -> Result<Vec<What>, NoMemory>
-    requires { HasFewSlots call.now }
-    ensures { IfOk result (λ r. r.items ≡ sent_by call.now answer.now) }
-{
-    let mut messages = Vec::new(alloc);
-    if let Call::EdtCreate {
-        template: _,
-        paramc: _,
-        params: _,
-        depc: _,
-        deps,
-        flags: _,
-        output: _,
-    } = call
-    {
-        return sets(alloc, answer.value, deps.as_slice());
-    }
-    if let Call::AddDependence {
-        source,
-        target,
-        slot,
-        mode: _,
-    } = call
-    {
-        messages.push(What::Set {
-            edt: Guid(*target),
-            slot: *slot as u32,
-            payload: Guid(*source),
-        })?;
-    }
-    Ok(messages)
-}
-
-/// The messages of a creation with dependences.
-fn sets(alloc: Global, edt: u64, deps: &[u64]) -> Result<Vec<What>, NoMemory>
-    requires { length deps.now ≤ 32 }
-    ensures { IfOk result (λ r. r.items ≡ dep_sets edt 0 deps.now) }
-{
-    let mut messages = Vec::new(alloc);
-    for k in 0..deps.len() {
-        if deps[k] != u64::MAX {
-            messages.push(What::Set {
-                edt: Guid(edt),
-                slot: k as u32,
-                payload: Guid(deps[k]),
-            })?;
-        }
-    }
-    Ok(messages)
 }

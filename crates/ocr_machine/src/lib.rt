@@ -6,6 +6,7 @@ mod beginning;
 mod calling;
 mod codes;
 mod ending;
+mod events;
 mod making;
 mod naming;
 mod plans;
@@ -17,7 +18,7 @@ mod taken;
 mod waking;
 
 pub use beginning::opening;
-pub use codes::decide;
+pub use codes::{decide, delivery_code};
 pub use naming::{footprint, weight};
 pub use sets::Sets;
 pub use stepping::step;

@@ -9,12 +9,14 @@ ghost use Rattle.ocr_slots.specs.Slots.{state_of as slots_of};
 ghost use Rattle.ocr_slots.specs.Steps.{after_link};
 ghost use Rattle.ocr_template.specs.Template.{count_meant};
 ghost use Rattle.ocr_parts.specs.Calls.{dep_links, is_given};
-ghost use Rattle.ocr_parts.specs.Effects.{with_face, with_core, creating_core, holding_edt, new_face, new_core};
+ghost use Rattle.ocr_parts.specs.Effects.{with_face, with_core, creating_core, holding_edt, new_face, new_core, deps_linked};
 ghost use Rattle.ocr_parts.specs.Kinds.{on_core, is_running, is_template};
+ghost use Rattle.ocr_parts.specs.Messages.{dep_sends};
 ghost use Rattle.ocr_parts.specs.Parts.{identity_of};
 ghost use Rattle.ocr_parts.specs.declared.part.Part.TheVariants as part;
-ghost use Rattle.ocr_machine.specs.AtHand.{state, Becomes, HasFace, HasCore, slots_meant};
+ghost use Rattle.ocr_machine.specs.AtHand.{state, Becomes, HasFace, HasCore, AreOthers, slots_meant};
 
+use crate::events::depend_all;
 use crate::taken::Taken;
 use ocr_acquire::Mode;
 use ocr_any_event::{CHANNEL, event_of};
@@ -22,6 +24,7 @@ use ocr_base::{NoMemory, Seq};
 use ocr_datablock::Block;
 use ocr_edt::{Edt, Filling};
 use ocr_guid::Guid;
+use ocr_history::What;
 use ocr_parts::{Core, Kept, Loans, Part};
 use ocr_slots::Slots;
 use ocr_template::{EDT_PARAM_DEF, Template};
@@ -145,8 +148,37 @@ pub(crate) fn create_event(
     parts.put_face(event, Part::Event(made));
 }
 
+/// Makes an EDT from a template, whose slots get the dependences; gives what goes to them at once.
+pub(crate) fn make_edt(
+    alloc: Global,
+    parts: &mut Taken,
+    template: u64,
+    params: &Seq<u64>,
+    depc: u64,
+    deps: &Seq<u64>,
+    edt: u64,
+) -> Result<Vec<What>, NoMemory>
+    requires template { is_template ((state parts.old).face template) ≡ true }
+    requires slots { slots_meant ((state parts.old).face template) depc ≤ 32 }
+    requires deps { length deps.now ≤ slots_meant ((state parts.old).face template) depc }
+    requires others { AreOthers edt deps.now }
+    requires face { HasFace parts.old edt }
+    requires core { HasCore parts.old edt }
+    ensures parts { IfOk result (λ _. Becomes parts.old parts.new
+        (deps_linked edt 0 deps.now
+        (with_core
+        (with_face (state parts.old) edt
+        (new_face ((state parts.old).face template) depc deps.now))
+        edt (new_core ((state parts.old).face template) edt params.now)))) }
+    ensures messages { IfOk result (λ r. r.items
+        ≡ dep_sends edt 0 deps.now (state parts.old)) }
+{
+    create_edt(alloc, parts, template, params, depc, deps, edt)?;
+    depend_all(alloc, parts, edt, deps.as_slice())
+}
+
 /// Makes an EDT from a template.
-pub(crate) fn create_edt(
+fn create_edt(
     alloc: Global,
     parts: &mut Taken,
     template: u64,

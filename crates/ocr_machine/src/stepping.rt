@@ -1,13 +1,15 @@
 // What an entry does.
-ghost use Rattle.std.specs.Prelude.{◌≡◌, ◌≤◌, IfOk};
+ghost use Rattle.std.specs.Prelude.{◌≡◌, ◌≤◌, ◌<◌, ◌-◌, ◌^◌, ℕ, IfOk};
 ghost use Rattle.ocr_parts.specs.Effects.{changed};
 ghost use Rattle.ocr_parts.specs.Footprint.{Covers};
+ghost use Rattle.ocr_parts.specs.Kinds.{counted_on};
 ghost use Rattle.ocr_parts.specs.LegalOn.{IsLegalOn};
 ghost use Rattle.ocr_parts.specs.Messages.{sends, resumes};
 ghost use Rattle.ocr_parts.specs.Taken.{keys, parts_in, ArePlaced};
 
-use crate::calling::{call_step, sent};
+use crate::calling::call_step;
 use crate::ending::{end_core, end_hold};
+use crate::events::deliver_step;
 use crate::taken::Taken;
 use crate::waking::{acquire_step, pass_by, start_core, wait_step};
 use ocr_base::NoMemory;
@@ -27,6 +29,7 @@ pub fn step(
 ) -> Result<Stepped, NoMemory>
     requires legal { IsLegalOn limit (parts_in limit parts.items) entry.now }
     requires covers { Covers limit entry.now parts.items }
+    requires counts { (g : ℕ) → counted_on ((parts_in limit parts.items).face g) < 2 ^ 64 - 1 }
     requires limit_fits { limit ≤ 65536 }
     ensures parts { IfOk result (λ r. parts_in limit r.parts.items
         ≡ changed entry.now (parts_in limit parts.items)) }
@@ -50,8 +53,9 @@ pub fn step(
             writes,
         } => {
             if answer.code == Code::Done {
-                resumed = call_step(alloc, &mut taken, edt.0, call, answer, writes)?;
-                messages = sent(alloc, call, answer)?;
+                let called = call_step(alloc, &mut taken, edt.0, call, answer, writes)?;
+                messages = called.messages;
+                resumed = called.resumed;
             }
         }
         Entry::Acquire { edt, block } => acquire_step(alloc, &mut taken, edt.0, block.0)?,
@@ -61,7 +65,11 @@ pub fn step(
             resumed = end_hold(alloc, &mut taken, edt.0, block.0, writes)?;
         }
         Entry::End { edt, returned: _ } => end_core(&mut taken, edt.0),
-        Entry::Deliver { .. } => (),
+        Entry::Deliver { message, code } => {
+            if *code == Code::Done {
+                messages = deliver_step(alloc, &mut taken, message.what)?;
+            }
+        }
         Entry::StaleAcquire { edt, block: _ } => pass_by(&mut taken, edt.0),
         Entry::Stop(_) => (),
     }

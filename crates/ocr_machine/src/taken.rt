@@ -108,6 +108,34 @@ impl Taken {
         *made
     }
 
+    /// Whether the object is an event.
+    pub fn is_event(&self, object: u64) -> bool
+        ensures { result ≡ is_event ((state self.now).face object) }
+    {
+        if object < 1 || self.limit < object {
+            return false;
+        }
+        match find(&self.parts, object) {
+            Some(Part::Event(_)) => true,
+            None | Some(Part::Vacant) | Some(Part::Core(_)) => false,
+            Some(Part::Edt(_)) | Some(Part::Block(_)) | Some(Part::Template(_)) => false,
+        }
+    }
+
+    /// Whether the object is an EDT.
+    pub fn is_edt(&self, object: u64) -> bool
+        ensures { result ≡ is_edt_face ((state self.now).face object) }
+    {
+        if object < 1 || self.limit < object {
+            return false;
+        }
+        match find(&self.parts, object) {
+            Some(Part::Edt(_)) => true,
+            None | Some(Part::Vacant) | Some(Part::Core(_)) => false,
+            Some(Part::Block(_)) | Some(Part::Template(_)) | Some(Part::Event(_)) => false,
+        }
+    }
+
     /// Takes an event out.
     pub fn take_event(&mut self, event: u64) -> AnyEvent
         requires { is_event ((state self.old).face event) ≡ true }

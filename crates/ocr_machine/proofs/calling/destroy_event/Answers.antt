@@ -1,4 +1,3 @@
-use Rattle.std.proofs.Common.{refl}
 use Rattle.ocr_any_event.specs.AnyEvent.{after_destroy}
 use Rattle.ocr_machine.proofs.Places.{event_step}
 use Rattle.ocr_machine.proofs.calling.destroy_event.Goals as goal

@@ -1,6 +1,5 @@
-use Rattle.std.proofs.Common.{ap, refl, ◌/◌, []}
-use Rattle.ocr_datablock.specs.Block.{State, state_of}
-use Rattle.ocr_history.specs.Made.{creator_of}
+use Rattle.std.proofs.Common.{ap, refl, ◌/◌}
+use Rattle.ocr_datablock.specs.Block.{State}
 use Rattle.ocr_parts.specs.declared.part.Part.TheVariants as part
 use Rattle.ocr_parts.specs.Effects.{with_face, with_core, creating_core}
 use Rattle.ocr_parts.specs.Kinds.{on_core}

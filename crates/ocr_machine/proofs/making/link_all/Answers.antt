@@ -1,4 +1,4 @@
-use Rattle.std.proofs.Common.{◌≡◌, ◌<◌, ◌+◌, ◌∷◌, ◌∙◌, sym, ap, ℕ, List, drop, if◌then◌else◌, arith, rules}
+use Rattle.std.proofs.Common.{◌≡◌, ◌<◌, ◌+◌, ◌∷◌, ◌∙◌, sym, ap, ℕ, List, drop, if◌then◌else◌, arith}
 use Rattle.std.proofs.lemmas.Grind.{common_steps}
 use Rattle.std.specs.Prelude.{slice_index}
 use Rattle.ocr_acquire.specs.declared.Mode.TheVariants as mode

@@ -1,4 +1,4 @@
-use Rattle.std.proofs.Common.{◌≡◌, ◌++◌, drop}
+use Rattle.std.proofs.Common.{◌≡◌, drop}
 use Rattle.ocr_machine.specs.Sets.{filled, are_set}
 use Rattle.ocr_machine.proofs.plans.are_set.Given as goal
 

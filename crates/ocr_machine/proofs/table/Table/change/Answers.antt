@@ -1,10 +1,10 @@
-use Rattle.std.proofs.Common.{◌≡◌, ◌+◌, ℕ, List, ◌∙◌, sym, subst, true}
+use Rattle.std.proofs.Common.{◌≡◌, ◌+◌, ◌-◌, ◌^◌, ℕ, List, ◌∙◌, sym, subst, true, lit<}
 use Rattle.ocr_history.specs.Numbers.{is_in}
 use Rattle.ocr_parts.specs.Footprint.{footprint_of}
 use Rattle.ocr_parts.specs.Taken.{keys, parts_in}
 use Rattle.ocr_machine.specs.Table.{all_parts}
 use Rattle.ocr_machine.proofs.Footprints.{small, all_small, footprint_covers}
-use Rattle.ocr_machine.proofs.Wholes.{all_keys, alike_taken, taken_placed, back_placed, IsTakenFor, put_back, after_all}
+use Rattle.ocr_machine.proofs.Wholes.{all_keys, taken_counts, alike_taken, taken_placed, back_placed, IsTakenFor, put_back, after_all}
 use Rattle.ocr_machine.proofs.table.Table.change.Goals as goal
 
 pub take-requires : goal.take-requires
@@ -18,11 +18,17 @@ step-requires-clause-legal c =
     let are : c.deref.result.now ≡ footprint_of c.args.self.now.limit c.args.entry.now = c.deref.ensures.value ∙ c.in_ok-numbers.ensures in
     let taken : IsTakenFor c.args.self.now.limit c.args.entry.now c.args.self.now.parts.items c.in_ok-taken.taken.items = rw are at c.in_ok-taken.ensures.taken in
     rw c.take.ensures.limit (c.machine_laws.ensures.legality c.args.self.now.limit c.args.entry.now (all_parts c.args.self.now.limit c.args.self.now.parts.items)
-    (parts_in c.args.self.now.limit c.in_ok-taken.taken.items) (alike_taken c.args.self.now.limit c.args.entry.now c.args.self.now.parts.items c.in_ok-taken.taken.items taken) c.requires)
+    (parts_in c.args.self.now.limit c.in_ok-taken.taken.items) (alike_taken c.args.self.now.limit c.args.entry.now c.args.self.now.parts.items c.in_ok-taken.taken.items taken) c.requires.legal)
 
 pub step-requires-clause-covers : goal.step-requires-clause-covers
 step-requires-clause-covers c =
     rw c.take.ensures.limit (footprint_covers c.args.self.now.limit c.args.entry.now c.in_ok-taken.taken.items (c.in_ok-taken.ensures.keys ∙ c.deref.ensures.value ∙ c.in_ok-numbers.ensures))
+
+pub step-requires-clause-counts : goal.step-requires-clause-counts
+step-requires-clause-counts c =
+    let are : c.deref.result.now ≡ footprint_of c.args.self.now.limit c.args.entry.now = c.deref.ensures.value ∙ c.in_ok-numbers.ensures in
+    let taken : IsTakenFor c.args.self.now.limit c.args.entry.now c.args.self.now.parts.items c.in_ok-taken.taken.items = rw are at c.in_ok-taken.ensures.taken in
+    rw c.take.ensures.limit (taken_counts c.args.self.now.limit c.args.entry.now c.args.self.now.parts.items c.in_ok-taken.taken.items (2 ^ 64 - 1) (lit< tt) taken c.requires.counts)
 
 pub give-requires : goal.give-requires
 give-requires c =
@@ -56,6 +62,15 @@ returns-clause-placed c = λ before.
     (put_back limit c.args.entry.now c.args.self.now.parts.items c.take.new.self.parts.items c.in_ok-stepped.stepped.parts.items c.give.new.self.parts.items keyed
     (rw are at c.in_ok-taken.ensures.left) c.give.ensures.parts) before
     (placed (taken_placed limit c.args.entry.now c.args.self.now.parts.items c.in_ok-taken.taken.items taken before)))
+
+pub returns-clause-messages : goal.returns-clause-messages
+returns-clause-messages c =
+    let limit : ℕ = c.args.self.now.limit in
+    let are : c.deref.result.now ≡ footprint_of limit c.args.entry.now = c.deref.ensures.value ∙ c.in_ok-numbers.ensures in
+    let taken : IsTakenFor limit c.args.entry.now c.args.self.now.parts.items c.in_ok-taken.taken.items = rw are at c.in_ok-taken.ensures.taken in
+    let messages = rw c.take.ensures.limit at c.in_ok-stepped.ensures.messages in
+    messages ∙ sym ((c.machine_laws.ensures.effect c.args.entry.now (all_parts limit c.args.self.now.parts.items) (parts_in limit c.in_ok-taken.taken.items)
+    (alike_taken limit c.args.entry.now c.args.self.now.parts.items c.in_ok-taken.taken.items taken)).1)
 
 pub returns-clause-resumed : goal.returns-clause-resumed
 returns-clause-resumed c =
