@@ -1,7 +1,6 @@
 -- The messages of a journal's entries, by their places, and which were not delivered yet.
-use Rattle.std.specs.Prelude.{ℕ, suc, List, [], ◌∷◌, ◌++◌, Option, Some, None, map, slice_index_or, slice_set, Bool, true, false, ◌||◌}
+use Rattle.std.specs.Prelude.{ℕ, suc, List, [], ◌∷◌, ◌++◌, Option, Some, None, map, slice_index_or, slice_set}
 use Rattle.ocr_history.specs.declared.entry.What.{What}
-use Rattle.ocr_history.specs.declared.entry.What.TheVariants as what
 
 -- what of an entry's messages was not delivered, from its index on; and of the entries from a place
 -- on
@@ -24,16 +23,3 @@ delivered_at rows n i = slice_set rows n (slice_set (slice_index_or rows n []) i
 
 abbrev pub sent_row : List What → List (Option What)
 sent_row messages = map (λ what. Some what) messages
-
--- some message that sets a slot was not delivered
-abbrev pub sets : Option What → Bool
-sets (Some (what.Set edt slot payload)) = true
-sets other = false
-
-abbrev pub row_sets : List (Option What) → Bool
-row_sets [] = false
-row_sets (one ∷ rest) = sets one || row_sets rest
-
-abbrev pub some_sets : List (List (Option What)) → Bool
-some_sets [] = false
-some_sets (row ∷ rest) = row_sets row || some_sets rest

@@ -2,7 +2,7 @@
 ghost use Rattle.std.specs.Prelude.{◌≡◌, ◌≢◌, ◌++◌, ◌∷◌, ℕ, [], ◌<◌, length, map, slice_set, slice_index_or, true, Some, None, IfOk, IfSome, IfNone};
 ghost use Rattle.std.specs.List.{Contains};
 ghost use Rattle.ocr_history.specs.declared.entry.What as what;
-ghost use Rattle.ocr_judge.specs.Mailing.{left_from, message_at, delivered_at, sent_row, sets, row_sets, some_sets};
+ghost use Rattle.ocr_judge.specs.Mailing.{left_from, message_at, delivered_at, sent_row};
 ghost use Rattle.ocr_judge.specs.Tests.{Whether};
 
 use ocr_base::NoMemory;
@@ -43,18 +43,6 @@ impl Row {
         self.messages[index as usize]
     }
 
-    fn sets(&self) -> bool
-        ensures { result ≡ row_sets self.now }
-    {
-        let mut found = false;
-        let mut k = self.messages.len();
-        while k > 0 {
-            k -= 1;
-            found = sets(self.messages[k]) || found;
-        }
-        found
-    }
-
     fn drop_at(&mut self, index: u32)
         requires { slice_index_or self.old index None ≢ None }
         ensures { self.new ≡ slice_set self.old index None }
@@ -62,17 +50,6 @@ impl Row {
         if (index as usize) < self.messages.len() {
             self.messages[index as usize] = None;
         }
-    }
-}
-
-fn sets(message: Option<What>) -> bool
-    ensures { result ≡ sets message }
-{
-    match message {
-        Some(What::Set { .. }) => true,
-        Some(What::Satisfy { .. }) => false,
-        Some(What::Leave { .. }) => false,
-        None => false,
     }
 }
 
@@ -120,6 +97,21 @@ impl Mail {
         Ok(())
     }
 
+    /// How many entries there are.
+    pub fn entries(&self) -> usize
+        ensures { result ≡ length self.now }
+    {
+        self.rows.len()
+    }
+
+    /// The messages of the entry at this place by their indices, but for those that were delivered.
+    pub fn row(&self, place: usize) -> &[Option<What>]
+        requires { place < length self.now }
+        ensures { result.now ≡ slice_index_or self.now place [] }
+    {
+        self.rows[place].messages.as_slice()
+    }
+
     /// The message of this name; None where it was not sent, or was delivered.
     pub fn message(&self, place: u64, index: u32) -> Option<What>
         ensures { result ≡ message_at self.now place index }
@@ -138,19 +130,6 @@ impl Mail {
         if place < self.rows.len() as u64 {
             self.rows[place as usize].drop_at(index);
         }
-    }
-
-    /// Whether some message that sets a slot was not delivered.
-    pub fn sets(&self) -> bool
-        ensures { result ≡ some_sets self.now }
-    {
-        let mut found = false;
-        let mut k = self.rows.len();
-        while k > 0 {
-            k -= 1;
-            found = self.rows[k].sets() || found;
-        }
-        found
     }
 
     /// Whether this message was sent and not delivered.

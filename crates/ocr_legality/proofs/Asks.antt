@@ -1,8 +1,7 @@
 -- What is told of a call that comes next.
-use Rattle.std.proofs.Common.{◌≡◌, ℕ, ◌+◌, ◌/◌, List, [], ◌∷◌, Bool, true, false, if◌then◌else◌, ◌&&◌, Option, Some, None, refl, sym, ◌∙◌, ap, subst, slice_index}
+use Rattle.std.proofs.Common.{◌≡◌, ℕ, ◌+◌, ◌/◌, List, [], Bool, true, false, if◌then◌else◌, ◌&&◌, Option, Some, None, refl, sym, ◌∙◌, ap, subst, slice_index}
 use Rattle.ocr_guid.specs.Target.{EventCall}
 use Rattle.ocr_guid.specs.declared.Code.{Code}
-use Rattle.ocr_guid.specs.declared.Code.TheVariants as code
 use Rattle.ocr_guid.specs.Code.{number_of}
 use Rattle.ocr_acquire.specs.declared.Mode.{Mode}
 use Rattle.ocr_meaning.specs.Holds.{is_done}
@@ -11,19 +10,18 @@ use Rattle.ocr_meaning.specs.declared.call.Call.TheVariants as call
 use Rattle.ocr_meaning.specs.declared.call.Answer.{Answer}
 use Rattle.ocr_history.specs.History.{History, Setting}
 use Rattle.ocr_history.specs.Made.{Made, MadeBlock, MadeEdt, MadeEvent, MadeTemplate, made}
-use Rattle.ocr_history.specs.Weight.{call_weight}
 use Rattle.ocr_parts.specs.declared.part.Part.{Part}
 use Rattle.ocr_parts.specs.declared.part.Part.TheVariants as part
 use Rattle.ocr_parts.specs.Calls.{edt_calls, loans_of, link_calls, block_calls, event_calls}
 use Rattle.ocr_parts.specs.Parts.{Parts, face, core, parts_of}
 use Rattle.ocr_parts.specs.Kinds.{IsBlock, is_running, mode_on}
 use Rattle.ocr_parts.specs.Codes.{code_of}
-use Rattle.ocr_parts.specs.LegalOn.{IsFresh, IsNamed, IsEdtNamed, IsShared, IsLoaded, IsAnswered, IsCallOn}
+use Rattle.ocr_parts.specs.LegalOn.{IsNamed, IsShared, IsLoaded, IsAnswered}
 use Rattle.ocr_parts.specs.Legal.{IsRun}
 use Rattle.ocr_machine.specs.Table.{state_in, face_on, core_on, IsOf}
 use Rattle.ocr_machine.specs.declared.table.Table.{Table}
 use Rattle.ocr_legality.specs.Tests.{Whether, AnswersSo, IsCallSo}
-use Rattle.ocr_legality.specs.Asked.{HasRoom, IsRoomy, HasAnswer, weighs_by, weighs, weight_with, CanWeigh}
+use Rattle.ocr_legality.specs.Asked.{HasRoom, IsRoomy, HasAnswer, weighs, weight_with, CanWeigh}
 use Rattle.ocr_legality.proofs.Calls.{call_on}
 use Rattle.ocr_legality.proofs.Goes.{not_both, turned}
 use Rattle.ocr_quiet.proofs.Choices.{both_true}
@@ -44,7 +42,7 @@ coreless_of (Some (MadeEdt f ps n)) links blocks events t calls loans is = cc is
 coreless_of (Some (MadeEvent k fl most)) links blocks events t calls loans is = cc is
 
 coreless : (s : Setting) (past : History) (g : ℕ) → (parts_of s past).face g ≡ part.Vacant → (parts_of s past).core g ≡ part.Vacant
-coreless s past g is = coreless_of (made s past g) (link_calls past g) (block_calls s past g) (event_calls past g) g (edt_calls s past g) (loans_of s past g) is
+coreless s past g is = coreless_of (made s past g) (link_calls past g) (block_calls s past g) (event_calls s past g) g (edt_calls s past g) (loans_of s past g) is
 
 -- AN ANSWER
 abbrev said : Code → ℕ → Answer
@@ -76,6 +74,7 @@ answer s past t (call.AddDependence from x i m) k room roomy on = (number_of k, 
 answer s past t (call.EventCreate kind fl) k room roomy on = named s.limit (parts_of s past) k room roomy on
 answer s past t (call.EventCreateParams kind fl most sats nd) k room roomy on = named s.limit (parts_of s past) k room roomy on
 answer s past t (call.EventDestroy x) k room roomy on = (number_of k, refl)
+answer s past t (call.Satisfy e p slot) k room roomy on = (number_of k, refl)
 answer s past t other k room roomy on = absurd on
 
 -- and where there is one
@@ -103,6 +102,7 @@ has_answer limit f t (call.AddDependence from x i m) a room done roomy is on = t
 has_answer limit f t (call.EventCreate kind fl) a room done roomy is on = roomy_by limit f a room done roomy is on
 has_answer limit f t (call.EventCreateParams kind fl most sats nd) a room done roomy is on = roomy_by limit f a room done roomy is on
 has_answer limit f t (call.EventDestroy x) a room done roomy is on = tt
+has_answer limit f t (call.Satisfy e p slot) a room done roomy is on = tt
 has_answer limit f t other a room done roomy is on = absurd on
 
 weight_by : (c : body.Call) (a : Answer) (count : ℕ) (done : Bool) → is_done a.code ≡ done → weight_with c count a ≡ weighs c done count

@@ -1,32 +1,28 @@
 -- A call may come where it is answered so: the hold that it ends is one that may end.
-use Rattle.std.proofs.Common.{◌≡◌, ℕ, List, [], ◌∷◌, Bool, true, false, ◌||◌, ◌&&◌, not, ◌==◌, if◌then◌else◌, Option, Some, None, refl, sym, ◌∙◌, ap, subst, is_some}
-use Rattle.ocr_guid.specs.declared.Code.{Code}
+use Rattle.std.proofs.Common.{◌≡◌, ◌↔◌, ℕ, List, [], ◌∷◌, Bool, true, false, ◌&&◌, not, if◌then◌else◌, Option, Some, None, refl, sym, ◌∙◌, ap, subst, is_some}
 use Rattle.ocr_guid.specs.declared.Code.TheVariants as code
 use Rattle.ocr_edt.specs.Phases.{least_of}
 use Rattle.ocr_acquire.specs.declared.Mode.{Mode}
-use Rattle.ocr_meaning.specs.Holds.{is_done}
 use Rattle.ocr_meaning.specs.declared.call.Call as body
 use Rattle.ocr_meaning.specs.declared.call.Call.TheVariants as call
 use Rattle.ocr_meaning.specs.declared.call.Answer.{Answer}
-use Rattle.ocr_history.specs.declared.entry.Entry.{Entry}
-use Rattle.ocr_history.specs.declared.entry.Entry.TheVariants.{Call, Deliver, Free, End, Stop}
+use Rattle.ocr_history.specs.declared.entry.Entry.TheVariants.{Call, Free, End}
 use Rattle.ocr_history.specs.History.{History, Setting}
 use Rattle.ocr_parts.specs.declared.part.Part.{Part}
 use Rattle.ocr_parts.specs.Parts.{Parts, parts_of}
 use Rattle.ocr_parts.specs.Kinds.{is_held_by, is_block, work_of, is_running, holds_of}
-use Rattle.ocr_parts.specs.Codes.{ToRelease, ABlock, is_of_other_kind, release_code, code_of}
-use Rattle.ocr_parts.specs.LegalOn.{IsAnswered, IsCallOn, IsDeliverOn}
+use Rattle.ocr_parts.specs.Codes.{ABlock, is_of_other_kind, release_code, code_of}
+use Rattle.ocr_parts.specs.LegalOn.{IsAnswered, IsCallOn, IsSatisfiable, delivery_code}
 use Rattle.ocr_parts.specs.Legal.{IsRun}
-use Rattle.ocr_parts.proofs.After.{accepted, of_kind, not_other, done_is}
+use Rattle.ocr_parts.proofs.After.{accepted, done_is}
 use Rattle.ocr_machine.specs.Table.{state_in, core_on, IsOf}
 use Rattle.ocr_machine.specs.declared.table.Table.{Table}
 use Rattle.ocr_quiet.proofs.Choices.{or_left, not_off, done_kinds}
 use Rattle.ocr_standing.proofs.Held.{held_law}
 use Rattle.ocr_standing.proofs.Working.{freeing_law, dooming_law}
-use Rattle.ocr_legality.specs.Tests.{Whether, MayEnter, AnswersSo, IsCallSo, is_this}
+use Rattle.ocr_legality.specs.Tests.{Whether, MayEnter, IsDeliverable, AnswersSo, IsCallSo, is_this}
 use Rattle.ocr_legality.proofs.Goes.{not_both, and_is, turned}
-use Rattle.ocr_history.specs.declared.entry.Message.{Message}
-use Rattle.ocr_history.specs.declared.entry.Stop as run
+use Rattle.ocr_history.specs.declared.entry.What.TheVariants as what
 use Rattle.ocr_quiet.proofs.Choices.{both_true}
 use Rattle.std.proofs.lemmas.Bool.{eqb-true, eq-eqb}
 
@@ -111,11 +107,9 @@ end_tested s past table t g of run =
           (ap (λ (holds : List (ℕ × Mode)). not (is_some (least_of holds))) (is_holds ∙ may.0.nothing_held));
     }
 
-pub deliver_tested : (s : Setting) (past : History) (m : Message) (c : Code) (answer : Bool) → Whether answer (IsDeliverOn m.what × (c ≡ code.Done)) → Whether answer (MayEnter s past (Deliver m c))
-deliver_tested s past m c answer is = record { yes = λ on. (is.yes on, tt); no = λ off may. is.no off may.0 }
-
-pub stop_tested : (s : Setting) (past : History) (why : run.Stop) (answer : Bool) → answer ≡ true → Whether answer (MayEnter s past (Stop why))
-stop_tested s past why answer is = record { yes = λ on. (tt, tt); no = λ off may. cc (is, off) }
+-- MESSAGES
+pub deliverable_so : (f : Parts) (e slot p : ℕ) (answer : Bool) → (answer ≡ true) ↔ IsSatisfiable slot (f.face e) → Whether answer (IsDeliverable f (what.Satisfy e slot p))
+deliverable_so f e slot p answer is = record { yes = λ on. (delivery_code (f.face e) p, (is.0 on, refl)); no = λ off can. cc (off, is.1 can.1.0) }
 
 -- by what the table answers
 pub call_answered : (s : Setting) (past : History) (table : Table) (t home : ℕ) (c : body.Call) (a : Answer) (answer : Bool) → Whether answer (IsCallSo table.limit (state_in table) t home c a) → IsOf s past table → IsRun s past

@@ -1,32 +1,30 @@
 -- Tests of the parts tell whether an EDT may go on.
-use Rattle.std.proofs.Common.{◌≡◌, ◌≢◌, ◌↔◌, ◌⊎◌, inl, inr, ℕ, List, [], ◌∷◌, Bool, true, false, Option, Some, None, ◌==◌, ◌&&◌, ◌||◌, not, if◌then◌else◌, refl, sym, ◌∙◌, ap, subst, is_some}
+use Rattle.std.proofs.Common.{◌≡◌, ◌↔◌, ◌⊎◌, inl, inr, ℕ, List, [], Bool, true, false, Option, Some, None, ◌==◌, ◌&&◌, ◌||◌, not, refl, sym, ◌∙◌, ap, subst, is_some}
 use Rattle.std.proofs.lemmas.Bool.{eqb-true, eq-eqb}
 use Rattle.ocr_acquire.specs.declared.Mode.{Mode}
 use Rattle.ocr_acquire.specs.Mode.{is_null}
 use Rattle.ocr_datablock.specs.Block as block
 use Rattle.ocr_edt.specs.declared.Edt.{Edt}
 use Rattle.ocr_edt.specs.declared.Edt.TheVariants as phase
-use Rattle.ocr_edt.specs.Phases.{least_of}
 use Rattle.ocr_history.specs.declared.entry.Entry.{Entry}
-use Rattle.ocr_history.specs.declared.entry.Entry.TheVariants.{Call, Deliver, Acquire, Wait, StaleAcquire, Start, Free, End, Stop}
+use Rattle.ocr_history.specs.declared.entry.Entry.TheVariants.{Acquire, Wait, StaleAcquire, Start}
 use Rattle.ocr_history.specs.History.{History, Setting}
 use Rattle.ocr_parts.specs.declared.part.Part.{Part}
 use Rattle.ocr_parts.specs.declared.part.Part.TheVariants as part
 use Rattle.ocr_parts.specs.Calls.{plan_of, open_slots}
 use Rattle.ocr_parts.specs.Parts.{Parts, parts_of}
-use Rattle.ocr_parts.specs.Kinds.{IsBlock, is_held_by, on_core, work_of, is_running, holds_of, is_acquiring_edt, is_acquiring}
+use Rattle.ocr_parts.specs.Kinds.{IsBlock, is_held_by, on_core, is_acquiring_edt, is_acquiring}
 use Rattle.ocr_parts.specs.Effects.{with_phase, made_ready, ready_at, next_on, next_mode_on}
-use Rattle.ocr_parts.specs.Legal.{IsRun, IsOnParts}
+use Rattle.ocr_parts.specs.Legal.{IsRun}
 use Rattle.ocr_parts.proofs.Lent.{ready_core}
-use Rattle.ocr_machine.specs.Table.{state_in, face_on, core_on, IsOf}
+use Rattle.ocr_machine.specs.Table.{face_on, core_on, IsOf}
 use Rattle.ocr_machine.specs.declared.table.Table.{Table}
 use Rattle.ocr_quiet.specs.Quiet.{IsWakingOf}
 use Rattle.ocr_quiet.specs.Waits.{is_gone_on}
-use Rattle.ocr_quiet.proofs.Choices.{on_from, off_from, both_true}
+use Rattle.ocr_quiet.proofs.Choices.{both_true}
 use Rattle.ocr_quiet.proofs.Passing.{gone_is}
 use Rattle.ocr_standing.specs.Plain.{grants, IsAvailable, IsUnavailable}
 use Rattle.ocr_standing.proofs.Plain.{IsNow, now_next, acquire_on, wait_on, stale_on, taken_available, refused_unavailable}
-use Rattle.ocr_standing.proofs.Working.{freeing_law}
 use Rattle.ocr_legality.specs.Tests.{Whether, MayEnter, MayGoOn, begins_edt, begins, opens, is_open, shuts, is_at, is_going}
 
 -- BOOLEANS

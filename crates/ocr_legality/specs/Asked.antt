@@ -33,6 +33,7 @@ HasAnswer f room t (call.AddDependence from x i m) done = Unit {0}
 HasAnswer f room t (call.EventCreate k fl) done = IsRoomy room done
 HasAnswer f room t (call.EventCreateParams k fl most sats deps) done = IsRoomy room done
 HasAnswer f room t (call.EventDestroy e) done = Unit {0}
+HasAnswer f room t (call.Satisfy e p slot) done = Unit {0}
 HasAnswer f room t other done = ⊥
 
 -- what it weighs, where a call that is accepted ends a hold of so many writes

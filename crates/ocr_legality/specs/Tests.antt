@@ -6,19 +6,20 @@ use Rattle.ocr_datablock.specs.Block as block
 use Rattle.ocr_edt.specs.declared.Edt.{Edt}
 use Rattle.ocr_edt.specs.declared.Edt.TheVariants as phase
 use Rattle.ocr_history.specs.declared.entry.Entry.{Entry}
+use Rattle.ocr_history.specs.declared.entry.What.{What}
 use Rattle.ocr_history.specs.History.{History, Setting}
 use Rattle.ocr_parts.specs.declared.part.Part.{Part}
 use Rattle.ocr_parts.specs.declared.part.Part.TheVariants as part
 use Rattle.ocr_guid.specs.Code.{number_of}
+use Rattle.ocr_guid.specs.declared.Code.{Code}
 use Rattle.ocr_meaning.specs.declared.call.Call as body
 use Rattle.ocr_meaning.specs.declared.call.Call.TheVariants as call
 use Rattle.ocr_meaning.specs.declared.call.Answer.{Answer}
 use Rattle.ocr_parts.specs.Kinds.{is_held_by, is_running}
 use Rattle.ocr_parts.specs.Codes.{code_of}
-use Rattle.ocr_parts.specs.LegalOn.{IsAnswered}
+use Rattle.ocr_parts.specs.LegalOn.{IsAnswered, IsDeliverOn}
 use Rattle.ocr_parts.specs.Parts.{Parts}
 use Rattle.ocr_parts.specs.Legal.{IsOnParts, AreFacts}
-use Rattle.ocr_quiet.specs.Waits.{is_gone_on}
 use Rattle.ocr_quiet.specs.Waits.{is_gone_on}
 use Rattle.ocr_quiet.specs.Quiet.{IsWakingOf}
 
@@ -34,6 +35,10 @@ MayEnter s past e = IsOnParts s past e × AreFacts s past e
 -- and some entry takes the EDT on
 abbrev pub MayGoOn : Setting → History → ℕ → Type 0
 MayGoOn s past t = (e : Entry) × IsWakingOf t e × MayEnter s past e
+
+-- A MESSAGE may be delivered, with some answer
+abbrev pub IsDeliverable : Parts → What → Type 0
+IsDeliverable f message = (c : Code) × IsDeliverOn f message c
 
 -- THE EDT acquires, or does once it is made ready
 abbrev pub begins_edt : Edt → Bool

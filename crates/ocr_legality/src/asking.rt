@@ -67,7 +67,7 @@ fn has_answer(table: &Table, room: bool, edt: Guid, call: &Call, done: bool) -> 
         Call::EventCreate { .. } => !done || room,
         Call::EventCreateParams { .. } => !done || room,
         Call::EventDestroy { .. } => true,
-        Call::Satisfy { .. } => false,
+        Call::Satisfy { .. } => true,
         Call::Shutdown => false,
         Call::Abort { .. } => false,
     }

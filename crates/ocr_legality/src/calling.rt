@@ -118,7 +118,7 @@ fn answers(table: &Table, edt: Guid, call: &Call, answer: &Answer) -> bool
         Call::EventCreate { .. } => is_named(table, answer),
         Call::EventCreateParams { .. } => is_named(table, answer),
         Call::EventDestroy { .. } => answer.value == answer.code.number(),
-        Call::Satisfy { .. } => false,
+        Call::Satisfy { .. } => answer.value == answer.code.number(),
         Call::Shutdown => false,
         Call::Abort { .. } => false,
     }

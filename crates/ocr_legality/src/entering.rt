@@ -3,13 +3,13 @@ ghost use Rattle.std.specs.Prelude.{◌≡◌, ◌&&◌, ℕ, List, [], true, fa
 ghost use Rattle.ocr_edt.specs.Phases.{least_of};
 ghost use Rattle.ocr_history.specs.History.{Setting, History};
 ghost use Rattle.ocr_history.specs.declared.entry.Entry.TheVariants as an;
+ghost use Rattle.ocr_history.specs.declared.entry.What.TheVariants as what;
 ghost use Rattle.ocr_parts.specs.Kinds.{is_running, work_of, holds_of};
 ghost use Rattle.ocr_parts.specs.Legal.{IsRun};
 ghost use Rattle.ocr_parts.specs.LegalOn.{IsDeliverOn};
-ghost use Rattle.ocr_guid.specs.declared.Code.TheVariants as code;
-ghost use Rattle.ocr_machine.specs.Table.{face_on, core_on, IsOf};
+ghost use Rattle.ocr_machine.specs.Table.{state_in, face_on, core_on, IsOf};
 ghost use Rattle.ocr_quiet.specs.Waits.{is_gone_on};
-ghost use Rattle.ocr_legality.specs.Tests.{Whether, MayEnter, MayGoOn, is_going, is_this};
+ghost use Rattle.ocr_legality.specs.Tests.{Whether, MayEnter, MayGoOn, IsDeliverable, is_going, is_this};
 
 use crate::calling::is_call_so;
 use crate::going::{both, gone_next, opens_next, shuts_there, starts_there};
@@ -107,12 +107,39 @@ fn may_end(table: &Table, edt: Guid) -> bool
     both(running, here)
 }
 
-fn may_deliver(message: &Message, said: Code) -> bool
-    ensures { Whether result (IsDeliverOn message.now.what × (said ≡ code.Done)) }
+/// Whether the event has this slot, and answers the payload so.
+fn may_satisfy(table: &Table, event: Guid, slot: u32, payload: Guid, said: Code) -> bool
+    ensures { Whether result (IsDeliverOn (state_in table.now) (what.Satisfy event slot payload)
+        said) }
+{
+    table.is_satisfiable(event, slot) && said == table.delivery_code(event, payload)
+}
+
+fn may_deliver(table: &Table, message: &Message, said: Code) -> bool
+    ensures { Whether result (IsDeliverOn (state_in table.now) message.now.what said) }
 {
     match message.what {
         What::Set { .. } => said == Code::Done,
-        What::Satisfy { .. } => false,
+        What::Satisfy {
+            event,
+            slot,
+            payload,
+        } => may_satisfy(table, event, slot, payload, said),
+        What::Leave { .. } => false,
+    }
+}
+
+/// Whether the message may be delivered now, however it is answered.
+pub fn can_deliver(table: &Table, message: What) -> bool
+    ensures { Whether result (IsDeliverable (state_in table.now) message) }
+{
+    match message {
+        What::Set { .. } => true,
+        What::Satisfy {
+            event,
+            slot,
+            payload: _,
+        } => table.is_satisfiable(event, slot),
         What::Leave { .. } => false,
     }
 }
@@ -138,7 +165,7 @@ pub fn is_legal(alloc: Global, table: &Table, entry: &Entry) -> Result<bool, NoM
             answer,
             writes: _,
         } => Ok(may_call(table, *edt, *home, call, answer)),
-        Entry::Deliver { message, code } => Ok(may_deliver(message, *code)),
+        Entry::Deliver { message, code } => Ok(may_deliver(table, message, *code)),
         Entry::Acquire { edt, block } => may_acquire(alloc, table, *edt, *block),
         Entry::Wait { edt, block } => may_wait(alloc, table, *edt, *block),
         Entry::StaleAcquire { edt, block } => may_find_gone(alloc, table, *edt, *block),

@@ -9,5 +9,5 @@ mod going;
 mod tests_of;
 
 pub use asking::{can_weigh, has_room};
-pub use entering::{can_wake, is_legal};
+pub use entering::{can_deliver, can_wake, is_legal};
 pub use tests_of::{is_running, least_held};

@@ -1,5 +1,5 @@
 -- A replay goes on by an entry, or stops at it.
-use Rattle.std.proofs.Common.{◌≡◌, ℕ, ◌+◌, ◌<◌, ◌≤◌, List, [], ◌∷◌, ◌++◌, take, length, slice_index_or, slice_set, Bool, true, false, not, ◌==◌, ◌||◌, nat_lt, if◌then◌else◌, Option, Some, None, is_some, arith, refl, sym, ◌∙◌, ap, subst, rules}
+use Rattle.std.proofs.Common.{◌≡◌, ℕ, ◌+◌, ◌-◌, ◌^◌, ◌<◌, ◌≤◌, List, [], ◌∷◌, ◌++◌, take, length, slice_index_or, slice_set, Bool, true, false, not, ◌==◌, ◌||◌, nat_lt, if◌then◌else◌, Option, Some, None, is_some, arith, refl, sym, ◌∙◌, ap, subst, rules}
 use Rattle.std.proofs.lemmas.Grind.{common_steps}
 use Rattle.std.proofs.lemmas.Bool.{eqb-true}
 use Rattle.std.specs.List.{Contains}
@@ -24,7 +24,7 @@ use Rattle.ocr_judge.proofs.Letters.{dropped, sent, waiting}
 use Rattle.ocr_judge.proofs.Steps.{same, not_true, not_false, history_next}
 use Rattle.ocr_legality.specs.Tests.{MayEnter}
 use Rattle.ocr_mail.specs.Mail.{without}
-use Rattle.ocr_machine.specs.Table.{state_in, core_on, IsOf, IsBefore}
+use Rattle.ocr_machine.specs.Table.{state_in, face_on, core_on, IsOf, IsBefore}
 use Rattle.ocr_machine.specs.declared.table.Table.{Table}
 use Rattle.ocr_meaning.specs.Body.{Body}
 use Rattle.ocr_meaning.specs.Holds.{is_isolated}
@@ -34,8 +34,8 @@ use Rattle.ocr_meaning.specs.declared.call.Answer.{Answer}
 use Rattle.ocr_parts.specs.Bodies.{body_of, says_next, first_holds, hold_of}
 use Rattle.ocr_parts.specs.Calls.{edt_calls, loans_of, depv_of, plan_of}
 use Rattle.ocr_parts.specs.Effects.{with_phase, started_edt, made_ready}
-use Rattle.ocr_parts.specs.Kinds.{is_running, is_acquiring, is_acquiring_edt, work_in, on_core, mode_on, kept_on}
-use Rattle.ocr_parts.specs.Laws.{AfterLaw}
+use Rattle.ocr_parts.specs.Kinds.{is_running, is_acquiring, is_acquiring_edt, work_in, on_core, mode_on, kept_on, counted_on}
+use Rattle.ocr_parts.specs.Laws.{AfterLaw, CountedLaw}
 use Rattle.ocr_parts.specs.Legal.{IsRun, IsLegal, IsSaid, is_stop}
 use Rattle.ocr_parts.specs.LegalOn.{IsCallOn}
 use Rattle.ocr_parts.specs.Messages.{sends, delivered, pending}
@@ -210,6 +210,15 @@ entered_next s xs n e r table rows ms coming enters sent_are rows_are =
       sent = ap length rows_are ∙ more_len (mail_after e r.mail) (sent_row ms) ∙ ap (λ (k : ℕ). k + 1) (len_after e r.mail ∙ next.so_far.sent);
       left = ap (left_from 0) rows_are ∙ mail_next s past e r.mail ms next.so_far.left coming.said len are ∙ ap (pending s) (sym h);
     }
+
+-- COUNTS of latches
+pub few_counted : CountedLaw → (s : Setting) (xs : List Entry) (n : ℕ) (e : Entry) (r : Replay) → IsComing s xs n e r → n < 2 ^ 64 - 1 → (g : ℕ) → counted_on (face_on r.table g) < 2 ^ 64 - 1
+few_counted law s xs n e r coming few g =
+    let past : History = history_of (take n xs) in
+    let same : counted_on (face_on r.table g) ≡ counted_on ((parts_of s past).face g) = ap (λ (f : Parts). counted_on (f.face g)) coming.next.so_far.of.parts in
+    let most : counted_on ((parts_of s past).face g) ≤ length past = law s past g in
+    let len : length past ≡ n = past_len xs n (omega (arith, coming.next.within)) in
+    omega (arith, same, most, len, few)
 
 -- VERDICTS after one entry more
 legal_made : (s : Setting) (xs : List Entry) (n : ℕ) (e : Entry) (t : ℕ) → IsLegal s (history_of (take n xs)) e → is_stop e ≡ false → runs t e ≡ true → IsMadeBy (says_next s (history_of (take n xs)) t) e

@@ -1,5 +1,5 @@
 // How far a replay has come.
-ghost use Rattle.std.specs.Prelude.{◌≡◌, ◌≤◌, ◌<◌, ◌+◌, List, length, take, not, ◌==◌, true, false, slice_set, IfOk};
+ghost use Rattle.std.specs.Prelude.{◌≡◌, ◌≤◌, ◌<◌, ◌+◌, ◌-◌, ◌^◌, List, length, take, not, ◌==◌, true, false, slice_set, IfOk};
 ghost use Rattle.ocr_code.specs.Checked.{checked_tree};
 ghost use Rattle.ocr_history.specs.History.{Setting, history_of};
 ghost use Rattle.ocr_history.specs.declared.entry.Entry as entries;
@@ -18,7 +18,7 @@ use ocr_judge::{Links, Mail, Told, Verdict, verdict_on};
 use ocr_legality::is_legal;
 use ocr_machine::Table;
 use ocr_meaning::BodyStop;
-use ocr_parts::{Part, machine_laws};
+use ocr_parts::{Part, event_laws, machine_laws};
 use ocr_quiet::standing_laws;
 use ocr_standing::{holding_laws, lasting_laws};
 use std::alloc::Global;
@@ -134,6 +134,7 @@ impl Replay {
     ) -> Result<bool, NoMemory>
         requires linked { IsLinked self.old.table.limit front.now links.now }
         requires within { place < length front.now }
+        requires few { place < 2 ^ 64 - 1 }
         requires no_stop { is_stop (entry_at front.now place) ≡ false }
         requires room { length self.old.verdicts.items ≡ self.old.table.limit + 1 }
         requires so_far { IsReplaying
@@ -167,8 +168,9 @@ impl Replay {
 
     /// Enters an entry that comes at this place, and its messages.
     fn enter(&mut self, alloc: Global, entry: &Entry, place: usize) -> Result<(), NoMemory>
-        requires { (s : Setting) × (xs : List entries.Entry)
+        requires comes { (s : Setting) × (xs : List entries.Entry)
             × IsComing s xs place entry.now self.old }
+        requires few { place < 2 ^ 64 - 1 }
         ensures limit { self.new.table.limit ≡ self.old.table.limit }
         ensures verdicts { self.new.verdicts ≡ self.old.verdicts }
         ensures entered { IfOk result (λ _. (s : Setting) (xs : List entries.Entry)
@@ -176,6 +178,7 @@ impl Replay {
             → IsEntered s xs (place + 1) self.new.table self.new.mail) }
     {
         let _place = place;
+        event_laws(); // only for the proof: a latch counts no more than the entries so far
         let entered = self.table.enter(alloc, entry)?;
         deliver(&mut self.mail, entry);
         self.mail.push(alloc, &entered.messages)?;

@@ -1,5 +1,5 @@
 -- A replay that has come to the end of its entries has come to a front.
-use Rattle.std.proofs.Common.{◌≡◌, ◌<◌, ◌≤◌, ℕ, zero, suc, nat_le, List, [], ◌∷◌, length, slice_index_or, take, Bool, true, false, Option, arith, rules, refl, sym, ◌∙◌, ap, subst}
+use Rattle.std.proofs.Common.{◌≡◌, ◌<◌, ◌≤◌, ℕ, zero, suc, List, [], ◌∷◌, length, slice_index_or, take, true, false, Option, arith, refl, sym, ◌∙◌, ap, subst}
 use Rattle.ocr_history.specs.declared.entry.Entry.{Entry}
 use Rattle.ocr_history.specs.declared.entry.What.{What}
 use Rattle.ocr_history.specs.Edts.{IsRunning}

@@ -1,17 +1,13 @@
 -- What is told of each EDT tells of all, and of a Stop.
-use Rattle.std.proofs.Common.{◌≡◌, ◌⊎◌, inl, inr, ◌<◌, ◌≤◌, ◌-◌, ℕ, zero, suc, nat_le, List, [], ◌∷◌, length, slice_index_or, Bool, true, false, ◌&&◌, ◌||◌, if◌then◌else◌, Option, Some, None, arith, rules, refl, sym, ◌∙◌, ap, subst}
+use Rattle.std.proofs.Common.{◌≡◌, ◌⊎◌, inl, inr, ◌<◌, ◌≤◌, ◌-◌, ℕ, zero, suc, nat_le, List, Bool, true, false, ◌&&◌, ◌||◌, Option, Some, None, arith, refl, sym, ◌∙◌, ap, subst}
 use Rattle.std.proofs.lemmas.Grind.{common_steps}
 use Rattle.std.specs.List.{Contains}
-use Rattle.ocr_acquire.specs.declared.Mode.{Mode}
-use Rattle.ocr_guid.specs.declared.Code.TheVariants as code
 use Rattle.ocr_meaning.specs.declared.call.BodyStop.{BodyStop}
 use Rattle.ocr_meaning.specs.declared.call.BodyStop.TheVariants as stop
-use Rattle.ocr_history.specs.declared.entry.Entry.{Entry}
 use Rattle.ocr_history.specs.declared.entry.Entry.TheVariants.{Call, Deliver, Acquire, Wait, StaleAcquire, Start, Free, End, Stop}
 use Rattle.ocr_history.specs.declared.entry.Fault.{Fault}
 use Rattle.ocr_history.specs.declared.entry.Stop.TheVariants as by
 use Rattle.ocr_history.specs.declared.entry.What.{What}
-use Rattle.ocr_history.specs.declared.entry.What.TheVariants as what
 use Rattle.ocr_history.specs.Edts.{IsRunning}
 use Rattle.ocr_history.specs.History.{History, Setting}
 use Rattle.ocr_parts.specs.declared.part.Part.{Part}
@@ -19,23 +15,19 @@ use Rattle.ocr_parts.specs.declared.part.Part.TheVariants as part
 use Rattle.ocr_parts.specs.Calls.{plan_of}
 use Rattle.ocr_parts.specs.Effects.{ready_at, with_phase, made_ready, next_on}
 use Rattle.ocr_parts.specs.Kinds.{on_core, core_progress, next_in, is_acquiring}
-use Rattle.ocr_parts.specs.Legal.{IsRun, IsLegal, IsWeighed, faulted}
-use Rattle.ocr_parts.specs.LegalOn.{IsDeliverOn}
+use Rattle.ocr_parts.specs.Legal.{IsRun, IsLegal, faulted}
 use Rattle.ocr_parts.specs.Messages.{pending}
 use Rattle.ocr_parts.specs.Parts.{Parts, parts_of}
 use Rattle.ocr_parts.specs.Taken.{is_within}
 use Rattle.ocr_parts.proofs.Lent.{ready_core}
-use Rattle.ocr_machine.specs.Table.{core_on, IsOf}
+use Rattle.ocr_machine.specs.Table.{state_in, IsOf}
 use Rattle.ocr_machine.specs.declared.table.Table.{Table}
-use Rattle.ocr_quiet.specs.Quiet.{IsWakingOf}
 use Rattle.ocr_quiet.proofs.Choices.{both_true}
-use Rattle.ocr_legality.specs.Tests.{Whether, MayGoOn, MayEnter}
-use Rattle.ocr_legality.specs.Asked.{HasRoom}
-use Rattle.ocr_legality.proofs.Goes.{turned}
-use Rattle.ocr_judge.specs.Mailing.{left_from, message_at, sets, row_sets, some_sets}
+use Rattle.ocr_legality.specs.Tests.{Whether, MayGoOn, MayEnter, IsDeliverable}
+use Rattle.ocr_judge.specs.Mailing.{left_from, message_at}
 use Rattle.ocr_judge.specs.declared.judging.Verdict.{Verdict}
 use Rattle.ocr_judge.proofs.Letters.{waits, waiting}
-use Rattle.ocr_stopping.specs.Stopping.{IsFront, IsStopping, Creates, RunsWeighed, CouldWeigh, SomeCreates, SomeCould, AnyWeighed}
+use Rattle.ocr_stopping.specs.Stopping.{IsFront, IsStopping, Creates, RunsWeighed, CouldWeigh, SomeCreates, SomeCould, AnyWeighed, Delivers, MailDelivers}
 use Rattle.ocr_stopping.proofs.Stops.{two, no_core, running_within, running_on}
 
 -- TESTS
@@ -139,70 +131,30 @@ pub come_at : (s : Setting) (past : History) (n weight : ℕ) (r : Bool) → Whe
 come_at s past n weight r tested on = record { yes = λ _. (n, tested.yes on); no = λ off. cc off }
 
 -- MESSAGES
-set_found : (one : Option What) → sets one ≡ true → (w : What) × (one ≡ Some w) × IsDeliverOn w
-set_found (Some (what.Set x i p)) is = (what.Set x i p, refl, tt)
-set_found other is = cc is
+abbrev IsLeft : Setting → History → Type 0
+IsLeft s past = (n i : ℕ) × (w : What) × Contains (pending s past) (n, i, w) × IsDeliverable (parts_of s past) w
 
-abbrev RowHas : List (Option What) → Type 0
-RowHas row = (k : ℕ) × (w : What) × (slice_index_or row k None ≡ Some w) × IsDeliverOn w
+left_at : (f : Parts) (rows : List (List (Option What))) (n i : ℕ) (o : Option What) → message_at rows n i ≡ o → Delivers f o → (w : What) × Contains (left_from 0 rows) (n, i, w) × IsDeliverable f w
+left_at f rows n i None at can = absurd can
+left_at f rows n i (Some w) at can = (w, waits rows n i w at, can)
 
-or_split : (a b : Bool) → (a || b) ≡ true → (a ≡ true) ⊎ (b ≡ true)
-or_split true b is = inl refl
-or_split false b is = inr is
+left_by : (s : Setting) (past : History) (rows : List (List (Option What))) → left_from 0 rows ≡ pending s past → MailDelivers (parts_of s past) rows → IsLeft s past
+left_by s past rows left (n, i, can) =
+    let found = left_at (parts_of s past) rows n i (message_at rows n i) refl can in
+    (n, i, found.0, subst (λ (ms : List (ℕ × ℕ × What)). Contains ms (n, i, found.0)) left found.1, found.2)
 
-or_first : (a b : Bool) → a ≡ true → (a || b) ≡ true
-or_first true b is = refl
-or_first false b is = cc is
+by_left : (s : Setting) (past : History) (rows : List (List (Option What))) → left_from 0 rows ≡ pending s past → IsLeft s past → MailDelivers (parts_of s past) rows
+by_left s past rows left (n, i, w, sent, can) =
+    let there : Contains (left_from 0 rows) (n, i, w) = subst (λ (ms : List (ℕ × ℕ × What)). Contains ms (n, i, w)) (sym left) sent in
+    (n, i, subst (λ (o : Option What). Delivers (parts_of s past) o) (sym (waiting rows n i w there)) can)
 
-or_second : (a b : Bool) → b ≡ true → (a || b) ≡ true
-or_second true b is = refl
-or_second false b is = is
-
-row_found : (row : List (Option What)) → row_sets row ≡ true → RowHas row
-row_found [] is = cc is
-row_found (one ∷ rest) is = elim (or_split (sets one) (row_sets rest) is) [
-  | inl here ↦ (let found = set_found one here in (0, found.0, found.1, found.2))
-  | inr later ↦ (let found = row_found rest later in (suc found.0, found.1, found.2, found.3))
-]
-
-abbrev RowsHave : List (List (Option What)) → Type 0
-RowsHave rows = (n i : ℕ) × (w : What) × (message_at rows n i ≡ Some w) × IsDeliverOn w
-
-rows_found : (rows : List (List (Option What))) → some_sets rows ≡ true → RowsHave rows
-rows_found [] is = cc is
-rows_found (row ∷ rest) is = elim (or_split (row_sets row) (some_sets rest) is) [
-  | inl here ↦ (let found = row_found row here in (0, found.0, found.1, found.2, found.3))
-  | inr later ↦ (let found = rows_found rest later in (suc found.0, found.1, found.2, found.3, found.4))
-]
-
-set_is : (w : What) → IsDeliverOn w → sets (Some w) ≡ true
-set_is (what.Set x i p) is = refl
-set_is other is = absurd is
-
-row_is : (row : List (Option What)) (k : ℕ) (w : What) → slice_index_or row k None ≡ Some w → IsDeliverOn w → row_sets row ≡ true
-row_is [] k w at on = cc at
-row_is (one ∷ rest) zero w at on = or_first (sets one) (row_sets rest) (ap sets at ∙ set_is w on)
-row_is (one ∷ rest) (suc k) w at on = or_second (sets one) (row_sets rest) (row_is rest k w at on)
-
-rows_are : (rows : List (List (Option What))) (n i : ℕ) (w : What) → message_at rows n i ≡ Some w → IsDeliverOn w → some_sets rows ≡ true
-rows_are [] n i w at on = cc at
-rows_are (row ∷ rest) zero i w at on = or_first (row_sets row) (some_sets rest) (row_is row i w at on)
-rows_are (row ∷ rest) (suc n) i w at on = or_second (row_sets row) (some_sets rest) (rows_are rest n i w at on)
-
-abbrev Delivers : Setting → History → Type 0
-Delivers s past = (n i : ℕ) × (w : What) × Contains (pending s past) (n, i, w) × IsDeliverOn w
-
-pub delivers : (s : Setting) (past : History) (rows : List (List (Option What))) (r : Bool) → left_from 0 rows ≡ pending s past → r ≡ some_sets rows → Whether r (Delivers s past)
-delivers s past rows r left is = record {
-  yes = λ on. (let found = rows_found rows (sym is ∙ on) in
-      (found.0, found.1, found.2, subst (λ (ms : List (ℕ × ℕ × What)). Contains ms (found.0, found.1, found.2)) left (waits rows found.0 found.1 found.2 found.3), found.4));
-  no = λ off sent. (let there = subst (λ (ms : List (ℕ × ℕ × What)). Contains ms (sent.0, sent.1, sent.2)) (sym left) sent.3 in
-      cc (is, off, rows_are rows sent.0 sent.1 sent.2 (waiting rows sent.0 sent.1 sent.2 there) sent.4));
-}
+pub left_tested : (s : Setting) (past : History) (table : Table) (rows : List (List (Option What))) (r : Bool) → IsOf s past table → left_from 0 rows ≡ pending s past → Whether r (MailDelivers (state_in table) rows) → Whether r (IsLeft s past)
+left_tested s past table rows r of left tested =
+    as_well r (MailDelivers (parts_of s past) rows) (IsLeft s past) (subst (λ (f : Parts). Whether r (MailDelivers f rows)) of.parts tested) (left_by s past rows left) (by_left s past rows left)
 
 -- ANY ENTRY
 abbrev Comes : Setting → History → ℕ → Type 0
-Comes s past weight = SomeCould s past weight ⊎ ((weight ≡ 1) × Delivers s past)
+Comes s past weight = SomeCould s past weight ⊎ ((weight ≡ 1) × IsLeft s past)
 
 goes_weighed : (s : Setting) (past : History) (t weight : ℕ) → weight ≡ 1 → MayGoOn s past t → AnyWeighed s past weight
 goes_weighed s past t weight one (Acquire u d, is, may) = (Acquire u d, record { weighs = sym one; no_stop = refl; on_parts = may.0; on_facts = may.1; said = tt })
@@ -215,7 +167,7 @@ come_weighed : (s : Setting) (past : History) (weight : ℕ) → Comes s past we
 come_weighed s past weight (inl (t, inl runs)) = (runs.0, runs.2)
 come_weighed s past weight (inl (t, inr goes)) = goes_weighed s past t weight goes.0 goes.1
 come_weighed s past weight (inr (one, sent)) =
-    (Deliver (record { place = sent.0; index = sent.1; what = sent.2 }) code.Done, record { weighs = sym one; no_stop = refl; on_parts = (sent.4, refl); on_facts = tt; said = sent.3 })
+    (Deliver (record { place = sent.0; index = sent.1; what = sent.2 }) sent.4.0, record { weighs = sym one; no_stop = refl; on_parts = sent.4.1; on_facts = tt; said = sent.3 })
 
 weighed_comes : (s : Setting) (past : History) (weight : ℕ) → AnyWeighed s past weight → Comes s past weight
 weighed_comes s past weight (Call t home c a w, weighed) = inl (t, inl (Call t home c a w, refl, weighed))
@@ -225,15 +177,15 @@ weighed_comes s past weight (Acquire t d, weighed) = inl (t, inr (sym weighed.we
 weighed_comes s past weight (Wait t d, weighed) = inl (t, inr (sym weighed.weighs, (Wait t d, refl, (weighed.on_parts, weighed.on_facts))))
 weighed_comes s past weight (StaleAcquire t d, weighed) = inl (t, inr (sym weighed.weighs, (StaleAcquire t d, refl, (weighed.on_parts, weighed.on_facts))))
 weighed_comes s past weight (Start t, weighed) = inl (t, inr (sym weighed.weighs, (Start t, refl, (weighed.on_parts, weighed.on_facts))))
-weighed_comes s past weight (Deliver m c, weighed) = inr (sym weighed.weighs, (m.place, m.index, m.what, weighed.said, weighed.on_parts.0))
+weighed_comes s past weight (Deliver m c, weighed) = inr (sym weighed.weighs, (m.place, m.index, m.what, weighed.said, (c, weighed.on_parts)))
 weighed_comes s past weight (Stop why, weighed) = cc weighed.no_stop
 
 -- A STOP
 pub events_by : (s : Setting) (past : History) (rows : _) (table : Table) (vs : List Verdict) (weight worker : ℕ) (comes one delivering goes r : Bool) → IsFront s past table rows vs → Whether comes (SomeCould s past weight) → Whether one (weight ≡ 1)
-    → delivering ≡ some_sets rows → goes ≡ (one && delivering) → r ≡ (comes || goes) → Whether r (IsLegal s past (Stop (by.Events worker weight)))
+    → Whether delivering (MailDelivers (state_in table) rows) → goes ≡ (one && delivering) → r ≡ (comes || goes) → Whether r (IsLegal s past (Stop (by.Events worker weight)))
 events_by s past rows table vs weight worker comes one delivering goes r front could is_one sending is_goes is =
     as_well r (Comes s past weight) (IsLegal s past (Stop (by.Events worker weight)))
-    (either_so comes goes r (SomeCould s past weight) ((weight ≡ 1) × Delivers s past) could (both_so one delivering goes (weight ≡ 1) (Delivers s past) is_one (delivers s past rows delivering front.left sending) is_goes) is)
+    (either_so comes goes r (SomeCould s past weight) ((weight ≡ 1) × IsLeft s past) could (both_so one delivering goes (weight ≡ 1) (IsLeft s past) is_one (left_tested s past table rows delivering front.of front.left sending) is_goes) is)
     (λ come. record { open_run = front.open_run; on_parts = tt; on_facts = tt; said = tt; stopping = come_weighed s past weight come })
     (λ legal. weighed_comes s past weight legal.stopping)
 

@@ -1,11 +1,10 @@
 -- What is told of EDTs tells of Stops.
-use Rattle.std.proofs.Common.{◌≡◌, ◌<◌, ◌≤◌, ℕ, ◌+◌, nat_lt, List, [], ◌∷◌, length, slice_index_or, Bool, true, false, ◌&&◌, ◌||◌, ◌==◌, if◌then◌else◌, nat_le, Option, Some, None, arith, rules, refl, sym, ◌∙◌, ap, subst}
+use Rattle.std.proofs.Common.{◌≡◌, ◌<◌, ◌≤◌, ℕ, ◌+◌, nat_lt, List, [], ◌∷◌, length, slice_index_or, Bool, true, false, ◌&&◌, if◌then◌else◌, nat_le, Option, Some, None, arith, refl, sym, ◌∙◌, ap, subst}
 use Rattle.std.proofs.lemmas.Grind.{common_steps}
 use Rattle.ocr_edt.specs.declared.Edt.{Edt}
 use Rattle.ocr_edt.specs.declared.Edt.TheVariants as phase
 use Rattle.ocr_edt.specs.Phases.{least_of}
 use Rattle.ocr_acquire.specs.declared.Mode.{Mode}
-use Rattle.ocr_guid.specs.declared.Code.{Code}
 use Rattle.ocr_guid.specs.declared.Code.TheVariants as code
 use Rattle.ocr_meaning.specs.Call.{is_creation}
 use Rattle.ocr_meaning.specs.Behaviour.{Behaviour, Ends, Stops, Asks, IsNext, IsNextWith}
@@ -15,27 +14,26 @@ use Rattle.ocr_meaning.specs.declared.call.Call as body
 use Rattle.ocr_meaning.specs.declared.call.Answer.{Answer}
 use Rattle.ocr_history.specs.declared.entry.Entry.{Entry}
 use Rattle.ocr_history.specs.declared.entry.Entry.TheVariants.{Call, Free, End}
-use Rattle.ocr_history.specs.declared.entry.What.{What}
-use Rattle.ocr_history.specs.Edts.{IsRunning, is_started, is_ended}
-use Rattle.ocr_history.specs.History.{History, Setting, is_stopped}
-use Rattle.ocr_history.specs.Weight.{call_weight, weight_of}
+use Rattle.ocr_history.specs.Edts.{IsRunning}
+use Rattle.ocr_history.specs.History.{History, Setting}
+use Rattle.ocr_history.specs.Weight.{call_weight}
 use Rattle.ocr_parts.specs.declared.part.Part.{Part}
 use Rattle.ocr_parts.specs.declared.part.Part.TheVariants as part
 use Rattle.ocr_parts.specs.Bodies.{says_next}
 use Rattle.ocr_parts.specs.Codes.{code_of}
 use Rattle.ocr_parts.specs.Kinds.{is_running, work_of, holds_of}
-use Rattle.ocr_parts.specs.Legal.{IsRun, IsCreating, IsWeighed, carried}
+use Rattle.ocr_parts.specs.Legal.{IsRun, IsWeighed, carried}
 use Rattle.ocr_parts.specs.LegalOn.{IsCallOn}
 use Rattle.ocr_parts.specs.Parts.{Parts, parts_of}
 use Rattle.ocr_parts.specs.Taken.{is_within}
-use Rattle.ocr_machine.specs.Table.{face_on, core_on, core_at, state_in, IsOf}
+use Rattle.ocr_machine.specs.Table.{face_on, core_on, core_at, IsOf}
 use Rattle.ocr_machine.specs.declared.table.Table.{Table}
-use Rattle.ocr_quiet.specs.Marks.{mark, mark_in, stage_in}
+use Rattle.ocr_quiet.specs.Marks.{mark, mark_in}
 use Rattle.ocr_quiet.proofs.Stages.{told_law}
 use Rattle.ocr_quiet.proofs.Choices.{both_true}
 use Rattle.ocr_standing.proofs.Working.{freeing_law}
 use Rattle.ocr_legality.specs.Tests.{Whether}
-use Rattle.ocr_legality.specs.Asked.{HasRoom, CanWeigh, weight_with}
+use Rattle.ocr_legality.specs.Asked.{CanWeigh, weight_with}
 use Rattle.ocr_legality.proofs.Goes.{not_both, turned}
 use Rattle.ocr_judge.specs.Holding.{count_in}
 use Rattle.ocr_judge.specs.Judging.{IsToldAs}

@@ -1,5 +1,5 @@
 -- What the parts, the messages and the verdicts after a run tell of a Stop.
-use Rattle.std.specs.Prelude.{◌≡◌, ◌⊎◌, ◌<◌, ℕ, ◌+◌, List, [], length, slice_index_or, Bool, true, false, Option, Some, None}
+use Rattle.std.specs.Prelude.{◌≡◌, ◌⊎◌, ◌<◌, ℕ, ◌+◌, List, length, slice_index_or, true, false, Option, Some, None}
 use Rattle.ocr_edt.specs.Phases.{least_of}
 use Rattle.ocr_guid.specs.declared.Code.TheVariants.{Done}
 use Rattle.ocr_meaning.specs.Call.{is_creation}
@@ -13,17 +13,17 @@ use Rattle.ocr_history.specs.History.{History, Setting, is_stopped}
 use Rattle.ocr_parts.specs.declared.part.Part.{Part}
 use Rattle.ocr_parts.specs.Bodies.{says_next}
 use Rattle.ocr_parts.specs.Codes.{code_of}
-use Rattle.ocr_parts.specs.Kinds.{is_running, work_of, holds_of}
+use Rattle.ocr_parts.specs.Kinds.{work_of, holds_of}
 use Rattle.ocr_parts.specs.Legal.{IsRun, IsCreating, IsWeighed}
 use Rattle.ocr_parts.specs.Messages.{pending}
-use Rattle.ocr_parts.specs.Parts.{Parts, parts_of}
+use Rattle.ocr_parts.specs.Parts.{Parts}
 use Rattle.ocr_machine.specs.Table.{IsOf}
 use Rattle.ocr_machine.specs.declared.table.Table.{Table}
 use Rattle.ocr_legality.specs.Asked.{CanWeigh}
-use Rattle.ocr_legality.specs.Tests.{MayGoOn}
+use Rattle.ocr_legality.specs.Tests.{MayGoOn, IsDeliverable}
 use Rattle.ocr_judge.specs.Holding.{count_in}
 use Rattle.ocr_judge.specs.Judging.{IsToldAs}
-use Rattle.ocr_judge.specs.Mailing.{left_from}
+use Rattle.ocr_judge.specs.Mailing.{left_from, message_at}
 use Rattle.ocr_judge.specs.declared.judging.Told.{Told}
 use Rattle.ocr_judge.specs.declared.judging.Told.TheVariants as told
 use Rattle.ocr_judge.specs.declared.judging.Verdict.{Verdict}
@@ -88,3 +88,15 @@ SomeCould s past weight = (t : ℕ) × CouldWeigh s past t weight
 -- ANY ENTRY that is no Stop
 abbrev pub AnyWeighed : Setting → History → ℕ → Type 0
 AnyWeighed s past weight = (e : Entry) × IsWeighed s past e weight
+
+-- A MESSAGE that was sent and not delivered could be delivered now; one of an entry's, and one of
+-- all
+abbrev pub Delivers : Parts → Option What → Type 0
+Delivers f None = ⊥
+Delivers f (Some message) = IsDeliverable f message
+
+abbrev pub RowDelivers : Parts → List (Option What) → Type 0
+RowDelivers f row = (i : ℕ) × Delivers f (slice_index_or row i None)
+
+abbrev pub MailDelivers : Parts → List (List (Option What)) → Type 0
+MailDelivers f rows = (n i : ℕ) × Delivers f (message_at rows n i)

@@ -1,6 +1,7 @@
 //! Whether a run may be stopped so, as a replay finds it.
 #![tactic(auto)]
 
+mod delivering;
 mod stopping;
 mod telling;
 

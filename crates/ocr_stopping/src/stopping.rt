@@ -11,6 +11,7 @@ ghost use Rattle.ocr_legality.specs.Tests.{Whether};
 ghost use Rattle.ocr_legality.specs.Asked.{HasRoom};
 ghost use Rattle.ocr_stopping.specs.Stopping.{IsFront, IsStopping, Creates, RunsWeighed, CouldWeigh, SomeCreates, SomeCould};
 
+use crate::delivering::mail_delivers;
 use crate::telling::{creates_so, stops_so, verdict_of, weighs_so};
 use ocr_base::NoMemory;
 use ocr_guid::Guid;
@@ -162,8 +163,8 @@ fn weighed(
     let room = has_room(table);
     let comes = some_could(alloc, table, room, verdicts, weight)?;
     let one = is_one(weight);
-    let sets = mail.sets();
-    let delivers = both(one, sets);
+    let some = mail_delivers(table, mail);
+    let delivers = both(one, some);
     Ok(either(comes, delivers))
 }
 

@@ -1,4 +1,4 @@
-use Rattle.std.proofs.Common.{arith, ◌<◌}
+use Rattle.std.proofs.Common.{arith}
 use Rattle.ocr_stopping.specs.Stopping.{CouldWeigh}
 use Rattle.ocr_stopping.proofs.Some.{come_at, one_less, some_come}
 use Rattle.ocr_stopping.proofs.stopping.some_could.Goals as goal

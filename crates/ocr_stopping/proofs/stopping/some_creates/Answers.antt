@@ -1,4 +1,4 @@
-use Rattle.std.proofs.Common.{arith, ◌<◌}
+use Rattle.std.proofs.Common.{arith}
 use Rattle.ocr_stopping.specs.Stopping.{Creates}
 use Rattle.ocr_stopping.proofs.Some.{created_at, one_less, some_created}
 use Rattle.ocr_stopping.proofs.stopping.some_creates.Goals as goal

@@ -25,8 +25,8 @@ returns-then-not-is_said-clause-illegal c = λ _.
     let next : IsNext s xs n e c.args.self.now = next_of s xs n e c.args.self.now c.requires.so_far c.requires.within c.index-front-place.is c.requires.no_stop may in
     said_not s xs n e c.args.self.now c.requires.so_far c.requires.within c.index-front-place.is ((c.is_said.ensures s xs next).no c.if-not-is_said.true)
 
-pub enter-requires : goal.enter-requires
-enter-requires c =
+pub enter-requires-clause-comes : goal.enter-requires-clause-comes
+enter-requires-clause-comes c =
     let s : Setting = setting_of (checked_tree c.args.program.now) c.args.args.now c.args.self.now.table.limit in
     let xs : List Entry = c.args.front.now in
     let n : ℕ = c.args.place in
