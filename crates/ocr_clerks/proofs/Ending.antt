@@ -73,6 +73,7 @@ full_fits : (t : OcrTerms) (J : List Entry) (v : OcrView) (n : ℕ) → Fits mea
 full_fits t J v n fits = record {
   limits = fits.limits;
   run = fits.run;
+  few = fits.few;
   log = fits.log;
   joined = fits.joined;
   distinct = fits.distinct;

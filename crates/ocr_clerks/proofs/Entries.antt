@@ -1,32 +1,19 @@
 -- An entry of a worker.
-use Rattle.std.proofs.Common.{◌≡◌, ℕ, ◌+◌, ◌-◌, ◌≤◌, Bool, true, false, ◌==◌, ◌||◌, if◌then◌else◌, List, [], ◌∷◌, length, Option, Ok, Err, refl, ap, sym, ◌∙◌, subst, arith}
-use Rattle.std.specs.Prelude.{not, MatchOption}
+use Rattle.std.proofs.Common.{◌≡◌, ℕ, ◌+◌, ◌-◌, ◌≤◌, true, false, if◌then◌else◌, List, [], ◌∷◌, Option, refl, ap, sym, ◌∙◌, subst, arith}
+use Rattle.std.specs.Prelude.{MatchOption}
 use Rattle.std.proofs.lemmas.Grind.{common_steps}
-use Rattle.ocr_guid.specs.declared.Code.{Code}
-use Rattle.ocr_guid.specs.declared.Code.TheVariants as code
-use Rattle.ocr_base.specs.declared.limits.TheConstants.{MOST_PARAMETERS, MOST_DEPENDENCES}
-use Rattle.ocr_template.specs.declared.Template.{Template}
-use Rattle.ocr_template.specs.Template.{count_meant, counts_of, is_refused}
-use Rattle.ocr_meaning.specs.Holds.{is_done}
-use Rattle.ocr_meaning.specs.declared.call.Call as body
-use Rattle.ocr_meaning.specs.declared.call.Call.TheVariants as call
-use Rattle.ocr_meaning.specs.declared.call.Answer.{Answer}
 use Rattle.ocr_history.specs.declared.entry.Entry.{Entry}
-use Rattle.ocr_history.specs.declared.entry.Entry.TheVariants.{Call, Acquire, Wait, StaleAcquire, Start}
+use Rattle.ocr_history.specs.declared.entry.Entry.TheVariants.{Acquire, Wait, StaleAcquire, Start}
 use Rattle.ocr_history.specs.declared.entry.What.{What}
 use Rattle.ocr_history.specs.Weight.{weight_of}
-use Rattle.ocr_history.specs.declared.entry.What.TheVariants as what
 use Rattle.ocr_parts.specs.declared.part.Part.{Part}
 use Rattle.ocr_parts.specs.declared.part.Part.TheVariants as part
-use Rattle.ocr_parts.specs.Calls.{is_given}
-use Rattle.ocr_parts.specs.Codes.{counted_code, creation_code}
 use Rattle.ocr_parts.specs.Effects.{changed, readied, settled, settled_parts}
 use Rattle.ocr_parts.specs.Footprint.{Covers}
-use Rattle.ocr_parts.specs.LegalOn.{IsCallOn, IsLegalOn}
-use Rattle.ocr_parts.specs.Messages.{dep_sets, resumes, sends, sent_by}
+use Rattle.ocr_parts.specs.LegalOn.{IsLegalOn}
+use Rattle.ocr_parts.specs.Messages.{resumes, sends}
 use Rattle.ocr_parts.specs.Parts.{Parts}
 use Rattle.ocr_parts.specs.Taken.{ArePartsOf, IsWithin, as_core, as_face, core_in, face_in, has, is_within, keys, look, parts_in, place_of, seen}
-use Rattle.ocr_parts.proofs.After.{accepted, done_is}
 use Rattle.ocr_facts.specs.Clerks.{IsStep, OcrTerms, OcrView}
 use Rattle.ocr_facts.specs.Ocr.{meaning}
 use Rattle.ocr_facts.proofs.Entered.{entry_law, settled_resumes}
@@ -60,63 +47,6 @@ has_same (p ∷ ps) (q ∷ qs) n is = let h : p.0 ≡ q.0 = cc is in let t : key
 
 pub covers_same : (limit : ℕ) (e : Entry) (ps qs : List (ℕ × Part)) → keys ps ≡ keys qs → Covers limit e qs → Covers limit e ps
 covers_same limit e ps qs same covers = λ n on. has_same ps qs n same ∙ covers n on
-
--- AN ENTRY sends few messages
-abbrev sets_if : Bool → ℕ → ℕ → ℕ → List ℕ → List What
-sets_if b t k d rest = if b then what.Set t k d ∷ dep_sets t (k + 1) rest else dep_sets t (k + 1) rest
-
-abbrev sent_if : Bool → body.Call → Answer → List What
-sent_if b c a = if b then sent_by c a else []
-
-sets_few : (t k : ℕ) (ds : List ℕ) → length (dep_sets t k ds) ≤ length ds
-sets_few t k [] = omega arith
-sets_few t k (d ∷ rest) = elim (is_given d) as (λ b. length (sets_if b t k d rest) ≤ length (d ∷ rest)) [
-  | true ↦ let r = sets_few t (k + 1) rest in omega (arith, r)
-  | false ↦ let r = sets_few t (k + 1) rest in omega (arith, r)
-]
-
-einval_if : (b : Bool) (rest : Code) → (if not b then code.Einval else rest) ≡ code.Done → (b ≡ true) × (rest ≡ code.Done)
-einval_if true rest is = (refl, is)
-einval_if false rest is = cc is
-
-few_meant : (own given most : ℕ) → is_refused own given most ≡ false → count_meant own given ≤ most
-few_meant own given most off = grind (arith, common_steps)
-
-none_or : (n m : ℕ) → ((n == 0) || (n == m)) ≡ true → m ≤ 32 → n ≤ 32
-none_or n m is few = grind (arith, common_steps)
-
-counted_few : (t : Template) (pc dc fl : ℕ) (ps ds : List ℕ) → counted_code (counts_of t pc dc) ps ds fl ≡ code.Done → length ds ≤ 32
-counted_few t pc dc fl ps ds is = elim (is_refused t.paramc pc MOST_PARAMETERS || is_refused t.depc dc MOST_DEPENDENCES) as (λ b. (is_refused t.paramc pc MOST_PARAMETERS || is_refused t.depc dc MOST_DEPENDENCES) ≡ b
-    → counted_code (if b then Err code.Einval else Ok (count_meant t.paramc pc, count_meant t.depc dc)) ps ds fl ≡ code.Done → length ds ≤ 32) [
-      | true ↦ λ _ wrong. cc wrong
-      | false ↦ λ off done.
-          let first = einval_if (length ps == count_meant t.paramc pc) _ done in
-          let second = einval_if ((length ds == 0) || (length ds == count_meant t.depc dc)) _ first.1 in
-          none_or (length ds) (count_meant t.depc dc) second.0 (few_meant t.depc dc MOST_DEPENDENCES (right (is_refused t.paramc pc MOST_PARAMETERS) _ off))
-    ] refl is
-  where
-    right : (a b : Bool) → (a || b) ≡ false → b ≡ false
-    right true b is = cc is
-    right false b is = is
-
-from_few : (x : Part) (pc dc fl : ℕ) (ps ds : List ℕ) → creation_code x pc ps dc ds fl ≡ code.Done → length ds ≤ 32
-from_few (part.Template t) pc dc fl ps ds is = counted_few t pc dc fl ps ds is
-from_few other pc dc fl ps ds is = cc is
-
-call_few : (limit : ℕ) (f : Parts) (u home : ℕ) (c : body.Call) (a : Answer) (w : List (ℕ × ℕ)) → IsCallOn limit f u home c a w → is_done a.code ≡ true → length (sent_by c a) ≤ 32
-call_few limit f u home (call.EdtCreate from pc ps dc ds fl o) a w legal done =
-    let is_code : a.code ≡ code.Done = done_is a.code done in
-    let few = from_few (f.face from) pc dc fl ps ds (accepted u f.face (call.EdtCreate from pc ps dc ds fl o) (sym legal.code ∙ is_code)) in
-    let sets = sets_few a.value 0 ds in omega (arith, few, sets)
-call_few limit f u home (call.AddDependence from x i m) a w legal done = omega arith
-call_few limit f u home other a w legal done = omega arith
-
-pub few_sends : (limit : ℕ) (f : Parts) (e : Entry) → IsLegalOn limit f e → length (sends e f) ≤ 32
-few_sends limit f (Call u home c a w) legal = elim (is_done a.code) as (λ b. is_done a.code ≡ b → length (sent_if b c a) ≤ 32) [
-  | true ↦ λ done. call_few limit f u home c a w legal done
-  | false ↦ λ _. omega arith
-] refl
-few_sends limit f other legal = omega arith
 
 -- THE STEP was made on the parts that the caller lifted
 pub step_is : (t : OcrTerms) (limit : ℕ) (v : OcrView) (e : Entry) (h : Hand) (ps later : List (ℕ × Part)) (sent : List What) → limit ≡ t.limit → CanMake t v e h ps

@@ -1,3 +1,4 @@
+pub mod Counters
 pub mod Ending
 pub mod Entries
 pub mod Gives

@@ -1,5 +1,5 @@
 -- What an entry of a worker asks, and what it leaves.
-use Rattle.std.specs.Prelude.{◌≡◌, ◌+◌, ◌<◌, ◌≤◌, ◌^◌, ℕ, List, [], false, length, MatchOption}
+use Rattle.std.specs.Prelude.{◌≡◌, ◌+◌, ◌-◌, ◌<◌, ◌≤◌, ◌^◌, ℕ, List, [], false, length, MatchOption}
 use Rattle.ocr_acquire.specs.declared.Mode.{Mode}
 use Rattle.ocr_facts.specs.Clerks.{IsStep, MayEnter, OcrTerms, OcrView}
 use Rattle.ocr_facts.specs.Ocr.{makes, meaning, touches}
@@ -10,9 +10,10 @@ use Rattle.ocr_history.specs.declared.entry.What.{What}
 use Rattle.ocr_history.specs.Weight.{weight_of}
 use Rattle.ocr_mail.specs.Mail.{Has}
 use Rattle.ocr_parts.specs.declared.part.Part.{Part}
+use Rattle.ocr_parts.specs.Kinds.{counted_on}
 use Rattle.ocr_parts.specs.Legal.{is_stop}
 use Rattle.ocr_parts.specs.Messages.{delivered}
-use Rattle.ocr_parts.specs.Taken.{keys, parts_in}
+use Rattle.ocr_parts.specs.Taken.{face_in, keys, parts_in}
 use Rattle.ocr_standing.specs.Kept.{kept_ready}
 use Rattle.ocr_turns.specs.Contract.{Claims, Known}
 use Rattle.ocr_turns.specs.Rule.{OPEN}
@@ -32,8 +33,9 @@ pub record Hand : Type 0 where
   pub members : List (ℕ × Mode)
   pub parts : List (ℕ × Part)
 
--- The clerk has what the entry asks but for the share: it knows what it has to know of it, and
--- these parts, the EDT made ready, are those of the entry's places.
+-- The clerk has what the entry asks but for the share: it knows what it has to know of it, these
+-- parts, the EDT made ready, are those of the entry's places, and each event can be counted once
+-- more.
 pub record CanMake (t : OcrTerms) (v : OcrView) (e : Entry) (h : Hand) (ps : List (ℕ × Part))
     : Type 0 where
   pub goes : is_stop e ≡ false
@@ -45,6 +47,7 @@ pub record CanMake (t : OcrTerms) (v : OcrView) (e : Entry) (h : Hand) (ps : Lis
   pub same_keys : keys ps ≡ keys h.parts
   pub places : (p : ℕ) → (weigh (one_at p) h.parts ≡ touches t.limit e p)
       × (weigh (one_at p) h.parts ≤ weigh (one_at p) v.parts)
+  pub counters : (g : ℕ) → counted_on (face_in t.limit h.parts g) < 2 ^ 64 - 1
 
 -- and the clerk's log may weigh so much more
 pub record CanEnter (t : OcrTerms) (v : OcrView) (e : Entry) (h : Hand) (ps : List (ℕ × Part))

@@ -20,7 +20,7 @@ pub(crate) struct Prepared {
 }
 
 /// The change that an entry makes of these parts, which the clerk lifted, and room for it in the
-/// clerk. For want of memory the parts are lost.
+/// clerk. For want of memory the parts are lost; more messages than 32 bits can number want it too.
 pub(crate) fn prepare(
     alloc: Global,
     turns: &Turns<Ocr>,
@@ -42,7 +42,11 @@ pub(crate) fn prepare(
         ≡ wakes turns.now.1.limit entry.now clerk.old.view.parts) }
 {
     let stepped = step(alloc, limit, entry, parts)?;
-    turns.reserve(alloc, clerk, stepped.messages.len())?;
+    let count = stepped.messages.len();
+    if count > u32::MAX as usize {
+        return Err(NoMemory);
+    }
+    turns.reserve(alloc, clerk, count)?;
     let change = Change {
         parts: stepped.parts,
         messages: stepped.messages,

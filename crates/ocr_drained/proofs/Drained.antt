@@ -1,8 +1,7 @@
 -- What the word of an EDT tells the root, while no other clerk is out and it owes nothing.
-use Rattle.std.proofs.Common.{◌≡◌, ◌≢◌, ◌⊎◌, inl, inr, ℕ, zero, suc, ◌+◌, ◌-◌, ◌<◌, ◌≤◌, List, [], ◌∷◌, ◌++◌, length, filter, cond, not, reverse, Bool, true, false, nat_lt, nat_le, ◌&&◌, Option, Some, None, is_some, refl, sym, ◌∙◌, ap, subst, arith}
+use Rattle.std.proofs.Common.{◌≡◌, ◌≢◌, ◌⊎◌, inl, inr, ℕ, zero, suc, ◌+◌, ◌-◌, ◌<◌, ◌≤◌, List, [], ◌∷◌, filter, cond, not, reverse, Bool, true, false, nat_lt, nat_le, ◌&&◌, Option, Some, None, is_some, refl, sym, ◌∙◌, ap, subst, arith}
 use Rattle.std.specs.List.{range_with_len}
 use Rattle.std.proofs.lemmas.Grind.{common_steps}
-use Rattle.std.proofs.lemmas.List.{reverse-reverse}
 use Rattle.ocr_acquire.specs.declared.Mode.{Mode}
 use Rattle.ocr_acquire.specs.Mode.{mode_in}
 use Rattle.ocr_slots.specs.Slots as slot
@@ -10,12 +9,11 @@ use Rattle.ocr_history.specs.declared.entry.Entry.{Entry}
 use Rattle.ocr_history.specs.declared.entry.What.{What}
 use Rattle.ocr_history.specs.Edts as edts
 use Rattle.ocr_history.specs.History.{History}
-use Rattle.ocr_history.specs.Made.{Made, MadeBlock, MadeTemplate, MadeEdt, is_edt, is_edt_made, made}
-use Rattle.ocr_mail.specs.Mail as mail
-use Rattle.ocr_mail.specs.Mail.{named, tally, without}
+use Rattle.ocr_history.specs.Made.{Made, MadeEdt, is_edt, is_edt_made, made}
+use Rattle.ocr_mail.specs.Mail.{tally}
 use Rattle.ocr_parts.specs.Calls.{depc_of, open_slots, set_calls}
 use Rattle.ocr_parts.specs.Legal.{IsRun}
-use Rattle.ocr_parts.specs.Messages.{delivered, pending, sends}
+use Rattle.ocr_parts.specs.Messages.{pending}
 use Rattle.ocr_parts.specs.Parts.{parts_of}
 use Rattle.ocr_parts.specs.Taken.{is_within}
 use Rattle.ocr_parts.proofs.Within.{made_out}
@@ -32,26 +30,21 @@ use Rattle.ocr_turns.specs.Sums.{below}
 use Rattle.ocr_turns.specs.Words.{Knows, claiming}
 use Rattle.ocr_turns.proofs.Sole.{same_histories}
 use Rattle.ocr_facts.specs.Clerks.{OcrTerms, OcrView, of_terms}
-use Rattle.ocr_facts.specs.Ocr.{meaning, sent}
+use Rattle.ocr_facts.specs.Ocr.{meaning}
 use Rattle.ocr_facts.proofs.Entered.{goes_on}
+use Rattle.ocr_facts.proofs.Owed.{mail_is}
 use Rattle.ocr_facts.proofs.Runs.{run_is}
 use Rattle.ocr_facts.proofs.Slots.{edt_slots, ended_is, payload_is, slots_are, slots_in, started_is}
 use Rattle.ocr_facts.proofs.Waits.{waits_is}
 use Rattle.ocr_drained.specs.Drained.{IsLone, OrderlyLaw, OwesNothing, PassLaw, RestLaw}
 
--- MESSAGES: those of the table are those of the machine
-mail_is : (t : OcrTerms) (past : History) → mail.pending (λ (before : List Entry). sent t.setting.value t.limit (reverse before)) delivered past ≡ pending (of_terms t) past
-mail_is t [] = refl
-mail_is t (e ∷ past) =
-    ap (λ (ms : List (ℕ × ℕ × What)). without (delivered e) ms ++ named (length past) 0 (sends e (parts_of (of_terms t) (reverse (reverse past))))) (mail_is t past)
-    ∙ ap (λ (K : History). without (delivered e) (pending (of_terms t) past) ++ named (length past) 0 (sends e (parts_of (of_terms t) K))) (reverse-reverse past)
-
+-- MESSAGES
 no_messages : (ms : List (ℕ × ℕ × What)) → tally (λ _. 1) ms ≡ 0 → ms ≡ []
 no_messages [] none = refl
 no_messages (x ∷ ms) none = absurd (omega (arith, none))
 
 owed_is : (t : OcrTerms) (v : OcrView) (J : List Entry) → IsLone t v → Fits meaning t J v → tally (λ _. 1) v.owed ≡ tally (λ _. 1) (pending (of_terms t) (reverse J))
-owed_is t v J lone fits = fits.alone lone.root lone.nobody_out (λ _. 1) ∙ ap (tally (λ _. 1)) (mail_is t (reverse J))
+owed_is t v J lone fits = fits.alone lone.root lone.nobody_out (λ _. 1) ∙ ap (tally (λ _. 1)) (mail_is t J)
 
 nothing_pending : (t : OcrTerms) (v : OcrView) (J : List Entry) → IsLone t v → Fits meaning t J v → v.owed ≡ [] → pending (of_terms t) (reverse J) ≡ []
 nothing_pending t v J lone fits none = no_messages (pending (of_terms t) (reverse J)) (sym (owed_is t v J lone fits) ∙ ap (tally (λ _. 1)) none)

@@ -1,5 +1,5 @@
 -- Who waits, as the words that count see it, is who stands in a queue.
-use Rattle.std.proofs.Common.{◌≡◌, ◌⊎◌, inl, inr, ℕ, ◌/◌, ◌≤◌, List, [], Bool, true, false, ◌==◌, ◌||◌, if◌then◌else◌, Option, Some, None, is_some, refl, sym, ◌∙◌, ap, subst, arith}
+use Rattle.std.proofs.Common.{◌≡◌, ◌⊎◌, inl, inr, ℕ, ◌+◌, ◌/◌, ◌≤◌, List, [], ◌∷◌, Bool, true, false, not, ◌==◌, ◌||◌, if◌then◌else◌, Option, Some, None, is_some, refl, sym, ◌∙◌, ap, subst, arith}
 use Rattle.std.proofs.lemmas.Grind.{common_steps}
 use Rattle.std.proofs.lemmas.Bool.{eqb-true}
 use Rattle.ocr_acquire.specs.declared.Mode.{Mode}
@@ -16,15 +16,17 @@ use Rattle.ocr_meaning.specs.declared.call.Call.TheVariants as call
 use Rattle.ocr_meaning.specs.declared.call.Answer.{Answer}
 use Rattle.ocr_history.specs.declared.entry.Entry.{Entry}
 use Rattle.ocr_history.specs.declared.entry.Entry.TheVariants.{Call, Deliver, Acquire, Wait, StaleAcquire, Start, Free, End, Stop}
+use Rattle.ocr_history.specs.declared.entry.What.{What}
+use Rattle.ocr_history.specs.declared.entry.What.TheVariants as what
 use Rattle.ocr_history.specs.History.{History}
 use Rattle.ocr_history.specs.History as history
 use Rattle.ocr_history.specs.Made.{creator_of}
 use Rattle.ocr_parts.specs.declared.part.Part.{Part}
 use Rattle.ocr_parts.specs.declared.part.Part.TheVariants as part
-use Rattle.ocr_parts.specs.Calls.{mode_named}
-use Rattle.ocr_parts.specs.Effects.{called, changed, doomed_template, granted, hold_ended, new_face, next_mode_on, readied_on}
+use Rattle.ocr_parts.specs.Calls.{is_object, mode_named, slot_target, target_of}
+use Rattle.ocr_parts.specs.Effects.{brought, called, changed, deps_linked, doomed_template, granted, hold_ended, linked_if, new_core, new_face, next_mode_on, readied_on, with_core, with_face}
 use Rattle.ocr_parts.specs.Footprint.{on_face}
-use Rattle.ocr_parts.specs.Kinds.{IsBlock, is_acquiring, is_acquiring_edt, loan_on, with_block, with_links, with_template, with_event}
+use Rattle.ocr_parts.specs.Kinds.{IsBlock, is_acquiring, is_acquiring_edt, is_edt_face, loan_on, with_block, with_links, with_template, with_event}
 use Rattle.ocr_parts.specs.LegalOn.{IsCallOn, IsTaken}
 use Rattle.ocr_parts.specs.Legal.{IsRun, IsLegal}
 use Rattle.ocr_parts.specs.Messages.{resumed_by, resumed_by_call, resumed_by_doom, resumes}
@@ -35,8 +37,10 @@ use Rattle.ocr_quiet.specs.Waits.{AreStanding, IsOnce, awaits, awaits_in, queue_
 use Rattle.ocr_quiet.proofs.Choices.{on_from}
 use Rattle.ocr_quiet.proofs.Stages.{once}
 use Rattle.ocr_turns.specs.Counting.{is_in}
+use Rattle.ocr_any_event.specs.declared.AnyEvent.{AnyEvent}
 use Rattle.ocr_facts.proofs.Queues.{Leaves, doomed, granted_queue, links_queue, released, template_queue, event_queue}
-use Rattle.ocr_any_event.specs.AnyEvent.{after_destroy}
+use Rattle.ocr_any_event.specs.AnyEvent as event
+use Rattle.ocr_guid.specs.declared.target.Target.{Target}
 
 -- WHO STANDS in the queue of a block
 abbrev pub IsQueued : Parts → ℕ → ℕ → Type 0
@@ -148,6 +152,22 @@ new_queue : (x : Part) (dc : ℕ) (ds : List ℕ) → queue_on (new_face x dc ds
 new_queue (part.Template t) dc ds = refl
 new_queue other dc ds = refl
 
+-- EVENTS that are satisfied or linked
+event_still : (f : Parts) (d : ℕ) (step : AnyEvent → AnyEvent) → Still f (with_face f d (with_event (f.face d) step))
+event_still f d step = face_still f d (with_event (f.face d) step) (event_queue (f.face d) step)
+
+linked_still : (named : Bool) (d : ℕ) (t : Target) (f : Parts) → Still f (linked_if named d t f)
+linked_still true d t f = event_still f d (λ st. event.after_link st t)
+linked_still false d t f = λ e. refl
+
+deps_still : (t k : ℕ) (ds : List ℕ) (f : Parts) → Still f (deps_linked t k ds f)
+deps_still t k [] f = λ e. refl
+deps_still t k (d ∷ rest) f = λ e. deps_still t (k + 1) rest (linked_if (is_object d) d (slot_target t k) f) e ∙ linked_still (is_object d) d (slot_target t k) f e
+
+brought_still : (x : What) (f : Parts) → Still f (brought x f)
+brought_still (what.Satisfy e slot p) f = event_still f e (λ st. event.after_satisfy st slot p)
+brought_still other f = λ e. refl
+
 taken_queue : (x : Part) (t : ℕ) (m : Mode) → IsBlock x (IsTaken t m) → queue_on (with_block x (granted t m)) ≡ queue_on x
 taken_queue (part.Block st) t m taken = granted_queue t m st taken
 taken_queue other t m taken = absurd taken
@@ -190,12 +210,19 @@ done_effect : (limit : ℕ) (f : Parts) (u home : ℕ) (c : body.Call) (a : Answ
     → Effect limit (Call u home c a w) f (called u c a w f) (resumed_by_call u c f)
 done_effect limit f u home (call.DbCreate n fl) a w legal done once within = inl (refl, vacant_still f a.value (part.Block (block.state_of (n / 8) (creator_of u fl) [])) (legal.value.fresh done).vacant refl)
 done_effect limit f u home (call.TemplateCreate function pc dc) a w legal done once within = inl (refl, vacant_still f a.value _ (legal.value.fresh done).vacant refl)
-done_effect limit f u home (call.EdtCreate from pc ps dc ds fl o) a w legal done once within = inl (refl, vacant_still f a.value (new_face (f.face from) dc ds) (legal.value.named.fresh done).vacant (new_queue (f.face from) dc ds))
+done_effect limit f u home (call.EdtCreate from pc ps dc ds fl o) a w legal done once within =
+    let new : Parts = with_core (with_face f a.value (new_face (f.face from) dc ds)) a.value (new_core (f.face from) a.value ps) in
+    let there : Still f new = vacant_still f a.value (new_face (f.face from) dc ds) (legal.value.named.fresh done).vacant (new_queue (f.face from) dc ds) in
+    inl (refl, λ e. deps_still a.value 0 ds new e ∙ there e)
 done_effect limit f u home (call.Store d k v) a w legal done once within = inl (refl, face_still f d (with_block (f.face d) (λ st. block_steps.after_store st k v)) (block_queue (f.face d) (λ st. block_steps.after_store st k v) (λ st. refl)))
-done_effect limit f u home (call.AddDependence from x i m) a w legal done once within = inl (refl, face_still f x (with_links (f.face x) (λ slots. after_link slots i (mode_named m))) (links_queue (f.face x) (λ slots. after_link slots i (mode_named m))))
+done_effect limit f u home (call.AddDependence from x i m) a w legal done once within =
+    let new : Parts = with_face f x (with_links (f.face x) (λ slots. after_link slots i (mode_named m))) in
+    let there : Still f new = face_still f x (with_links (f.face x) (λ slots. after_link slots i (mode_named m))) (links_queue (f.face x) (λ slots. after_link slots i (mode_named m))) in
+    inl (refl, λ e. linked_still (not (from == 0)) from (target_of (is_edt_face (f.face x)) x i) new e ∙ there e)
+done_effect limit f u home (call.Satisfy x p slot) a w legal done once within = inl (refl, event_still f x (λ st. event.after_satisfy st slot p))
 done_effect limit f u home (call.EventCreate k fl) a w legal done once within = inl (refl, vacant_still f a.value _ (legal.value.fresh done).vacant refl)
 done_effect limit f u home (call.EventCreateParams k fl most sats nd) a w legal done once within = inl (refl, vacant_still f a.value _ (legal.value.fresh done).vacant refl)
-done_effect limit f u home (call.EventDestroy x) a w legal done once within = inl (refl, face_still f x (with_event (f.face x) after_destroy) (event_queue (f.face x) after_destroy))
+done_effect limit f u home (call.EventDestroy x) a w legal done once within = inl (refl, event_still f x event.after_destroy)
 done_effect limit f u home (call.TemplateDestroy x) a w legal done once within = inl (refl, face_still f x (with_template (f.face x) doomed_template) (template_queue (f.face x) doomed_template))
 done_effect limit f u home (call.DbRelease d) a w legal done once within =
     let leaves = release_leaves (f.face d) u w (loan_on (f.core u) d) _ (legal.value.0 done) (once d) in
@@ -232,5 +259,7 @@ entry_effect s past (Wait u d) enough run legal is = absurd is
 entry_effect s past (Start u) enough run legal is = absurd is
 entry_effect s past (End u g) enough run legal is = absurd is
 entry_effect s past (StaleAcquire u d) enough run legal is = inl (refl, λ e. refl)
-entry_effect s past (Deliver m c) enough run legal is = inl (refl, λ e. refl)
+entry_effect s past (Deliver m c) enough run legal is =
+    let f = parts_of s past in
+    elim (is_done c) as (λ b. Effect s.limit (Deliver m c) f (if b then brought m.what f else f) []) [ true ↦ inl (refl, brought_still m.what f) | false ↦ inl (refl, λ e. refl) ]
 entry_effect s past (Stop why) enough run legal is = inl (refl, λ e. refl)

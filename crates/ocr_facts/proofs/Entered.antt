@@ -16,7 +16,7 @@ use Rattle.ocr_history.specs.declared.entry.Entry.{Entry}
 use Rattle.ocr_history.specs.declared.entry.Entry.TheVariants.{Call, Free, Stop}
 use Rattle.ocr_history.specs.History.{History, is_stopped}
 use Rattle.ocr_history.specs.History as history
-use Rattle.ocr_history.specs.Made.{Made, MadeBlock, MadeTemplate, MadeEdt, depc_in, edt_from, made, makes}
+use Rattle.ocr_history.specs.Made.{Made, MadeTemplate, depc_in, edt_from, made, makes}
 use Rattle.ocr_parts.specs.declared.part.Part.{Part}
 use Rattle.ocr_parts.specs.declared.part.Part.TheVariants as part
 use Rattle.ocr_parts.specs.Calls.{block_calls, depc_of, event_calls, link_calls}
@@ -25,14 +25,14 @@ use Rattle.ocr_parts.specs.Effects.{settled_parts}
 use Rattle.ocr_parts.specs.Footprint.{Covers, is_touched, on_face}
 use Rattle.ocr_parts.specs.Kinds.{is_template}
 use Rattle.ocr_parts.specs.Legal.{IsLegal, IsRun, is_stop, IsStopping}
-use Rattle.ocr_parts.specs.Messages.{resumes, sends}
+use Rattle.ocr_parts.specs.Messages.{resumes}
 use Rattle.ocr_parts.specs.Parts.{Parts, face, parts_of}
 use Rattle.ocr_parts.specs.Taken.{ArePartsOf, as_face, has, is_within, keys, look, parts_in, place_of, seen}
 use Rattle.ocr_parts.proofs.After.{done_is}
 use Rattle.ocr_parts.proofs.Local.{effect_law}
 use Rattle.ocr_parts.proofs.Within.{within_law}
 use Rattle.ocr_quiet.proofs.Choices.{done_kinds, not_off, on_from, or_left}
-use Rattle.ocr_standing.specs.Kept.{AreKept, kept_ready}
+use Rattle.ocr_standing.specs.Kept.{AreKept}
 use Rattle.ocr_standing.proofs.Kept.{after_kept_law, alike_kept, kept_law}
 use Rattle.ocr_turns.specs.Meaning.{Open}
 use Rattle.ocr_turns.specs.Owing.{listed}
@@ -42,6 +42,7 @@ use Rattle.ocr_turns.proofs.Totals.{picked_append, picked_none, weigh_at}
 use Rattle.ocr_facts.specs.Clerks.{EntryLaw, OcrTerms, OcrView, of_terms}
 use Rattle.ocr_facts.specs.Ocr.{MayFollow, counts, creates, meaning, part_of, slots_meant}
 use Rattle.ocr_facts.proofs.Runs.{reverse_snoc, run_is}
+use Rattle.ocr_facts.proofs.Sending.{readied_sends, settled_sends}
 use Rattle.ocr_facts.proofs.Slots.{chosen_on, number_same}
 
 -- LISTS OF PARTS
@@ -107,11 +108,7 @@ no_stopping : (s : history.Setting) (past : History) (e : Entry) → is_stop e �
 no_stopping s past (Stop why) is = cc is
 no_stopping s past other is = tt
 
--- WHAT THE MESSAGES AND THE RESUMED rest on
-sends_same : (e : Entry) (f h : Parts) → sends e f ≡ sends e h
-sends_same (Call t home c a w) f h = refl
-sends_same other f h = refl
-
+-- WHAT THE RESUMED rest on
 pub settled_resumes : (e : Entry) (f : Parts) → resumes e (settled_parts f) ≡ resumes e f
 settled_resumes (Call t home c a w) f = call_same c
   where
@@ -166,7 +163,7 @@ counts_are t J (Call u home (call.EdtCreate from pc ps dc ds fl o) a w) kept eno
     let seen_face : f.face from ≡ as_face (look kept from) = rw inside at here in
     let made_v : makes a a.value ≡ true = both_on (is_done a.code) (a.value == a.value) done (number_same a.value) in
     ap depc_in (chosen_on (makes a a.value) (edt_from (made s past from) ps dc) (made s past a.value) made_v)
-    ∙ (face_slots (made s past from) (link_calls past from) (block_calls s past from) (event_calls past from) ps dc template
+    ∙ (face_slots (made s past from) (link_calls past from) (block_calls s past from) (event_calls s past from) ps dc template
     ∙ (ap (λ (x : Part). slots_meant x dc) seen_face ∙ seen_slots (look kept from) dc)))
 counts_are t J (Call u home other a w) kept enough run legal covers are = refl
 counts_are t J other kept enough run legal covers are = refl
@@ -191,11 +188,13 @@ entry_law t v e members hand later sent no_stop may step = λ J open_run fits.
     let after = after_kept_law s past e hand later members are legal step.parts step.same_keys in
     let covers : Covers limit e v.parts = λ n on. may.at_hand.there n (may.covers n on) in
     let alike = alike_kept limit e f v.parts (within_law s past fits.limits run) covers kept in
+    let hand_alike = alike_kept limit e f hand (within_law s past fits.limits run) may.covers at_hand in
     record {
       legal = follows;
       parts = parts_are limit (parts_of s (reverse (J ++ e ∷ []))) later (λ n. let w = weigh_keys (one_at n) later hand step.same_keys in let d = may.at_hand.once n in omega (arith, w, d))
           (subst (λ (K : History). ArePartsOf limit (parts_of s K) later) (sym (reverse_snoc J e)) after);
-      sends = sends_same e f (kept_ready limit members e hand) ∙ sym step.sends_are;
+      sends = (effect_law e f (settled_parts (parts_in limit hand)) hand_alike).1
+          ∙ (settled_sends e (parts_in limit hand) ∙ (sym (readied_sends members e (parts_in limit hand)) ∙ sym step.sends_are));
       facts = may.told J open_run fits follows;
       wakes = (effect_law e f (settled_parts (parts_in limit v.parts)) alike).2 ∙ settled_resumes e (parts_in limit v.parts);
       counts = ap listed (counts_are t J e v.parts fits.limits run legal covers kept);

@@ -12,11 +12,12 @@ use Rattle.ocr_meaning.specs.declared.call.Call.TheVariants as call
 use Rattle.ocr_meaning.specs.declared.call.Answer.{Answer}
 use Rattle.ocr_meaning.proofs.Makes.{served_law}
 use Rattle.ocr_history.specs.declared.entry.Entry.{Entry}
-use Rattle.ocr_history.specs.declared.entry.Entry.TheVariants.{Call, Acquire, Wait, StaleAcquire, Start, Free, End, Stop}
+use Rattle.ocr_history.specs.declared.entry.Entry.TheVariants.{Call, Deliver, Acquire, Wait, StaleAcquire, Start, Free, End, Stop}
 use Rattle.ocr_history.specs.History.{History, own}
 use Rattle.ocr_history.specs.Weight.{call_weight, weight_of}
 use Rattle.ocr_parts.specs.Bodies.{body_of}
-use Rattle.ocr_parts.specs.Codes.{Source, Sort, is_named, wanted, wanted_source, wanted_sources}
+use Rattle.ocr_parts.specs.Calls.{is_object}
+use Rattle.ocr_parts.specs.Codes.{ABlock, Source, Sort, wanted, wanted_payload, wanted_source, wanted_sources}
 use Rattle.ocr_parts.specs.Footprint.{footprint_of, is_touched}
 use Rattle.ocr_parts.specs.Legal.{IsLegal, is_stop}
 use Rattle.ocr_parts.specs.Parts.{parts_of}
@@ -34,7 +35,7 @@ use Rattle.ocr_facts.specs.declared.fact.Fact.{Fact}
 use Rattle.ocr_facts.specs.declared.setting.Setting.{Setting}
 use Rattle.ocr_facts.proofs.Lasting.{stands_later}
 use Rattle.ocr_facts.proofs.Making.{free_before, makes_one, unmade_sum}
-use Rattle.ocr_facts.proofs.Places.{call_few, named_place, one_few, places_differ, places_good, two_few, within_is}
+use Rattle.ocr_facts.proofs.Places.{call_few, message_few, named_place, one_few, places_differ, places_good, two_few, within_is}
 use Rattle.ocr_facts.proofs.Runs.{reverse_snoc, run_is}
 
 -- WEIGHTS
@@ -104,7 +105,7 @@ starting other t is = cc is
 -- PLACES. A call that a body says has short lists
 sources_few : (ds : List ℕ) → length (wanted_sources ds) ≤ length ds
 sources_few [] = omega arith
-sources_few (d ∷ rest) = elim (is_named d) as (λ b. length (if b then (d, Source) ∷ wanted_sources rest else wanted_sources rest) ≤ length (d ∷ rest)) [
+sources_few (d ∷ rest) = elim (is_object d) as (λ b. length (if b then (d, Source) ∷ wanted_sources rest else wanted_sources rest) ≤ length (d ∷ rest)) [
   | true ↦ let r = sources_few rest in omega (arith, r)
   | false ↦ let r = sources_few rest in omega (arith, r)
 ]
@@ -115,9 +116,16 @@ source_if b d = if b then [] else (d, Source) ∷ []
 source_few : (d : ℕ) → length (wanted_source d) ≤ 1
 source_few d = elim (d == 0) as (λ b. length (source_if b d) ≤ 1) [ true ↦ omega arith | false ↦ omega arith ]
 
+abbrev payload_if : Bool → ℕ → List (ℕ × Sort)
+payload_if b p = if b then [] else (p, ABlock) ∷ []
+
+payload_few : (p : ℕ) → length (wanted_payload p) ≤ 1
+payload_few p = elim (p == 0) as (λ b. length (payload_if b p) ≤ 1) [ true ↦ omega arith | false ↦ omega arith ]
+
 wanted_few : (functions : ℕ) (c : body.Call) → IsServed functions c → length (wanted c) ≤ 33
 wanted_few functions (call.EdtCreate from pc ps dc ds fl o) served = let few = sources_few ds in let short = served.1 in omega (arith, few, short)
 wanted_few functions (call.AddDependence from x i m) served = let one = source_few from in omega (arith, one)
+wanted_few functions (call.Satisfy e p slot) served = let one = payload_few p in omega (arith, one)
 wanted_few functions (call.DbRelease d) served = omega arith
 wanted_few functions (call.DbDestroy d) served = omega arith
 wanted_few functions (call.Load d k) served = omega arith
@@ -139,6 +147,7 @@ call_served g limit J u home c a w may =
 
 few : (g : Setting) (limit : ℕ) (J : List Entry) (e : Entry) → MayFollow g limit J e → length (footprint_of limit e) ≤ 40
 few g limit J (Call u home c a w) may = let r = call_few limit u c a (wanted_few (length (checked_tree g.program)) c (call_served g limit J u home c a w may)) in omega (arith, r)
+few g limit J (Deliver m c) may = let r = message_few limit m.what in omega (arith, r)
 few g limit J (Acquire t d) may = let r = two_few limit t d in omega (arith, r)
 few g limit J (Wait t d) may = let r = two_few limit t d in omega (arith, r)
 few g limit J (StaleAcquire t d) may = let r = two_few limit t d in omega (arith, r)

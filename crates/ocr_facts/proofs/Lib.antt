@@ -8,4 +8,6 @@ pub mod Awaiting
 pub mod Waits
 pub mod Lawful
 pub mod Counted
+pub mod Sending
 pub mod Entered
+pub mod Owed

@@ -16,7 +16,7 @@ use Rattle.ocr_meaning.specs.declared.call.Answer.{Answer}
 use Rattle.ocr_history.specs.declared.entry.Entry.{Entry}
 use Rattle.ocr_history.specs.declared.entry.Entry.TheVariants.{Call}
 use Rattle.ocr_history.specs.History.{History, Setting}
-use Rattle.ocr_history.specs.Made.{Made, MadeBlock, MadeTemplate, MadeEdt, edt_from, is_edt, is_edt_made, made, makes, opened, depc_in}
+use Rattle.ocr_history.specs.Made.{Made, MadeTemplate, edt_from, is_edt, is_edt_made, made, makes, opened, depc_in}
 use Rattle.ocr_parts.specs.Calls.{block_calls, event_calls, link_calls}
 use Rattle.ocr_parts.specs.Codes.{counted_code, creation_code}
 use Rattle.ocr_parts.specs.LegalOn.{IsNamed}
@@ -151,5 +151,5 @@ pub few_slots : (s : Setting) (past : History) (u home from pc dc fl : ℕ) (ps 
     → depc_in (edt_from (made s past from) ps dc) ≤ 32
 few_slots s past u home from pc dc fl ps ds o a w done legal =
     let is_code : a.code ≡ code.Done = done_is a.code done in
-    from_few (made s past from) (link_calls past from) (block_calls s past from) (event_calls past from) pc dc ps ds fl
+    from_few (made s past from) (link_calls past from) (block_calls s past from) (event_calls s past from) pc dc ps ds fl
     (accepted u (parts_of s past).face (call.EdtCreate from pc ps dc ds fl o) (sym legal.on_parts.code ∙ is_code))

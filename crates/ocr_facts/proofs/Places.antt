@@ -9,10 +9,12 @@ use Rattle.ocr_meaning.specs.declared.call.Call as body
 use Rattle.ocr_meaning.specs.declared.call.Call.TheVariants as call
 use Rattle.ocr_meaning.specs.declared.call.Answer.{Answer}
 use Rattle.ocr_history.specs.declared.entry.Entry.{Entry}
-use Rattle.ocr_history.specs.declared.entry.Entry.TheVariants.{Call, Acquire, Wait, StaleAcquire, Start, Free, End}
+use Rattle.ocr_history.specs.declared.entry.Entry.TheVariants.{Call, Deliver, Acquire, Wait, StaleAcquire, Start, Free, End}
+use Rattle.ocr_history.specs.declared.entry.What.{What}
+use Rattle.ocr_history.specs.declared.entry.What.TheVariants as what
 use Rattle.ocr_history.specs.Numbers.{placed}
 use Rattle.ocr_parts.specs.Codes.{Sort, wanted}
-use Rattle.ocr_parts.specs.Footprint.{and_core, and_face, and_made, and_wanted, call_footprint, footprint_of, is_touched, is_wanted, makes_core, on_core_of, on_face}
+use Rattle.ocr_parts.specs.Footprint.{and_core, and_face, and_made, and_wanted, call_footprint, footprint_of, is_brought_to, is_touched, is_wanted, makes_core, message_footprint, on_core_of, on_face}
 use Rattle.ocr_parts.specs.Taken.{is_within}
 use Rattle.ocr_turns.specs.Sums.{one_at, sum_of}
 use Rattle.ocr_turns.proofs.Totals.{one_here, one_most}
@@ -137,8 +139,13 @@ made_good limit c a ns good = elim (is_creation c) as (λ b. AreGood limit (if b
   | false ↦ good
 ]
 
+message_good : (limit : ℕ) (x : What) → AreGood limit (message_footprint limit x)
+message_good limit (what.Satisfy e slot p) = face_good limit e [] (no_places limit)
+message_good limit other = no_places limit
+
 pub places_good : (limit : ℕ) (e : Entry) → AreGood limit (footprint_of limit e)
 places_good limit (Call t home c a w) = wanted_good limit (wanted c) _ (made_good limit c a _ (core_good limit t [] (no_places limit)))
+places_good limit (Deliver m c) = message_good limit m.what
 places_good limit (Acquire t d) = face_good limit t _ (face_good limit d _ (core_good limit t [] (no_places limit)))
 places_good limit (Wait t d) = face_good limit t _ (face_good limit d _ (core_good limit t [] (no_places limit)))
 places_good limit (StaleAcquire t d) = face_good limit t _ (face_good limit d _ (core_good limit t [] (no_places limit)))
@@ -208,10 +215,15 @@ made_core_here : (limit u : ℕ) (c : body.Call) (a : Answer) (ns : List ℕ) �
 made_core_here limit u (call.EdtCreate from pc ps dc ds fl o) a ns within is = face_stays limit a.value (limit + u) (and_core limit a.value ns) (core_at limit a.value u ns within is)
 made_core_here limit u other a ns within is = cc is
 
+message_named : (limit : ℕ) (x : What) (p : ℕ) → is_within limit p ≡ true → is_brought_to x p ≡ true → IsAt p (message_footprint limit x)
+message_named limit (what.Satisfy e slot q) p within is = face_at limit e p [] within is
+message_named limit other p within is = cc is
+
 face_named : (limit : ℕ) (e : Entry) (p : ℕ) → is_within limit p ≡ true → on_face e p ≡ true → IsAt p (footprint_of limit e)
 face_named limit (Call t home c a w) p within is = either (is_wanted p (wanted c)) (is_creation c && (a.value == p)) is
     (λ here. wanted_here limit p (wanted c) _ within here)
     (λ new. wanted_stays limit p (wanted c) _ (made_face_here limit p c a _ within new))
+face_named limit (Deliver m c) p within is = message_named limit m.what p within is
 face_named limit (Acquire t d) p within is = either (t == p) (d == p) is (λ h. face_at limit t p _ within h) (λ h. face_stays limit t p _ (face_at limit d p _ within h))
 face_named limit (Wait t d) p within is = either (t == p) (d == p) is (λ h. face_at limit t p _ within h) (λ h. face_stays limit t p _ (face_at limit d p _ within h))
 face_named limit (StaleAcquire t d) p within is = either (t == p) (d == p) is (λ h. face_at limit t p _ within h) (λ h. face_stays limit t p _ (face_at limit d p _ within h))
@@ -266,6 +278,10 @@ pub call_few : (limit t : ℕ) (c : body.Call) (a : Answer) → length (wanted c
 call_few limit t c a few =
     let core = core_length limit t [] in let made = made_length limit c a (and_core limit t []) in let all = wanted_length limit (wanted c) (and_made limit c a (and_core limit t [])) in
     omega (arith, few, core, made, all)
+
+pub message_few : (limit : ℕ) (x : What) → length (message_footprint limit x) ≤ 1
+message_few limit (what.Satisfy e slot p) = let one = face_length limit e [] in omega (arith, one)
+message_few limit other = omega arith
 
 pub two_few : (limit t d : ℕ) → length (and_face limit t (and_face limit d (and_core limit t []))) ≤ 3
 two_few limit t d =

@@ -17,7 +17,7 @@ use Rattle.ocr_history.specs.declared.objects.TheConstants.{ARGUMENTS, MAIN_EDT}
 use Rattle.ocr_history.specs.Edts as edts
 use Rattle.ocr_history.specs.History.{History}
 use Rattle.ocr_history.specs.History as history
-use Rattle.ocr_history.specs.Made.{Made, MadeBlock, MadeTemplate, MadeEdt, depc_in, is_edt, is_edt_made, is_new, made, makes, opened}
+use Rattle.ocr_history.specs.Made.{Made, MadeEdt, depc_in, is_edt, is_edt_made, is_new, made, makes, opened}
 use Rattle.ocr_parts.specs.Calls as calls
 use Rattle.ocr_parts.specs.Calls.{depc_of, set_calls, set_step}
 use Rattle.ocr_parts.specs.Legal.{IsRun, IsLegal}

@@ -1,18 +1,25 @@
 -- What a clerk knows of every history that fits its view, and what it may enter.
-use Rattle.std.specs.Prelude.{◌≡◌, ◌≤◌, ℕ, List, [], ◌∷◌, ◌++◌, true, false, reverse}
+use Rattle.std.specs.Prelude.{◌≡◌, ◌<◌, ◌≤◌, ◌-◌, ◌^◌, ℕ, List, [], ◌∷◌, ◌++◌, true, false, reverse}
+use mathlib.Core.Option.{some}
+use lib.ListN.{get_elem?}
 use Rattle.ocr_acquire.specs.declared.Mode.{Mode}
 use Rattle.ocr_code.specs.Checked.{checked_tree}
 use Rattle.ocr_tree.specs.Runnable.{IsRunnable}
 use Rattle.ocr_history.specs.declared.entry.Entry.{Entry}
+use Rattle.ocr_history.specs.declared.entry.Entry.TheVariants.{Deliver}
+use Rattle.ocr_history.specs.declared.entry.Message.{Message}
 use Rattle.ocr_history.specs.declared.entry.What.{What}
+use Rattle.ocr_history.specs.declared.entry.What.TheVariants as what
 use Rattle.ocr_history.specs.History as history
 use Rattle.ocr_parts.specs.declared.part.Part.{Part}
 use Rattle.ocr_parts.specs.Effects.{changed}
 use Rattle.ocr_parts.specs.Footprint.{Covers}
+use Rattle.ocr_parts.specs.Kinds.{counted_on}
 use Rattle.ocr_parts.specs.Legal.{AreFacts, IsSaid, is_stop}
-use Rattle.ocr_parts.specs.LegalOn.{IsLegalOn}
+use Rattle.ocr_parts.specs.LegalOn.{IsLegalOn, IsSatisfiable, delivery_code}
 use Rattle.ocr_parts.specs.Messages.{sends}
-use Rattle.ocr_parts.specs.Taken.{has, keys, look, parts_in, seen}
+use Rattle.ocr_parts.specs.Parts.{parts_of}
+use Rattle.ocr_parts.specs.Taken.{face_in, has, is_within, keys, look, parts_in, seen}
 use Rattle.ocr_standing.specs.Kept.{IsPlanFor, kept_ready}
 use Rattle.ocr_turns.specs.Contract.{Legal}
 use Rattle.ocr_turns.specs.Meaning.{Open}
@@ -78,3 +85,52 @@ EntryLaw = (t : OcrTerms) (v : OcrView) (e : Entry) (members : List (ℕ × Mode
     (hand later : List (ℕ × Part)) (sent : List What) → is_stop e ≡ false
     → MayEnter t v e members hand → IsStep t.limit e members hand later sent
     → Legal meaning t v (deed meaning t.limit v e later sent)
+
+-- OWED SATISFACTIONS. The clerk owes a message that satisfies this event
+abbrev pub OwesSatisfaction : OcrView → ℕ → ℕ → ℕ → Type 0
+OwesSatisfaction v e slot payload = (k : ℕ) × (place : ℕ) × (index : ℕ)
+    × (get_elem? v.owed k ≡ some (place, index, what.Satisfy e slot payload))
+
+-- the event is an object, and has the slot
+pub record CanSatisfy (t : OcrTerms) (J : List Entry) (e slot : ℕ) : Type 0 where
+  pub within : is_within t.limit e ≡ true
+  pub satisfiable : IsSatisfiable slot ((parts_of (of_terms t) (reverse J)).face e)
+
+-- so it is after every history that fits the view
+abbrev pub KnowsSatisfiable : Type 0
+KnowsSatisfiable = (t : OcrTerms) (v : OcrView) (J : List Entry) (e slot payload : ℕ)
+    → OwesSatisfaction v e slot payload → Fits meaning t J v → CanSatisfy t J e slot
+
+-- and of the event as it is at hand
+abbrev pub HandSatisfiable : Type 0
+HandSatisfiable = (t : OcrTerms) (v : OcrView) (J : List Entry) (hand : List (ℕ × Part))
+    (e slot payload : ℕ) → OwesSatisfaction v e slot payload → Fits meaning t J v
+    → AreAtHand t.limit hand v.parts → has hand e ≡ true
+    → IsSatisfiable slot (face_in t.limit hand e)
+
+-- COUNTERS. Each event can be counted once more, after every history that fits the view
+abbrev pub KnowsCounted : Type 0
+KnowsCounted = (t : OcrTerms) (v : OcrView) (J : List Entry) (g : ℕ) → Fits meaning t J v
+    → counted_on ((parts_of (of_terms t) (reverse J)).face g) < 2 ^ 64 - 1
+
+-- and as it is at hand
+abbrev pub HandCounted : Type 0
+HandCounted = (t : OcrTerms) (v : OcrView) (J : List Entry) (hand : List (ℕ × Part)) (g : ℕ)
+    → Fits meaning t J v → AreAtHand t.limit hand v.parts
+    → counted_on (face_in t.limit hand g) < 2 ^ 64 - 1
+
+-- DELIVERIES. The clerk owes the message, which satisfies this event, and has the event's face
+pub record HasEvent (t : OcrTerms) (v : OcrView) (m : Message) (e slot payload : ℕ)
+    (hand : List (ℕ × Part)) : Type 0 where
+  pub runnable : IsRunnable (checked_tree t.setting.value.program)
+  pub owed : (k : ℕ) × (get_elem? v.owed k ≡ some (m.place, m.index, m.what))
+  pub brings : m.what ≡ what.Satisfy e slot payload
+  pub fitting : (J : List Entry) × Fits meaning t J v
+  pub at_hand : AreAtHand t.limit hand v.parts
+  pub here : has hand e ≡ true
+
+-- so it may enter the delivery, with the event's answer
+abbrev pub DeliverLaw : Type 0
+DeliverLaw = (t : OcrTerms) (v : OcrView) (m : Message) (e slot payload : ℕ)
+    (hand : List (ℕ × Part)) → HasEvent t v m e slot payload hand
+    → MayEnter t v (Deliver m (delivery_code (face_in t.limit hand e) payload)) [] hand

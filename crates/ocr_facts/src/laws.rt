@@ -1,7 +1,7 @@
 // The laws that a table of turns asks.
 ghost use Rattle.ocr_turns.specs.Counting.{CountingLaws};
 ghost use Rattle.ocr_turns.specs.Meaning.{Lawful};
-ghost use Rattle.ocr_facts.specs.Clerks.{EntryLaw};
+ghost use Rattle.ocr_facts.specs.Clerks.{DeliverLaw, EntryLaw, HandCounted, HandSatisfiable, KnowsCounted, KnowsSatisfiable};
 ghost use Rattle.ocr_facts.specs.Ocr.{meaning};
 
 /// The machine obeys the laws of the table of turns, and those of the words that count an EDT's
@@ -15,4 +15,18 @@ pub fn table_laws()
 /// the clerk knows, is legal after every history that fits the clerk's view.
 pub fn clerk_laws()
     ensures { EntryLaw }
+{}
+
+/// The event that a clerk owes a satisfaction is there and has the slot; so the clerk may enter the
+/// delivery once it has the event's face at hand.
+pub fn owing_laws()
+    ensures satisfiable { KnowsSatisfiable }
+    ensures at_hand { HandSatisfiable }
+    ensures deliver { DeliverLaw }
+{}
+
+/// Each event can be counted once more, and so it is of those at hand.
+pub fn counted_laws()
+    ensures counted { KnowsCounted }
+    ensures at_hand { HandCounted }
 {}

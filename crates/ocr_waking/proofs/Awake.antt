@@ -161,7 +161,7 @@ module _ (t : OcrTerms) (J : List Entry) (v : OcrView) (edt : ℕ) (fits : Fits 
   is_made = edt_made (made (of_terms t) past edt) set.slots (sym (slots_are t past edt run) ∙ set.made)
 
   face_slots : (slots : List Slot) × ((parts_of (of_terms t) past).face edt ≡ part.Edt slots)
-  face_slots = (slot.state_of is_made.2 (link_calls past edt), ap (λ (m : Option Made). face m (link_calls past edt) (block_calls (of_terms t) past edt) (event_calls past edt)) is_made.3)
+  face_slots = (slot.state_of is_made.2 (link_calls past edt), ap (λ (m : Option Made). face m (link_calls past edt) (block_calls (of_terms t) past edt) (event_calls (of_terms t) past edt)) is_made.3)
 
   its_core : (c : Core) × ((parts_of (of_terms t) past).core edt ≡ part.Core c)
   its_core = (_, ap (λ (m : Option Made). core m edt (edt_calls (of_terms t) past edt) (loans_of (of_terms t) past edt)) is_made.3)

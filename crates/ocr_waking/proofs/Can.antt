@@ -25,6 +25,7 @@ use Rattle.ocr_turns.specs.Steps.{deed}
 use Rattle.ocr_turns.specs.Sums.{HasAll, as_some, keys, one_at, weigh}
 use Rattle.ocr_clerks.specs.Entering.{CanMake, Hand, OcrKnown}
 use Rattle.ocr_clerks.specs.Work.{AtWork, HasAllAtHand, HasTakenOn, OcrTable, in_hand, ready_with}
+use Rattle.ocr_clerks.proofs.Counters.{CountNothing, none_counted}
 use Rattle.ocr_clerks.proofs.Hands.{in_hand_some, number_same, some_keys}
 use Rattle.ocr_waking.specs.Waking.{IsAble, IsLet, Meets, entry_by, two_faces}
 use Rattle.ocr_waking.specs.declared.acting.Act.{Act}
@@ -121,8 +122,13 @@ module _ (table : OcrTable) (p : Checked) (edt d : ℕ) (a : Act) (payloads plac
     ready = ready_by x;
     same_keys = refl;
     places = λ n. (sums n ∙ sym (touches_by x n), let k = ap (λ (l : List (ℕ × Part)). weigh (one_at n) l) m.kept in omega (arith, k));
+    counters = none_counted limit before (uncounted m.first);
   }
     where
+      uncounted : (b : Bool) → CountNothing ((limit + edt, part.Core m.core) ∷ two_faces b edt d m.slots m.state)
+      uncounted true = (refl, (refl, (refl, tt)))
+      uncounted false = (refl, (refl, (refl, tt)))
+
       goes : (x : Act) → is_stop (entry_by x edt d) ≡ false
       goes act.Acquire = refl
       goes act.Pass = refl

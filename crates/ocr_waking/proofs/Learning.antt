@@ -44,7 +44,7 @@ has_slot t v edt count k open_run within keeps lt = λ J knows.
     let s = of_terms t in let past = reverse J in
     let run = run_is t.setting.value t.limit J fits.run in
     let there : (parts_of s past).face edt ≡ part.Edt keeps.slots = face_is t J v keeps.place edt (part.Edt keeps.slots) fits within keeps.kept in
-    let many_is : slots_in (made s past edt) ≡ Some (length keeps.slots) = face_count (made s past edt) (link_calls past edt) (block_calls s past edt) (event_calls past edt) keeps.slots there in
+    let many_is : slots_in (made s past edt) ≡ Some (length keeps.slots) = face_count (made s past edt) (link_calls past edt) (block_calls s past edt) (event_calls s past edt) keeps.slots there in
     (length keeps.slots, slots_are t past edt run ∙ many_is, let c = keeps.count_is in omega (arith, c, lt))
 
 pub keeps_later : (u v : OcrView) (edt count : ℕ) → KeepsFace u edt count → Learns u v → KeepsFace v edt count

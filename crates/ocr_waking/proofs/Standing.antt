@@ -139,7 +139,7 @@ pub kept_slots : (t : OcrTerms) (J : List Entry) (v : OcrView) (k edt : ℕ) (x 
 kept_slots t J v k edt x fits within at set =
     let s = of_terms t in let past = reverse J in
     let run = run_is t.setting.value t.limit J fits.run in
-    let there = edt_face (made s past edt) (link_calls past edt) (block_calls s past edt) (event_calls past edt) set.slots (sym (slots_are t past edt run) ∙ set.made) in
+    let there = edt_face (made s past edt) (link_calls past edt) (block_calls s past edt) (event_calls s past edt) set.slots (sym (slots_are t past edt run) ∙ set.made) in
     (there.0, face_back x there.0 (sym (face_is t J v k edt x fits within at) ∙ there.1))
 
 -- BY WHAT IS KEPT
