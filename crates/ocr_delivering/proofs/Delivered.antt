@@ -1,13 +1,14 @@
 -- What a clerk is once it has entered a delivery, put the payload and counted the slot.
-use Rattle.std.proofs.Common.{◌≡◌, ℕ, zero, suc, ◌<◌, ◌≤◌, List, [], ◌∷◌, ◌++◌, length, Option, Some, Result, Ok, Err, OnOk, refl, ap, sym, ◌∙◌, subst, arith}
+use Rattle.std.proofs.Common.{◌≡◌, ℕ, zero, suc, ◌<◌, ◌≤◌, List, [], ◌∷◌, ◌++◌, length, Option, Result, Ok, Err, OnOk, refl, ap, sym, ◌∙◌, subst, arith}
 use Rattle.std.proofs.lemmas.List.{append-nil}
 use lib.ListN.{get_elem?}
 use Rattle.ocr_code.specs.declared.checked.Checked.{Checked}
+use Rattle.ocr_guid.specs.declared.Code.TheVariants as code
 use Rattle.ocr_history.specs.declared.entry.Entry.{Entry}
 use Rattle.ocr_history.specs.declared.entry.Message.{Message}
 use Rattle.ocr_history.specs.declared.entry.What.{What}
 use Rattle.ocr_history.specs.declared.entry.What.TheVariants as what
-use Rattle.ocr_mail.specs.Mail.{drop_one, tally, without}
+use Rattle.ocr_mail.specs.Mail.{drop_one, tally}
 use Rattle.ocr_parts.specs.declared.part.Part.{Part}
 use Rattle.ocr_parts.specs.Taken as taken
 use Rattle.ocr_facts.specs.Clerks.{OcrTerms, OcrView}
@@ -28,7 +29,9 @@ use Rattle.ocr_turns.proofs.Totals.{one_here}
 use Rattle.ocr_clerks.specs.Entering.{OcrKnown}
 use Rattle.ocr_clerks.specs.Work.{AtWork, EntersKept, IsIdle, OcrTable, Stays}
 use Rattle.ocr_clerks.proofs.Going.{Calm, stays_both, stays_still, work_still}
-use Rattle.ocr_delivering.specs.Delivering.{Delivers, Pushes, PushesIf, PushesReady, Settles, delivery_of, no_parts}
+use Rattle.ocr_standing.specs.Kept.{kept_ready}
+use Rattle.ocr_delivering.proofs.Owed.{sends_none}
+use Rattle.ocr_delivering.specs.Delivering.{Answers, Delivers, Pushes, PushesIf, PushesReady, SetsSlot, Settles, delivery_of, no_parts}
 
 -- A STEP on the words that count changes what is owed alone
 calm_debts : (v : OcrView) (d : Debts) → Calm v (record v { debts = d })
@@ -67,21 +70,25 @@ on_both (Err e) P Q S go p q = tt
 abbrev pub entered_view : OcrTerms → OcrView → ℕ → Message → OcrView
 entered_view t v n m = logged v n (deed meaning t.limit v (delivery_of m) [] [])
 
-pub entered_is : (t : OcrTerms) (old mid : OcrKnown) (m : Message) (it : EntersKept t old mid (delivery_of m) no_parts) → mid.view ≡ entered_view t old.view it.number m
-entered_is t old mid m it =
+pub entered_is : (t : OcrTerms) (old mid : OcrKnown) (m : Message) (it : EntersKept t old mid (delivery_of m) no_parts) → SetsSlot m.what → mid.view ≡ entered_view t old.view it.number m
+entered_is t old mid m it sets =
     let none = no_keys it.later it.step.same_keys in
+    let sent = it.step.sends_are ∙ sends_none m (kept_ready t.limit [] (delivery_of m) []) sets in
     it.view
     ∙ (ap (λ (ps : List (ℕ × Part)). logged old.view it.number (deed meaning t.limit old.view (delivery_of m) ps it.sent)) none
-    ∙ ap (λ (ms : List What). logged old.view it.number (deed meaning t.limit old.view (delivery_of m) [] ms)) it.step.sends_are)
+    ∙ ap (λ (ms : List What). logged old.view it.number (deed meaning t.limit old.view (delivery_of m) [] ms)) sent)
 
 entered_hand : (t : OcrTerms) (old mid : OcrKnown) (m : Message) → EntersKept t old mid (delivery_of m) no_parts → mid.parts ≡ []
 entered_hand t old mid m it = it.hand ∙ ap (λ (ps : List (ℕ × Part)). as_some ps) (no_keys it.later it.step.same_keys)
+
+set_it : (x : What) (edt slot payload : ℕ) → x ≡ what.Set edt slot payload → SetsSlot x
+set_it x edt slot payload is = subst SetsSlot (sym is) tt
 
 -- so the payload is owed, and nothing else is
 unput_is : (t : OcrTerms) (old mid : OcrKnown) (m : Message) (edt slot payload : ℕ) → IsIdle old → m.what ≡ what.Set edt slot payload → EntersKept t old mid (delivery_of m) no_parts
     → mid.view.debts.unput ≡ (edt, slot, payload) ∷ []
 unput_is t old mid m edt slot payload idle is it =
-    ap (λ (v : OcrView). v.debts.unput) (entered_is t old mid m it)
+    ap (λ (v : OcrView). v.debts.unput) (entered_is t old mid m it (set_it m.what edt slot payload is))
     ∙ (ap (λ (l : List (ℕ × ℕ × ℕ)). l ++ listed (set_by m.what)) idle.owes.unput
     ∙ ap (λ (x : What). listed (set_by x)) is)
 
@@ -139,16 +146,27 @@ ready_of (suc left) edt lasts old new before after is counted pushed = record {
   pushed = pushed ∙ ap (λ (l : List ℕ). record (own before) { pushed = l }) (sym (append-nil (own before).pushed));
 }
 
+-- nothing was counted, and nothing pushed
+pub pushes_none : (old new : OcrKnown) (h : Hand) → new.view.debts.lasts ≡ old.view.debts.lasts → PushesReady old new h h
+pushes_none old new h same = record {
+  ready = [];
+  counted = same ∙ sym (append-nil old.view.debts.lasts);
+  pushed = ap (λ (l : List ℕ). record (own h) { pushed = l }) (sym (append-nil (own h).pushed));
+}
+
 module _ (t : OcrTerms) (old mid new : OcrKnown) (m : Message) (edt slot payload : ℕ) (before after : Hand) (idle : IsIdle old) (sets : m.what ≡ what.Set edt slot payload)
     (it : EntersKept t old mid (delivery_of m) no_parts) (settled : Settles edt slot payload mid new before after) where
   view_is : new.view ≡ counting_down (putting (entered_view t old.view it.number m) edt slot payload) edt settled.left
-  view_is = settled.view ∙ ap (λ (v : OcrView). counting_down (putting v edt slot payload) edt settled.left) (entered_is t old mid m it)
+  view_is = settled.view ∙ ap (λ (v : OcrView). counting_down (putting v edt slot payload) edt settled.left) (entered_is t old mid m it (set_it m.what edt slot payload sets))
 
-  pub delivers : Delivers m old new
+  pub delivers : Delivers t m old new
   delivers = record {
     number = it.number;
+    answer = code.Done;
+    sent = [];
+    answers = subst (λ (x : What). Answers t old.view x code.Done []) (sym sets) (refl, refl);
     log = ap (λ (v : OcrView). v.log) view_is;
-    owed = ap (λ (v : OcrView). v.owed) view_is ∙ append-nil (without (Some (m.place, m.index)) old.view.owed);
+    owed = ap (λ (v : OcrView). v.owed) view_is;
     facts = ap (λ (v : OcrView). v.facts) view_is ∙ append-nil old.view.facts;
   }
 

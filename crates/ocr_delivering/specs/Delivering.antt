@@ -1,19 +1,27 @@
 -- What a delivery of a worker is, and what it leaves.
-use Rattle.std.specs.Prelude.{◌≡◌, ℕ, zero, suc, List, [], ◌∷◌, ◌++◌, Some}
+use Rattle.std.specs.Prelude.{◌≡◌, ℕ, zero, suc, List, [], ◌∷◌, ◌++◌, if◌then◌else◌, reverse, Some}
 use mathlib.Core.Option.{some}
 use lib.ListN.{get_elem?}
+use Rattle.ocr_guid.specs.declared.Code.{Code}
 use Rattle.ocr_guid.specs.declared.Code.TheVariants as code
+use Rattle.ocr_meaning.specs.Holds.{is_done}
 use Rattle.ocr_history.specs.declared.entry.Entry.{Entry}
 use Rattle.ocr_history.specs.declared.entry.Entry.TheVariants.{Deliver}
 use Rattle.ocr_history.specs.declared.entry.Message.{Message}
 use Rattle.ocr_history.specs.declared.entry.What.{What}
 use Rattle.ocr_history.specs.declared.entry.What.TheVariants as what
-use Rattle.ocr_mail.specs.Mail.{without}
+use Rattle.ocr_mail.specs.Mail.{named, without}
+use Rattle.ocr_parts.specs.declared.part.Part.{Part}
+use Rattle.ocr_parts.specs.LegalOn.{IsSatisfiable, delivery_code}
+use Rattle.ocr_parts.specs.Messages.{satisfied}
+use Rattle.ocr_parts.specs.Parts.{parts_of}
 use Rattle.ocr_steal.specs.declared.hand.Hand.{Hand}
 use Rattle.ocr_steal.specs.Hand.{own}
 use Rattle.ocr_turns.specs.Contract.{SameHand}
+use Rattle.ocr_turns.specs.Rule.{Fits}
 use Rattle.ocr_turns.specs.Words.{counting_down, putting}
-use Rattle.ocr_facts.specs.Clerks.{OcrView}
+use Rattle.ocr_facts.specs.Clerks.{OcrTerms, OcrView, OwesSatisfaction, of_terms}
+use Rattle.ocr_facts.specs.Ocr.{meaning}
 use Rattle.ocr_clerks.specs.Entering as entering
 use Rattle.ocr_clerks.specs.Entering.{OcrKnown}
 
@@ -30,19 +38,48 @@ abbrev pub SetsSlot : What → Type 0
 SetsSlot (what.Set edt slot payload) = Unit {0}
 SetsSlot other = ⊥
 
--- THE DELIVERY, which names no part
+-- or satisfies an event
+abbrev pub SatisfiesEvent : What → Type 0
+SatisfiesEvent (what.Satisfy event slot payload) = Unit {0}
+SatisfiesEvent other = ⊥
+
+-- some message that the clerk owes satisfies this event
+abbrev pub OwesTo : ℕ → OcrView → Type 0
+OwesTo event v = (slot : ℕ) × (payload : ℕ) × OwesSatisfaction v event slot payload
+
+-- THE DELIVERY of what is set, which names no part
 abbrev pub delivery_of : Message → Entry
 delivery_of m = Deliver m code.Done
 
 abbrev pub no_parts : entering.Hand
 no_parts = record { members = []; parts = [] }
 
--- It is the clerk's newest entry. The clerk owes the message no more, and every other as
--- it did; it knows no fact more.
-pub record Delivers (m : Message) (old new : OcrKnown) : Type 0 where
+-- a satisfaction is answered so by the event of this face, which sends these messages
+pub record IsAnswered (face : Part) (slot payload : ℕ) (answer : Code) (sent : List What) : Type 0
+  where
+    pub has_slot : IsSatisfiable slot face
+    pub code : answer ≡ delivery_code face payload
+    pub sends : sent ≡ (if is_done answer then satisfied face slot payload else [])
+
+-- What a delivery is answered and sends: nothing is sent by a slot that is set; an event answers by
+-- its face after a history that the view fits.
+abbrev pub Answers : OcrTerms → OcrView → What → Code → List What → Type 0
+Answers t v (what.Set edt slot payload) answer sent = (answer ≡ code.Done) × (sent ≡ [])
+Answers t v (what.Satisfy event slot payload) answer sent =
+    (J : List Entry) × Fits meaning t J v
+    × IsAnswered ((parts_of (of_terms t) (reverse J)).face event) slot payload answer sent
+Answers t v other answer sent = ⊥
+
+-- It is the clerk's newest entry. The clerk owes the message no more, every other as it did, and
+-- what the delivery sends; it knows no fact more.
+pub record Delivers (t : OcrTerms) (m : Message) (old new : OcrKnown) : Type 0 where
   pub number : ℕ
-  pub log : new.view.log ≡ old.view.log ++ (number, delivery_of m) ∷ []
-  pub owed : new.view.owed ≡ without (Some (m.place, m.index)) old.view.owed
+  pub answer : Code
+  pub sent : List What
+  pub answers : Answers t old.view m.what answer sent
+  pub log : new.view.log ≡ old.view.log ++ (number, Deliver m answer) ∷ []
+  pub owed : new.view.owed
+      ≡ without (Some (m.place, m.index)) old.view.owed ++ named number 0 sent
   pub facts : new.view.facts ≡ old.view.facts
 
 -- THE READY. The hand pushed this EDT and nothing else

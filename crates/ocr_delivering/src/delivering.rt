@@ -7,6 +7,7 @@ ghost use Rattle.ocr_clerks.specs.Work.{AtWork, EntersKept, IsGone, IsIdle, Stay
 ghost use Rattle.ocr_delivering.specs.Delivering.{Delivers, IsFirstOwed, IsOwed, PushesReady, SetsSlot, Settles, delivery_of, no_parts};
 
 use crate::pushing::push_ready;
+use crate::satisfying::deliver_satisfaction;
 use ocr_clerks::{Gate, Job, Ocr, Over, enter_kept};
 use ocr_count::{Down, count_down, put_payload};
 use ocr_guid::{Code, Guid};
@@ -38,7 +39,7 @@ pub fn deliver_set<R: Wait, G: Gate>(
         × (misses_of hand.new ≡ misses_of hand.old) }
     ensures work { OnOk result (AtWork job.now.turns.now job.now.program.now clerk.new) }
     ensures idle { OnOk result (IsIdle clerk.new) }
-    ensures delivered { OnOk result (Delivers message clerk.old clerk.new) }
+    ensures delivered { OnOk result (Delivers job.now.turns.now.1 message clerk.old clerk.new) }
     ensures pushed { OnOk result (PushesReady clerk.old clerk.new hand.old hand.new) }
     ensures gone { OnErr result (IsGone job.now.turns.now worker clerk.new) }
 {
@@ -102,7 +103,8 @@ fn settle<R: Wait, G: Gate>(
     }
 }
 
-/// Delivers the first message that the clerk owes. It answers as `deliver_set` does.
+/// Delivers the first message that the clerk owes. It answers as `deliver_set` and
+/// `deliver_satisfaction` do.
 pub fn deliver_owed<R: Wait, G: Gate>(
     alloc: Global,
     job: &Job<R, G>,
@@ -119,15 +121,16 @@ pub fn deliver_owed<R: Wait, G: Gate>(
     ensures work { OnOk result (AtWork job.now.turns.now job.now.program.now clerk.new) }
     ensures idle { OnOk result (IsIdle clerk.new) }
     ensures delivered { OnOk result ((m : Message) × IsFirstOwed m clerk.old.view
-        × Delivers m clerk.old clerk.new) }
+        × Delivers job.now.turns.now.1 m clerk.old clerk.new) }
     ensures pushed { OnOk result (PushesReady clerk.old clerk.new hand.old hand.new) }
     ensures gone { OnErr result (IsGone job.now.turns.now worker clerk.new) }
 {
     let message = first_owed(clerk);
     match message.what {
         What::Set { .. } => deliver_set(alloc, job, worker, clerk, hand, message),
-        // No entry sends another message.
-        _ => match job.turns.look(clerk) {
+        What::Satisfy { .. } => deliver_satisfaction(alloc, job, worker, clerk, message),
+        // No entry sends it.
+        What::Leave { .. } => match job.turns.look(clerk) {
             Some(word) => Err(Over(word)),
             None => unreachable!(),
         },

@@ -41,6 +41,7 @@ fits_first : (t : OcrTerms) (J : List Entry) (v : OcrView) (edt : ℕ) (core : C
 fits_first t J v edt core rest claims within awake is f = record {
   limits = f.limits;
   run = f.run;
+  few = f.few;
   log = f.log;
   joined = f.joined;
   distinct = λ p. (let d = f.distinct p in let e = ap (λ (ps : List (ℕ × Part)). weigh (one_at p) ps) is in omega (arith, d, e));

@@ -33,6 +33,7 @@ use Rattle.ocr_turns.proofs.Numbered.{weigh_keys}
 use Rattle.ocr_turns.proofs.Totals.{one_here}
 use Rattle.ocr_facts.specs.Clerks.{AreAtHand, OcrTerms, OcrView, of_terms}
 use Rattle.ocr_facts.specs.Ocr.{makes, meaning, touches, wakes}
+use Rattle.ocr_facts.proofs.Owed.{hand_counted}
 use Rattle.ocr_facts.proofs.Places.{named_place, places_good, within_is}
 use Rattle.ocr_facts.proofs.Slots.{number_same}
 use Rattle.ocr_clerks.specs.Entering.{CanMake, OcrKnown}
@@ -277,6 +278,7 @@ module _ (table : OcrTable) (program : Checked) (edt : ℕ) (b : Body) (old new 
       waits = λ n p never. cc never;
       resumes = λ n some. ap (times n) (ap (λ (v : OcrView). v.claims) lift.view ∙ runs.taken.claims) ∙ not_claimed n edt (wakes table.1.limit (Call edt 0 c a w) new.view.parts) resumed_apart some;
     };
+    counters = λ g. hand_counted table.1 new.view fits.0 ps g fits.1 at_hand;
     may = call_may table.1 new.view edt b ps (runnable_in table program new work) serves at_hand c a private w covers legal next_now writes;
     ready = refl;
     same_keys = refl;

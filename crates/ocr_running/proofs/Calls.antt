@@ -40,10 +40,6 @@ pub built_coded : (c : body.Call) → IsBuilt c → is_access c ≡ false → Is
 built_coded (call.EdtCreate from pc ps dc ds fl output) built plain = built
 built_coded (call.Load d k) built plain = cc plain
 built_coded (call.Store d k v) built plain = cc plain
-built_coded (call.EventCreate kind fl) built plain = absurd built
-built_coded (call.EventCreateParams kind fl gen sat deps) built plain = absurd built
-built_coded (call.EventDestroy e) built plain = absurd built
-built_coded (call.Satisfy e p k) built plain = absurd built
 built_coded call.Shutdown built plain = absurd built
 built_coded (call.Abort c) built plain = absurd built
 built_coded other built plain = tt
@@ -95,6 +91,10 @@ module _ (t : OcrTerms) (v : OcrView) (J : List Entry) (fits : Fits meaning t J 
   answers edt (call.DbDestroy d) a coded is answer = answer.number refl
   answers edt (call.TemplateDestroy x) a coded is answer = answer.number refl
   answers edt (call.AddDependence from x i m) a coded is answer = answer.number refl
+  answers edt (call.EventCreate k fl) a coded is answer = named (call.EventCreate k fl) a refl answer
+  answers edt (call.EventCreateParams k fl most sats deps) a coded is answer = named (call.EventCreateParams k fl most sats deps) a refl answer
+  answers edt (call.EventDestroy e) a coded is answer = answer.number refl
+  answers edt (call.Satisfy e p slot) a coded is answer = answer.number refl
   answers edt other a coded is answer = absurd coded
 
   -- LEGAL on the parts at hand

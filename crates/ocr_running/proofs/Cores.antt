@@ -1,5 +1,5 @@
 -- The core of a running EDT after its entries, and the list of parts that has it first.
-use Rattle.std.proofs.Common.{◌≡◌, ℕ, ◌+◌, ◌/◌, Bool, true, false, ◌==◌, if◌then◌else◌, List, [], ◌∷◌, is_some, refl, ap, sym, ◌∙◌, subst}
+use Rattle.std.proofs.Common.{◌≡◌, ℕ, ◌+◌, ◌/◌, Bool, true, false, not, ◌==◌, if◌then◌else◌, List, [], ◌∷◌, is_some, refl, ap, sym, ◌∙◌, subst}
 use Rattle.std.proofs.lemmas.Bool.{eqb-true}
 use Rattle.ocr_edt.specs.declared.Edt.{Edt}
 use Rattle.ocr_edt.specs.declared.Edt.TheVariants as phase
@@ -17,6 +17,7 @@ use Rattle.ocr_parts.specs.Kinds.{is_running, on_core, work_in}
 use Rattle.ocr_parts.specs.LegalOn.{IsCallOn}
 use Rattle.ocr_parts.specs.Parts.{Parts}
 use Rattle.ocr_parts.specs.Taken.{as_core, has, is_within, keys, look, parts_in}
+use Rattle.ocr_parts.proofs.After.{deps_core, linked_core}
 use Rattle.ocr_parts.proofs.Held.{holds_law}
 use Rattle.ocr_facts.proofs.Slots.{number_same}
 use Rattle.ocr_running.specs.Serving.{holds_in}
@@ -54,7 +55,8 @@ pub call_runs : (limit : ℕ) (f : Parts) (t home : ℕ) (c : body.Call) (a : An
 call_runs limit f t home (call.DbCreate n fl) a w legal = done_or (is_done a.code) f (called t (call.DbCreate n fl) a w f) t legal.running (λ _. rw (number_same t) (creating_runs (f.core t) fl a.value (n / 8) legal.running))
 call_runs limit f t home (call.DbRelease d) a w legal = done_or (is_done a.code) f (called t (call.DbRelease d) a w f) t legal.running (λ _. rw (number_same t) (dropping_runs (f.core t) d legal.running))
 call_runs limit f t home (call.DbDestroy d) a w legal = done_or (is_done a.code) f (called t (call.DbDestroy d) a w f) t legal.running (λ _. rw (number_same t) (dropping_runs (f.core t) d legal.running))
-call_runs limit f t home (call.EdtCreate from pc ps dc ds fl o) a w legal = done_or (is_done a.code) f (called t (call.EdtCreate from pc ps dc ds fl o) a w f) t legal.running (λ done. rw (apart f a.value t (legal.value.no_core done) legal.running) legal.running)
+call_runs limit f t home (call.EdtCreate from pc ps dc ds fl o) a w legal = done_or (is_done a.code) f (called t (call.EdtCreate from pc ps dc ds fl o) a w f) t legal.running (λ done. ap is_running (deps_core a.value 0 ds _ t) ∙ rw (apart f a.value t (legal.value.no_core done) legal.running) legal.running)
+call_runs limit f t home (call.AddDependence from x i m) a w legal = done_or (is_done a.code) f (called t (call.AddDependence from x i m) a w f) t legal.running (λ _. ap is_running (linked_core (not (from == 0)) from _ _ t) ∙ legal.running)
 call_runs limit f t home other a w legal = done_or (is_done a.code) f (called t other a w f) t legal.running (λ _. legal.running)
 
 pub free_runs : (f : Parts) (t d : ℕ) (w : List (ℕ × ℕ)) → is_running (f.core t) ≡ true → is_running ((changed (Free t d w) f).core t) ≡ true

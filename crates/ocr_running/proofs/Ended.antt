@@ -21,6 +21,7 @@ use Rattle.ocr_turns.proofs.Numbered.{weigh_keys}
 use Rattle.ocr_turns.proofs.Totals.{one_here}
 use Rattle.ocr_facts.specs.Clerks.{AreAtHand, OcrView}
 use Rattle.ocr_facts.specs.Ocr.{ends, meaning, starts, touches}
+use Rattle.ocr_facts.proofs.Owed.{hand_counted}
 use Rattle.ocr_facts.proofs.Places.{named_place, places_good}
 use Rattle.ocr_facts.proofs.Slots.{number_same}
 use Rattle.ocr_clerks.specs.Entering.{CanMake, Hand, OcrKnown}
@@ -119,6 +120,7 @@ module _ (table : OcrTable) (program : Checked) (edt g : ℕ) (b : Body) (holds 
           waits = λ n p never. cc never;
           resumes = λ n none. absurd (omega (arith, none));
         };
+        counters = λ g. hand_counted table.1 c.view fits.0 ps g fits.1 at_hand;
         may = end_may table.1 c.view edt b ps (runnable_in table program c work) serves at_hand g holds covers (end_legal table.1 c.view fits.0 fits.1 edt took.core took.taken within took.is.running g none_held) says_now;
         ready = refl;
         same_keys = refl;

@@ -38,6 +38,7 @@ use Rattle.ocr_turns.specs.Rule.{FactsOf, Fits}
 use Rattle.ocr_facts.specs.Clerks.{AreAtHand, MayEnter, OcrTerms, OcrView, of_terms}
 use Rattle.ocr_facts.specs.Ocr.{meaning, wakes}
 use Rattle.ocr_facts.specs.declared.fact.Fact.{Fact}
+use Rattle.ocr_facts.proofs.Entered.{settled_resumes}
 use Rattle.ocr_facts.proofs.Queues.{doomed, released}
 use Rattle.ocr_facts.proofs.Waits.{end_idle}
 use Rattle.ocr_running.specs.Serving.{Serves, own_log}
@@ -114,16 +115,6 @@ module _ (t : OcrTerms) (v : OcrView) (J : List Entry) (fits : Fits meaning t J 
       record { running = rw is running; nothing_held = rw is none }
 
 -- WHO IS RESUMED by an entry is not its EDT, which runs
-settled_resumes : (e : Entry) (f : Parts) → resumes e (settled_parts f) ≡ resumes e f
-settled_resumes (Call t home c a w) f = call_same c
-  where
-    call_same : (c : body.Call) → resumes (Call t home c a w) (settled_parts f) ≡ resumes (Call t home c a w) f
-    call_same (call.DbRelease d) = refl
-    call_same (call.DbDestroy d) = refl
-    call_same other = refl
-settled_resumes (Free t d w) f = refl
-settled_resumes other f = refl
-
 pub wakes_are : (t : OcrTerms) (v : OcrView) (J : List Entry) (e : Entry) (hand : List (ℕ × Part)) → Fits meaning t J v → AreAtHand t.limit hand v.parts → Covers t.limit e hand → resumes e (parts_of (of_terms t) (reverse J)) ≡ wakes t.limit e hand
 wakes_are t v J e hand fits at_hand covers =
     (effect_law e (parts_of (of_terms t) (reverse J)) (settled_parts (parts_in t.limit hand)) (hand_alike t v J fits hand e at_hand covers)).2 ∙ settled_resumes e (parts_in t.limit hand)

@@ -23,7 +23,8 @@ use Rattle.ocr_history.specs.declared.entry.Entry.TheVariants.{Call}
 use Rattle.ocr_parts.specs.declared.part.Core.{Core}
 use Rattle.ocr_parts.specs.declared.part.Part.{Part}
 use Rattle.ocr_parts.specs.declared.part.Part.TheVariants as part
-use Rattle.ocr_parts.specs.Codes.{Sort, Source, code_of, counted_code, creation_code, is_named, wanted, wanted_source, wanted_sources}
+use Rattle.ocr_parts.specs.Codes.{ABlock, Sort, Source, code_of, counted_code, creation_code, wanted, wanted_payload, wanted_source, wanted_sources}
+use Rattle.ocr_parts.specs.Calls.{is_object}
 use Rattle.ocr_parts.specs.Effects.{settled_core}
 use Rattle.ocr_parts.specs.Footprint.{Covers}
 use Rattle.ocr_parts.specs.Kinds.{work_in}
@@ -45,20 +46,25 @@ use Rattle.ocr_running.proofs.Calls.{next_of}
 -- FEW PARTS are named by a call of a program that may be run
 sources_few : (ds : List ℕ) → length (wanted_sources ds) ≤ length ds
 sources_few [] = omega arith
-sources_few (d ∷ ds) = elim (is_named d) as (λ b. length (if b then (d, Source) ∷ wanted_sources ds else wanted_sources ds) ≤ length (d ∷ ds)) [
+sources_few (d ∷ ds) = elim (is_object d) as (λ b. length (if b then (d, Source) ∷ wanted_sources ds else wanted_sources ds) ≤ length (d ∷ ds)) [
   | true ↦ let r = sources_few ds in omega (arith, r)
   | false ↦ let r = sources_few ds in omega (arith, r)
 ]
 
-abbrev source_if : Bool → ℕ → List (ℕ × Sort)
-source_if b d = if b then [] else (d, Source) ∷ []
+none_or_one : (b : Bool) (x : ℕ × Sort) → length (if b then [] else x ∷ []) ≤ 1
+none_or_one true x = omega arith
+none_or_one false x = omega arith
 
 source_few : (d : ℕ) → length (wanted_source d) ≤ 1
-source_few d = elim (d == 0) as (λ b. length (source_if b d) ≤ 1) [ true ↦ omega arith | false ↦ omega arith ]
+source_few d = none_or_one (d == 0) (d, Source)
+
+payload_few : (p : ℕ) → length (wanted_payload p) ≤ 1
+payload_few p = none_or_one (p == 0) (p, ABlock)
 
 served_few : (functions : ℕ) (c : body.Call) → IsServed functions c → length (wanted c) ≤ 33
 served_few functions (call.EdtCreate from pc ps dc ds fl o) served = let few = served.1 in let r = sources_few ds in omega (arith, few, r)
 served_few functions (call.AddDependence from x i m) served = let r = source_few from in omega (arith, r)
+served_few functions (call.Satisfy e p slot) served = let r = payload_few p in omega (arith, r)
 served_few functions other served = omega arith
 
 pub call_few : (table : OcrTable) (program : Checked) (c : OcrKnown) (edt : ℕ) (b : Body) (made : body.Call) (private : List (ℕ × ℕ)) → AtWork table program c → Runs table.1 edt b c → IsNextWith made private (says b (own_log c.view.log edt)) → length (wanted made) ≤ 33

@@ -30,6 +30,7 @@ fits_debts : (t : OcrTerms) (J : List Entry) (v : OcrView) (d : Debts) → Fits 
 fits_debts t J v d f = record {
   limits = f.limits;
   run = f.run;
+  few = f.few;
   log = f.log;
   joined = f.joined;
   distinct = f.distinct;

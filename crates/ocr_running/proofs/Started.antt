@@ -33,6 +33,7 @@ use Rattle.ocr_facts.proofs.Places.{named_place, within_is}
 use Rattle.ocr_facts.proofs.Slots.{number_same}
 use Rattle.ocr_clerks.specs.Entering.{CanMake, Hand, OcrKnown}
 use Rattle.ocr_clerks.specs.Work.{AtWork, CanRun, EntersKept, HasAllAtHand, OcrTable, RunsOnly, in_hand, ready_with}
+use Rattle.ocr_clerks.proofs.Counters.{none_counted}
 use Rattle.ocr_running.specs.Running.{HasEntered, IsBegun, first_in, hand_at, slots_in}
 use Rattle.ocr_running.specs.Serving.{IsKnown, Serves, own_log}
 use Rattle.ocr_running.proofs.Called.{runnable_in}
@@ -138,6 +139,7 @@ module _ (table : OcrTable) (program : Checked) (edt : ℕ) (payloads : List ℕ
       waits = λ n p never. cc never;
       resumes = λ n none. absurd (omega (arith, none));
     };
+    counters = none_counted table.1.limit (kept_pair table.1.limit edt can.core can.slots) (refl, (refl, tt));
     may = start_may table.1 c.view edt can.core can.slots payloads can.taken.number can.kept can.count can.facts work.limits.0 (runnable_in table program c work) can.acquiring can.through;
     ready = ap (parts_in table.1.limit) hand_is ∙ ready_pair table.1.limit edt can.taken.number can.core can.slots (plan_from can.slots payloads);
     same_keys = ap keys hand_is;

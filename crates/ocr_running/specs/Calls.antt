@@ -17,10 +17,6 @@ use Rattle.ocr_facts.specs.Clerks.{OcrView}
 abbrev pub IsCoded : body.Call → Type 0
 IsCoded (call.Load d k) = ⊥
 IsCoded (call.Store d k v) = ⊥
-IsCoded (call.EventCreate kind fl) = ⊥
-IsCoded (call.EventCreateParams kind fl gen sat deps) = ⊥
-IsCoded (call.EventDestroy e) = ⊥
-IsCoded (call.Satisfy e p k) = ⊥
 IsCoded call.Shutdown = ⊥
 IsCoded (call.Abort c) = ⊥
 IsCoded (call.EdtCreate from pc ps dc ds fl output) = output ≡ false

@@ -37,6 +37,7 @@ use Rattle.ocr_turns.proofs.Numbered.{weigh_keys}
 use Rattle.ocr_turns.proofs.Totals.{one_here}
 use Rattle.ocr_facts.specs.Clerks.{AreAtHand, OcrView, of_terms}
 use Rattle.ocr_facts.specs.Ocr.{ends, meaning, starts, touches, wakes}
+use Rattle.ocr_facts.proofs.Owed.{hand_counted}
 use Rattle.ocr_facts.proofs.Places.{named_place, within_is}
 use Rattle.ocr_facts.proofs.Slots.{number_same}
 use Rattle.ocr_clerks.specs.Entering.{CanMake, Hand, OcrKnown}
@@ -190,6 +191,7 @@ module _ (table : OcrTable) (program : Checked) (edt d : ℕ) (w : List (ℕ × 
       ready = refl;
       same_keys = refl;
       places = λ p. (same_places table.1.limit (Free edt d w) ps at_hand.once there back p, (let same = weigh_keys (one_at p) ps c.view.parts (sym (ap keys view_parts)) in omega (arith, same)));
+      counters = λ p. hand_counted table.1 c.view fits.0 ps p fits.1 at_hand;
     }
 
     pub can_free : CanMake table.1 c.view (Free edt d w) hand (in_hand c.parts)
