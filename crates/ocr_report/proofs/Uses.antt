@@ -5,7 +5,7 @@ use Rattle.ocr_history.specs.declared.entry.Entry.{Entry}
 use Rattle.ocr_history.specs.declared.entry.Entry.TheVariants as an
 use Rattle.ocr_history.specs.History.{History, history_of}
 use Rattle.ocr_journal.specs.Phrase.{Text, phrase}
-use Rattle.ocr_report.specs.Destroyed.{is_destroyed, is_victim, victim_in}
+use Rattle.ocr_report.specs.Destroyed.{is_destroyed, is_victim, victim_in, was_destroyed}
 use Rattle.ocr_report.specs.Stale.{stale_line, stale_lines, first_stale, objects_of}
 use Rattle.ocr_history.specs.Stale.{is_stale}
 
@@ -36,6 +36,6 @@ pub lines_next : (past : History) (e : Entry) (f : ℕ → Bool) (old new : Text
 lines_next past e f old new same is made =
     made ∙ ap (λ (x : Text). x ++ stale_line f e) is ∙ ap (λ (x : Text). stale_lines past ++ x) (line_same f (is_destroyed past) same e)
 
-pub destroyed_next : (past : History) (e : Entry) (f g : ℕ → Bool) → ((n : ℕ) → f n ≡ is_destroyed past n)
-    → ((n : ℕ) → g n ≡ (is_victim (victim_in e) n || f n)) → (n : ℕ) → g n ≡ is_destroyed (e ∷ past) n
+pub destroyed_next : (past : History) (e : Entry) (f g : ℕ → Bool) → ((n : ℕ) → f n ≡ was_destroyed past n)
+    → ((n : ℕ) → g n ≡ (is_victim (victim_in e) n || f n)) → (n : ℕ) → g n ≡ was_destroyed (e ∷ past) n
 destroyed_next past e f g same made n = made n ∙ ap (λ b. is_victim (victim_in e) n || b) (same n)

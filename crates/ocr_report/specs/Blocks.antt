@@ -13,7 +13,7 @@ use Rattle.ocr_history.specs.declared.entry.Entry.TheVariants as an
 use Rattle.ocr_history.specs.History.{History, Setting}
 use Rattle.ocr_history.specs.Made.{made, size_in}
 use Rattle.ocr_journal.specs.Phrase.{Text, phrase}
-use Rattle.ocr_report.specs.Destroyed.{is_destroyed}
+use Rattle.ocr_report.specs.Destroyed.{was_destroyed}
 use Rattle.ocr_report.specs.Edts.{kept_if}
 use Rattle.ocr_report.specs.Headed.{headed}
 use Rattle.ocr_report.specs.Lists.{list_at}
@@ -81,4 +81,4 @@ size_of s past d = size_in (made s past d)
 abbrev pub blocks_text : Setting → History → Text
 blocks_text s past =
     headed (codes "blocks") (length (made_blocks past))
-    (block_lines (size_of s past) (is_destroyed past) (holders past) (made_blocks past))
+    (block_lines (size_of s past) (was_destroyed past) (holders past) (made_blocks past))

@@ -1,4 +1,4 @@
--- The objects that a call has destroyed.
+-- The objects that are destroyed: by a call, or by firing.
 use Rattle.std.specs.Prelude.{ℕ, [], ◌∷◌, Bool, false, ◌||◌, ◌==◌, if◌then◌else◌, Option, Some, None}
 use Rattle.ocr_meaning.specs.Holds.{is_done}
 use Rattle.ocr_meaning.specs.declared.call.Call as body
@@ -6,6 +6,7 @@ use Rattle.ocr_meaning.specs.declared.call.Call.TheVariants as call
 use Rattle.ocr_history.specs.declared.entry.Entry.{Entry}
 use Rattle.ocr_history.specs.declared.entry.Entry.TheVariants as an
 use Rattle.ocr_history.specs.History.{History}
+use Rattle.ocr_report.specs.Fired.{was_fired}
 
 -- the object that a call is to destroy
 abbrev pub victim_of : body.Call → Option ℕ
@@ -23,6 +24,9 @@ abbrev pub is_victim : Option ℕ → ℕ → Bool
 is_victim None g = false
 is_victim (Some n) g = n == g
 
+abbrev pub was_destroyed : History → ℕ → Bool
+was_destroyed [] g = false
+was_destroyed (e ∷ past) g = is_victim (victim_in e) g || was_destroyed past g
+
 abbrev pub is_destroyed : History → ℕ → Bool
-is_destroyed [] g = false
-is_destroyed (e ∷ past) g = is_victim (victim_in e) g || is_destroyed past g
+is_destroyed past g = was_destroyed past g || was_fired past g

@@ -1,6 +1,8 @@
 pub mod Blocks
 pub mod Destroyed
 pub mod Edts
+pub mod Ends
+pub mod Fired
 pub mod Headed
 pub mod Left
 pub mod Lists
@@ -11,3 +13,4 @@ pub mod Sizes
 pub mod Slots
 pub mod Stale
 pub mod Summary
+pub mod Tallies

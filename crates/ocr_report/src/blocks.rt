@@ -7,7 +7,7 @@ ghost use Rattle.ocr_report.specs.Blocks as spec;
 ghost use Rattle.ocr_report.specs.Lists.{list_at};
 ghost use Rattle.ocr_report.specs.Sizes as size;
 
-use crate::destroyed::destroyed;
+use crate::destroyed::victims;
 use crate::edts::place;
 use crate::headed::{headed, line};
 use crate::holders::holders;
@@ -102,7 +102,7 @@ pub fn blocks_text(alloc: Global, journal: &Journal, args: &[u64]) -> Result<Vec
     let made = blocks(alloc, entries)?;
     let blocks = made.as_slice();
     let sizes = sizes(alloc, args, entries)?;
-    let destroyed = destroyed(alloc, entries)?;
+    let destroyed = victims(alloc, entries)?;
     let holders = holders(alloc, entries)?;
     let lines = block_lines(alloc, &sizes, &destroyed, &holders, blocks)?;
     let text = headed(alloc, b"blocks", blocks.len() as u64, &lines)?;

@@ -1,17 +1,22 @@
-// The objects that a call has destroyed.
-ghost use Rattle.std.specs.Prelude.{◌≡◌, ◌||◌, ◌==◌, ℕ, OnOk, IfOk};
+// The objects that are destroyed: by a call, or by firing.
+ghost use Rattle.std.specs.Prelude.{◌≡◌, ◌||◌, ◌==◌, [], ◌∷◌, ℕ, OnOk, IfOk};
 ghost use Rattle.std.specs.Ordering.{nat_cmp};
+ghost use Rattle.std.specs.BTreeMap as map;
 ghost use Rattle.std.specs.BTreeSet as set;
+ghost use Rattle.ocr_history.specs.History as history;
 ghost use Rattle.ocr_history.specs.History.{history_of};
 ghost use Rattle.ocr_report.specs.Destroyed as spec;
+ghost use Rattle.ocr_report.specs.Ends as end;
+ghost use Rattle.ocr_report.specs.Tallies as tally;
 
 use crate::edts::add;
+use crate::tallies::{Kinds, Tallies, is_fired, note_kind, note_satisfaction};
 use ocr_base::NoMemory;
 use ocr_guid::Code;
 use ocr_history::Entry;
 use ocr_meaning::{Answer, Call};
 use std::alloc::Global;
-use std::collections::BTreeSet;
+use std::collections::{BTreeMap, BTreeSet};
 
 // The object that a call is to destroy.
 fn victim_of(call: &Call) -> Option<u64>
@@ -42,26 +47,66 @@ fn victim_in(entry: &Entry) -> Option<u64>
     }
 }
 
-/// Adds what an entry destroys.
-pub fn destroy(destroyed: &mut BTreeSet<u64>, entry: &Entry) -> Result<(), NoMemory>
-    ensures { OnOk result ((g : ℕ) → set.contains nat_cmp destroyed.new g
-        ≡ spec.is_victim (spec.victim_in entry.now) g || set.contains nat_cmp destroyed.old g) }
+// Adds what a call destroys.
+fn destroy(victims: &mut BTreeSet<u64>, entry: &Entry) -> Result<(), NoMemory>
+    ensures { OnOk result ((g : ℕ) → set.contains nat_cmp victims.new g
+        ≡ spec.is_victim (spec.victim_in entry.now) g || set.contains nat_cmp victims.old g) }
 {
     if let Some(victim) = victim_in(entry) {
-        add(destroyed, victim)?;
+        add(victims, victim)?;
     }
     Ok(())
 }
 
-/// The objects that the entries destroyed.
+/// The objects that calls destroyed.
 #[tactic(auto, using(crate::proofs::Uses::destroyed_next))]
-pub fn destroyed(alloc: Global, entries: &[Entry]) -> Result<BTreeSet<u64>, NoMemory>
-    ensures { IfOk result (λ destroyed. (g : ℕ) →
-        set.contains nat_cmp destroyed g ≡ spec.is_destroyed (history_of entries.now) g) }
+pub fn victims(alloc: Global, entries: &[Entry]) -> Result<BTreeSet<u64>, NoMemory>
+    ensures { IfOk result (λ victims. (g : ℕ) →
+        set.contains nat_cmp victims g ≡ spec.was_destroyed (history_of entries.now) g) }
 {
-    let mut destroyed = BTreeSet::new(alloc);
+    let mut victims = BTreeSet::new(alloc);
     for entry in entries {
-        destroy(&mut destroyed, entry)?;
+        destroy(&mut victims, entry)?;
     }
-    Ok(destroyed)
+    Ok(victims)
+}
+
+/// What tells which objects are destroyed.
+#[derive(Drop)]
+pub struct Ends {
+    victims: BTreeSet<u64>,
+    kinds: Kinds,
+    tallies: Tallies,
+}
+
+impl Ends {
+    /// Before all entries.
+    pub fn new(alloc: Global) -> Self
+        ensures { end.AreEnds [] result }
+    {
+        Ends {
+            victims: BTreeSet::new(alloc),
+            kinds: BTreeMap::new(alloc),
+            tallies: BTreeMap::new(alloc),
+        }
+    }
+
+    /// Whether an object is destroyed.
+    pub fn has(&self, number: u64) -> bool
+        ensures { result ≡ end.is_ended self.now number }
+    {
+        self.victims.contains(&number) || is_fired(&self.kinds, &self.tallies, number)
+    }
+
+    /// After one entry more.
+    pub fn note(&mut self, entry: &Entry) -> Result<(), NoMemory>
+        requires countable { (g : ℕ) →
+            tally.IsCountable (tally.tally_in (map.get nat_cmp self.old.tallies g)) }
+        ensures { OnOk result ((past : history.History) →
+            end.AreEnds past self.old → end.AreEnds (entry.now ∷ past) self.new) }
+    {
+        destroy(&mut self.victims, entry)?;
+        note_kind(&mut self.kinds, entry)?;
+        note_satisfaction(&mut self.tallies, entry)
+    }
 }

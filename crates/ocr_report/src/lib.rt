@@ -13,6 +13,7 @@ mod sizes;
 mod slots;
 mod stale;
 mod summary;
+mod tallies;
 
 pub use blocks::blocks_text;
 pub use edts::left as left_edts;

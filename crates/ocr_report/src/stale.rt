@@ -1,19 +1,17 @@
 // The uses of destroyed objects.
 ghost use Rattle.std.specs.Prelude.{◌≡◌, ◌++◌, [], ◌∷◌, length, OnOk, IfOk};
-ghost use Rattle.std.specs.Ordering.{nat_cmp};
-ghost use Rattle.std.specs.BTreeSet as set;
 ghost use Rattle.ocr_history.specs.History.{history_of};
 ghost use Rattle.ocr_history.specs.Stale as history;
+ghost use Rattle.ocr_report.specs.Ends.{is_ended};
 ghost use Rattle.ocr_report.specs.Stale as spec;
 
-use crate::destroyed::destroy;
+use crate::destroyed::Ends;
 use crate::headed::{headed, line};
 use ocr_base::NoMemory;
 use ocr_guid::Code;
 use ocr_history::{Entry, Journal, Message, What};
 use ocr_meaning::{Answer, Call};
 use std::alloc::Global;
-use std::collections::BTreeSet;
 
 // Whether an entry uses a destroyed object.
 fn is_stale_use(entry: &Entry) -> bool
@@ -47,43 +45,43 @@ pub fn stale_count(entries: &[Entry]) -> u64
 }
 
 // The first of some objects that is destroyed, and 0 where none is.
-fn first_stale(destroyed: &BTreeSet<u64>, objects: &[u64]) -> u64
-    ensures { result ≡ spec.first_stale (set.contains nat_cmp destroyed.now) objects.now }
+fn first_stale(ends: &Ends, objects: &[u64]) -> u64
+    ensures { result ≡ spec.first_stale (is_ended ends.now) objects.now }
 {
     match objects {
         [] => 0,
-        [first, rest @ ..] => if destroyed.contains(first) {
+        [first, rest @ ..] => if ends.has(*first) {
             *first
         } else {
-            first_stale(destroyed, rest)
+            first_stale(ends, rest)
         },
     }
 }
 
 // The first destroyed object that a call names.
-fn stale_object(destroyed: &BTreeSet<u64>, call: &Call) -> u64
-    ensures { result ≡ spec.first_stale (set.contains nat_cmp destroyed.now)
+fn stale_object(ends: &Ends, call: &Call) -> u64
+    ensures { result ≡ spec.first_stale (is_ended ends.now)
         (spec.objects_of call.now) }
 {
     match call {
-        Call::DbRelease { block } | Call::DbDestroy { block } => first_stale(destroyed, &[*block]),
-        Call::EventDestroy { event } => first_stale(destroyed, &[*event]),
-        Call::Satisfy { event, payload, .. } => first_stale(destroyed, &[*event, *payload]),
-        Call::AddDependence { source, target, .. } => first_stale(destroyed, &[*source, *target]),
-        Call::TemplateDestroy { template } => first_stale(destroyed, &[*template]),
-        Call::EdtCreate { template, deps, .. } => if destroyed.contains(template) {
+        Call::DbRelease { block } | Call::DbDestroy { block } => first_stale(ends, &[*block]),
+        Call::EventDestroy { event } => first_stale(ends, &[*event]),
+        Call::Satisfy { event, payload, .. } => first_stale(ends, &[*event, *payload]),
+        Call::AddDependence { source, target, .. } => first_stale(ends, &[*source, *target]),
+        Call::TemplateDestroy { template } => first_stale(ends, &[*template]),
+        Call::EdtCreate { template, deps, .. } => if ends.has(*template) {
             *template
         } else {
-            first_stale(destroyed, deps.as_slice())
+            first_stale(ends, deps.as_slice())
         },
         _ => 0,
     }
 }
 
 // Writes the line of a use of a destroyed object.
-fn stale_line(text: &mut Vec<u8>, destroyed: &BTreeSet<u64>, entry: &Entry) -> Result<(), NoMemory>
+fn stale_line(text: &mut Vec<u8>, ends: &Ends, entry: &Entry) -> Result<(), NoMemory>
     ensures { OnOk result (text.new.items ≡ text.old.items
-        ++ spec.stale_line (set.contains nat_cmp destroyed.now) entry.now) }
+        ++ spec.stale_line (is_ended ends.now) entry.now) }
 {
     match entry {
         Entry::Call {
@@ -94,7 +92,7 @@ fn stale_line(text: &mut Vec<u8>, destroyed: &BTreeSet<u64>, entry: &Entry) -> R
                 ..
             },
             ..
-        } => line(text, b"call", &[edt.0, stale_object(destroyed, call)]),
+        } => line(text, b"call", &[edt.0, stale_object(ends, call)]),
         Entry::Deliver {
             message: Message {
                 what: What::Satisfy { event, .. },
@@ -113,11 +111,11 @@ pub fn stale_text(alloc: Global, journal: &Journal) -> Result<Vec<u8>, NoMemory>
     ensures { IfOk result (λ text. text.items ≡ spec.stale_text (history_of journal.now)) }
 {
     let entries = journal.entries();
-    let mut destroyed = BTreeSet::new(alloc);
+    let mut ends = Ends::new(alloc);
     let mut lines = Vec::new(alloc);
     for entry in entries {
-        stale_line(&mut lines, &destroyed, entry)?;
-        destroy(&mut destroyed, entry)?;
+        stale_line(&mut lines, &ends, entry)?;
+        ends.note(entry)?;
     }
     headed(alloc, b"stale", stale_count(entries), &lines)
 }

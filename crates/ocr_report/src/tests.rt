@@ -201,6 +201,59 @@ acquire 7 6
     Ok(())
 }
 
+// Firing destroys the ONCE events 30 and 32 and the latch 31, and not the STICKY event 33.
+fn firings(alloc: Global) -> Result<Vec<Entry>, Fail> {
+    let by = |call, value| called(alloc, call, Code::Done, value);
+    let made = |kind| Call::EventCreate { kind, flags: 0 };
+    let satisfy = |event, slot| Call::Satisfy {
+        event,
+        payload: 0,
+        slot,
+    };
+    let stale = |source, target| {
+        let call = Call::AddDependence {
+            source,
+            target,
+            slot: 0,
+            mode: 0,
+        };
+        called(alloc, call, Code::Stale, 200)
+    };
+    Ok(vec![in alloc;
+        by(made(1), 30),
+        by(made(4), 31),
+        by(made(1), 32),
+        by(made(3), 33),
+        by(satisfy(33, 0), 0),
+        by(satisfy(30, 0), 0),
+        by(satisfy(31, 1), 0),
+        satisfied(32, Code::Einval),
+        stale(32, 30),
+        stale(31, 30),
+        satisfied(31, Code::Done),
+        stale(31, 30),
+        satisfied(32, Code::Done),
+        stale(33, 32),
+    ]?)
+}
+
+#[test]
+fn firing_destroys_once_events_and_latches(rt: HostRuntime) -> Result<(), Fail> {
+    let alloc = rt.alloc();
+    let text = stale_text(alloc, &Journal::from_vec(firings(alloc)?))?;
+    assert_eq!(rt;
+        text.as_slice(),
+        b"stale 4
+call 2 30
+call 2 30
+call 2 31
+call 2 32
+"
+            .as_slice()
+    );
+    Ok(())
+}
+
 #[test]
 fn satisfactions_that_were_refused_have_their_codes(rt: HostRuntime) -> Result<(), Fail> {
     let text = refused_text(rt.alloc(), &journal(rt.alloc())?)?;

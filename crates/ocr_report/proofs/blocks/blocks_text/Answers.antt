@@ -3,7 +3,7 @@ use Rattle.std.specs.Ordering.{nat_cmp}
 use Rattle.std.specs.BTreeSet.{contains}
 use Rattle.ocr_history.specs.History.{History, history_of}
 use Rattle.ocr_report.specs.Blocks.{made_blocks, holders, size_of, block_lines, blocks_text}
-use Rattle.ocr_report.specs.Destroyed.{is_destroyed}
+use Rattle.ocr_report.specs.Destroyed.{was_destroyed}
 use Rattle.ocr_report.specs.Headed.{headed}
 use Rattle.ocr_report.specs.Lists.{list_at}
 use Rattle.ocr_report.specs.Sizes.{size_at}
@@ -17,7 +17,7 @@ returns c s as_many =
     let lines =
     c.deref.ensures.value ∙ c.in_ok-lines.ensures
     ∙ ap (block_lines (size_at c.in_ok-sizes.sizes) (contains nat_cmp c.in_ok-destroyed.destroyed) (list_at c.in_ok-holders.holders)) made
-    ∙ lines_same (size_at c.in_ok-sizes.sizes) (size_of s past) (contains nat_cmp c.in_ok-destroyed.destroyed) (is_destroyed past)
+    ∙ lines_same (size_at c.in_ok-sizes.sizes) (size_of s past) (contains nat_cmp c.in_ok-destroyed.destroyed) (was_destroyed past)
     (list_at c.in_ok-holders.holders) (holders past) (c.in_ok-sizes.ensures s as_many) c.in_ok-destroyed.ensures c.in_ok-holders.ensures
     (made_blocks past) in
     c.in_ok-text.ensures

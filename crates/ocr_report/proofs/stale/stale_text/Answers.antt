@@ -1,10 +1,16 @@
-use Rattle.std.proofs.Common.{◌≡◌, ℕ, take, subst, sym}
+use Rattle.std.proofs.Common.{◌≡◌, ◌<◌, ℕ, List, length, take, subst, sym, arith, length-take}
+use Rattle.std.specs.Prelude.{Option}
 use Rattle.std.specs.Ordering.{nat_cmp}
-use Rattle.std.specs.BTreeSet.{contains}
+use Rattle.std.specs.BTreeMap.{get}
+use Rattle.std.proofs.lemmas.List.{length-reverse}
+use Rattle.ocr_history.specs.declared.entry.Entry.{Entry}
 use Rattle.ocr_history.specs.History.{History, history_of}
-use Rattle.ocr_report.specs.Destroyed.{is_destroyed}
+use Rattle.ocr_report.specs.Ends.{AreEnds, is_ended}
 use Rattle.ocr_report.specs.Stale.{stale_lines}
-use Rattle.ocr_report.proofs.Uses.{history_next, lines_next, destroyed_next}
+use Rattle.ocr_report.specs.declared.tallies.Tally.{Tally}
+use Rattle.ocr_report.specs.Tallies.{IsCountable, tally_in}
+use Rattle.ocr_report.proofs.Tallied.{ended_law, few_counted}
+use Rattle.ocr_report.proofs.Uses.{history_next, lines_next}
 use Rattle.ocr_report.proofs.stale.stale_text.Goals as goal
 
 pub loop-entry-preserved : goal.loop-entry-preserved
@@ -13,9 +19,19 @@ loop-entry-preserved c =
     let next = history_next c.entries-entries.result.now c.loop-entry.entry-index c.entry-item.result c.loop-entry-test.true c.entry-item.is in
     record {
       lines = subst (λ (h : History). c.stale_line.new.text.items ≡ stale_lines h) (sym next)
-          (lines_next past c.entry-item.result (contains nat_cmp c.loop-entry.destroyed) c.loop-entry.lines.items c.stale_line.new.text.items
-          c.loop-entry.invariant.destroyed c.loop-entry.invariant.lines c.in_ok-stale_line.ensures);
-      destroyed = subst (λ (h : History). (g : ℕ) → contains nat_cmp c.destroy.new.destroyed g ≡ is_destroyed h g) (sym next)
-          (destroyed_next past c.entry-item.result (contains nat_cmp c.loop-entry.destroyed) (contains nat_cmp c.destroy.new.destroyed)
-          c.loop-entry.invariant.destroyed c.in_ok-destroy.ensures);
+          (lines_next past c.entry-item.result (is_ended c.loop-entry.ends) c.loop-entry.lines.items c.stale_line.new.text.items
+          (ended_law past c.loop-entry.ends c.loop-entry.invariant.ends) c.loop-entry.invariant.lines c.in_ok-stale_line.ensures);
+      ends = subst (λ (h : History). AreEnds h c.note.new.self) (sym next)
+          (c.in_ok-note.ensures past c.loop-entry.invariant.ends);
+    }
+
+pub note-requires : goal.note-requires
+note-requires c =
+    let xs : List Entry = c.entries-entries.result.now in
+    let past : History = history_of (take c.loop-entry.entry-index xs) in
+    let short : length past < 18446744073709551615 =
+    omega (arith, length-reverse (take c.loop-entry.entry-index xs), length-take c.loop-entry.entry-index xs) in
+    record {
+      countable = λ g. subst (λ (t : Option Tally). IsCountable (tally_in t)) (sym (c.loop-entry.invariant.ends.tallies g))
+          (few_counted past g short);
     }
