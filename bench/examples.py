@@ -25,6 +25,14 @@ def literal(text):
     return 'b"' + text + '"'
 
 
+def constant(name, text):
+    """As rt fmt lays it out: a first line of more than 100 columns goes below its name."""
+    head = f"const {name}: &[u8] ="
+    value = literal(text)
+    fits = len(f"{head} {value.splitlines()[0]}") <= 100
+    return f"{head} {value};\n" if fits else f"{head}\n    {value};\n"
+
+
 def table():
     names, items = [], []
     for path in sorted((TOP / "examples").glob("*.ocr")):
@@ -33,8 +41,8 @@ def table():
         code = int(status.read_text()) if status.exists() else 0
         output = path.with_suffix(".stdout").read_text()
         names.append(name)
-        items.append(f"const {name}: &[u8] = {literal(path.read_text())};\n")
-        items.append(f"const {name}_OUT: &[u8] = {literal(output)};\n")
+        items.append(constant(name, path.read_text()))
+        items.append(constant(f"{name}_OUT", output))
         items.append(f"const {name}_STATUS: u8 = {code};\n")
     rows = "".join(f"    ({n}, {n}_OUT, {n}_STATUS),\n" for n in names)
     return HEAD + "\n".join(items) + f"\npub const EXAMPLES: [Example; {len(names)}] = [\n{rows}];\n"

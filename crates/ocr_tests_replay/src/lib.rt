@@ -7,9 +7,15 @@ mod destroyed;
 #[cfg(test)]
 mod edits;
 #[cfg(test)]
+mod events;
+#[cfg(test)]
+mod fibonacci;
+#[cfg(test)]
 mod journals;
 #[cfg(test)]
 mod lines;
+#[cfg(test)]
+mod linked;
 #[cfg(test)]
 mod runs;
 #[cfg(test)]

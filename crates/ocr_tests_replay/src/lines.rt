@@ -9,6 +9,9 @@ use std::test::Fail;
 /// EDT_PARAM_DEF.
 const DEFAULT: u64 = 4_294_967_294;
 
+/// OCR_EVENT_CHANNEL_T.
+const CHANNEL: u64 = 5;
+
 /// Words with their values.
 pub type Words = &'static [(u32, u64)];
 
@@ -25,6 +28,8 @@ pub enum Line {
     End(u64),
     /// The place and the index of the message, the EDT and its slot, and the payload.
     Set(u64, u32, u64, u32, u64),
+    /// The same with the event and its slot, and the code.
+    Satisfy(u64, u32, u64, u32, u64, Code),
     /// Bytes, flags, and the new block.
     Block(u64, u64, u64, u64),
     Release(u64, u64, Code, Words),
@@ -34,6 +39,17 @@ pub enum Line {
     /// Function, parameters, slots, and the new template.
     Template(u64, u32, u64, u64, u64),
     Untemplate(u64, u64, Code),
+    /// The three, refused with this code.
+    NoBlock(u64, u64, u64, Code),
+    NoDependence(u64, u64, u64, u64, u64, Code),
+    NoTemplate(u64, u32, u64, u64, Code),
+    /// Kind, flags, and the new event.
+    Event(u64, u64, u64, u64),
+    /// Flags, the most that it keeps, and the new channel.
+    Channel(u64, u64, u64, u64),
+    Unevent(u64, u64, Code),
+    /// Event, payload, slot, and code.
+    Satisfies(u64, u64, u64, u64, Code),
     /// Template, parameters, dependences, code, and the new EDT.
     Edt(u64, u64, &'static [u64], &'static [u64], Code, u64),
     /// Block, word, and value.
@@ -41,6 +57,7 @@ pub enum Line {
     Store(u64, u64, u64, u64),
     Print(u64, u64),
     Fault(u64, Fault),
+    Shutdown(u64),
     /// Want of events for an entry that weighs 1: legal exactly where one could come, so nowhere at
     /// a quiet end.
     Light,
@@ -71,19 +88,46 @@ pub fn entry_of(alloc: Global, line: Line) -> Result<Entry, Fail> {
             edt: Guid(edt),
             returned: Guid::NULL,
         }),
-        Line::Set(place, index, edt, slot, payload) => Ok(Entry::Deliver {
-            message: set(place, index, edt, slot, payload),
-            code: Code::Done,
-        }),
         Line::Fault(edt, fault) => Ok(Entry::Stop(Stop::Fault {
             edt: Guid(edt),
             fault,
         })),
+        Line::Shutdown(edt) => Ok(Entry::Stop(Stop::Shutdown { edt: Guid(edt) })),
         Line::Light => Ok(Entry::Stop(Stop::Events {
             worker: 1,
             weight: 1,
         })),
+        other => delivery_of(alloc, other),
+    }
+}
+
+// The entry of a message that arrives, or of a call.
+fn delivery_of(alloc: Global, line: Line) -> Result<Entry, Fail> {
+    match line {
+        Line::Set(place, index, edt, slot, payload) => {
+            let what = What::Set {
+                edt: Guid(edt),
+                slot,
+                payload: Guid(payload),
+            };
+            Ok(delivered(place, index, what, Code::Done))
+        }
+        Line::Satisfy(place, index, event, slot, payload, code) => {
+            let what = What::Satisfy {
+                event: Guid(event),
+                slot,
+                payload: Guid(payload),
+            };
+            Ok(delivered(place, index, what, code))
+        }
         call => call_of(alloc, call),
+    }
+}
+
+fn delivered(place: u64, index: u32, what: What, code: Code) -> Entry {
+    Entry::Deliver {
+        message: Message { place, index, what },
+        code,
     }
 }
 
@@ -91,25 +135,9 @@ fn writes(alloc: Global, words: Words) -> Result<Writes, Fail> {
     Ok(Writes::from_vec(words.to_vec(alloc)?))
 }
 
-fn set(place: u64, index: u32, edt: u64, slot: u32, payload: u64) -> Message {
-    Message {
-        place,
-        index,
-        what: What::Set {
-            edt: Guid(edt),
-            slot,
-            payload: Guid(payload),
-        },
-    }
-}
-
 // The entry of a call.
 fn call_of(alloc: Global, line: Line) -> Result<Entry, Fail> {
     match line {
-        Line::Block(edt, length, flags, value) => {
-            let call = Call::DbCreate { length, flags };
-            Ok(answered(edt, call, Code::Done, value, Writes::none(alloc)))
-        }
         Line::Release(edt, block, code, words) => {
             let call = Call::DbRelease { block };
             Ok(answered(edt, call, code, code.number(), writes(alloc, words)?))
@@ -118,18 +146,9 @@ fn call_of(alloc: Global, line: Line) -> Result<Entry, Fail> {
             let call = Call::DbDestroy { block };
             Ok(answered(edt, call, code, code.number(), writes(alloc, words)?))
         }
-        Line::Depends(edt, source, target, slot, mode) => {
-            let call = Call::AddDependence {
-                source,
-                target,
-                slot,
-                mode,
-            };
-            Ok(answered(edt, call, Code::Done, 0, Writes::none(alloc)))
-        }
         Line::Untemplate(edt, template, code) => {
             let call = Call::TemplateDestroy { template };
-            Ok(answered(edt, call, code, code.number(), Writes::none(alloc)))
+            Ok(coded(alloc, edt, call, code))
         }
         Line::Load(edt, block, word, value) => {
             let call = Call::Load { block, word };
@@ -137,26 +156,91 @@ fn call_of(alloc: Global, line: Line) -> Result<Entry, Fail> {
         }
         Line::Store(edt, block, word, value) => {
             let call = Call::Store { block, word, value };
-            Ok(answered(edt, call, Code::Done, 0, Writes::none(alloc)))
+            Ok(coded(alloc, edt, call, Code::Done))
         }
         Line::Print(edt, value) => {
             let call = Call::Print { value };
-            Ok(answered(edt, call, Code::Done, 0, Writes::none(alloc)))
+            Ok(coded(alloc, edt, call, Code::Done))
         }
-        made => creation_of(alloc, made),
+        other => event_call_of(alloc, other),
+    }
+}
+
+// The entry of a call of an event, or of a dependence.
+fn event_call_of(alloc: Global, line: Line) -> Result<Entry, Fail> {
+    match line {
+        Line::Depends(edt, source, target, slot, mode) => {
+            let call = dependence(source, target, slot, mode);
+            Ok(coded(alloc, edt, call, Code::Done))
+        }
+        Line::NoDependence(edt, source, target, slot, mode, code) => {
+            let call = dependence(source, target, slot, mode);
+            Ok(coded(alloc, edt, call, code))
+        }
+        Line::Satisfies(edt, event, payload, slot, code) => {
+            let call = Call::Satisfy {
+                event,
+                payload,
+                slot,
+            };
+            Ok(coded(alloc, edt, call, code))
+        }
+        Line::Unevent(edt, event, code) => {
+            let call = Call::EventDestroy { event };
+            Ok(coded(alloc, edt, call, code))
+        }
+        other => creation_of(alloc, other),
+    }
+}
+
+fn dependence(source: u64, target: u64, slot: u64, mode: u64) -> Call {
+    Call::AddDependence {
+        source,
+        target,
+        slot,
+        mode,
+    }
+}
+
+// The entry of a creation.
+fn creation_of(alloc: Global, line: Line) -> Result<Entry, Fail> {
+    match line {
+        Line::Block(edt, length, flags, value) => {
+            let call = Call::DbCreate { length, flags };
+            Ok(made(alloc, edt, call, Code::Done, value))
+        }
+        Line::NoBlock(edt, length, flags, code) => {
+            let call = Call::DbCreate { length, flags };
+            Ok(made(alloc, edt, call, code, 0))
+        }
+        Line::Event(edt, kind, flags, value) => {
+            let call = Call::EventCreate { kind, flags };
+            Ok(made(alloc, edt, call, Code::Done, value))
+        }
+        Line::Channel(edt, flags, max_gen, value) => {
+            let call = Call::EventCreateParams {
+                kind: CHANNEL,
+                flags,
+                max_gen,
+                nb_sat: 1,
+                nb_deps: 1,
+            };
+            Ok(made(alloc, edt, call, Code::Done, value))
+        }
+        other => edt_of(alloc, other),
     }
 }
 
 // The entry of a creation of a template or an EDT.
-fn creation_of(alloc: Global, line: Line) -> Result<Entry, Fail> {
+fn edt_of(alloc: Global, line: Line) -> Result<Entry, Fail> {
     match line {
         Line::Template(edt, function, paramc, depc, value) => {
-            let call = Call::TemplateCreate {
-                function,
-                paramc,
-                depc,
-            };
-            Ok(answered(edt, call, Code::Done, value, Writes::none(alloc)))
+            let call = template(function, paramc, depc);
+            Ok(made(alloc, edt, call, Code::Done, value))
+        }
+        Line::NoTemplate(edt, function, paramc, depc, code) => {
+            let call = template(function, paramc, depc);
+            Ok(made(alloc, edt, call, code, 0))
         }
         Line::Edt(edt, template, params, deps, code, value) => {
             let call = Call::EdtCreate {
@@ -168,10 +252,28 @@ fn creation_of(alloc: Global, line: Line) -> Result<Entry, Fail> {
                 flags: 0,
                 output: false,
             };
-            Ok(answered(edt, call, code, value, Writes::none(alloc)))
+            Ok(made(alloc, edt, call, code, value))
         }
         _ => Err(Fail::new("an entry of another kind")),
     }
+}
+
+fn template(function: u32, paramc: u64, depc: u64) -> Call {
+    Call::TemplateCreate {
+        function,
+        paramc,
+        depc,
+    }
+}
+
+// A call that answers its code's number.
+fn coded(alloc: Global, edt: u64, call: Call, code: Code) -> Entry {
+    answered(edt, call, code, code.number(), Writes::none(alloc))
+}
+
+// A creation that answers this.
+fn made(alloc: Global, edt: u64, call: Call, code: Code, value: u64) -> Entry {
+    answered(edt, call, code, value, Writes::none(alloc))
 }
 
 fn answered(edt: u64, call: Call, code: Code, value: u64, writes: Writes) -> Entry {

@@ -475,7 +475,7 @@ fn plan_rises_in_both_orders_of_slots(rt: HostRuntime) -> Result<(), Fail> {
     for (text, is_rising) in [(RISING, true), (FALLING, false)] {
         let lines = plan_of(alloc, is_rising)?;
         assert_eq!(rt; lines.len(), 169);
-        assert_eq!(rt; wrong_of(alloc, text, &lines, &PLAN_ROWS)?, None);
+        assert_eq!(rt; wrong_of(alloc, text, &[], &lines, &PLAN_ROWS)?, None);
     }
     Ok(())
 }

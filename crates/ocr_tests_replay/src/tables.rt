@@ -42,26 +42,27 @@ pub enum Wrong {
 /// The first thing in a table of which replay says otherwise: each front is a run, and each row is
 /// illegal first where it says.
 pub fn wrong_in(alloc: Global, table: &Table) -> Result<Option<Wrong>, Fail> {
-    wrong_of(alloc, table.text, table.lines, table.rows)
+    wrong_of(alloc, table.text, &[], table.lines, table.rows)
 }
 
-/// The same of a journal and rows that were made.
+/// The same of a program with arguments, and of a journal and rows that were made.
 pub fn wrong_of(
     alloc: Global,
     text: &[u8],
+    args: &[u64],
     lines: &[Line],
     rows: &[Row],
 ) -> Result<Option<Wrong>, Fail> {
     let program = program_of(alloc, text)?;
     for end in 0..lines.len() + 1 {
-        if let Some(stop) = stop_of(alloc, &program, &lines[..end])? {
+        if let Some(stop) = stop_of(alloc, &program, args, &lines[..end])? {
             return Ok(Some(Wrong::Front(end, stop)));
         }
     }
     for i in 0..rows.len() {
         let (place, change, illegal) = rows[i];
         let changed = changed(alloc, lines, place, change)?;
-        let stop = stop_of(alloc, &program, &changed)?;
+        let stop = stop_of(alloc, &program, args, &changed)?;
         if stop != illegal.map(|place| ReplayStop::Illegal(place)) {
             return Ok(Some(Wrong::Row(i, stop)));
         }
@@ -70,14 +71,22 @@ pub fn wrong_of(
 }
 
 // Where replay stops; none where the lines are a run.
-fn stop_of(alloc: Global, program: &Checked, lines: &[Line]) -> Result<Option<ReplayStop>, Fail> {
+fn stop_of(
+    alloc: Global,
+    program: &Checked,
+    args: &[u64],
+    lines: &[Line],
+) -> Result<Option<ReplayStop>, Fail> {
+    if args.len() > 32 {
+        return Err(Fail::new("at most 32 arguments"));
+    }
     let mut entries = Vec::new(alloc);
     for line in lines {
         let entry = entry_of(alloc, *line)?;
         entries.reserve(1)?;
         entries.push_reserved(entry);
     }
-    Ok(replay(alloc, program, &[], 4096, &entries).err())
+    Ok(replay(alloc, program, args, 4096, &entries).err())
 }
 
 // The lines with a change at a place, which may stand behind the last.

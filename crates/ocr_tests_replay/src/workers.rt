@@ -44,3 +44,162 @@ fn runs_by_several_workers_are_replayed(rt: HostRuntime) -> Result<(), Fail> {
     }
     Ok(())
 }
+
+// Eight EDTs send a block each through one channel, and one EDT adds up what came out.
+const FED: &[u8] = b"fn send {
+  let d = ocrDbCreate(8, 0); store(d, 0, paramv[1]); ocrDbRelease(d);
+  ocrEventSatisfy(paramv[0], d);
+}
+fn add {
+  let sum = 0; let i = 0;
+  while i < depc { sum = sum + load(depv[i], 0); i = i + 1; }
+  print sum;
+}
+fn mainEdt {
+  let c = ocrEventCreateParams(OCR_EVENT_CHANNEL_T, EVT_PROP_TAKES_ARG, 8, 1, 1);
+  let t = ocrEdtTemplateCreate(send, 2, 0); let i = 1;
+  let w = ocrEdtCreate(ocrEdtTemplateCreate(add, 0, 8), EDT_PARAM_DEF, [], EDT_PARAM_DEF, [], 0);
+  while i <= 8 {
+    ocrEdtCreate(t, EDT_PARAM_DEF, [c, i], EDT_PARAM_DEF, [], 0);
+    ocrAddDependence(c, w, i - 1, DB_MODE_RO);
+    i = i + 1;
+  }
+}";
+
+// Two EDTs count a latch down until it has fired, and events bring that on to an EDT; one of them
+// fires before another is linked to it, or after.
+const COUNTED: &[u8] = b"fn down {
+  while ocrEventSatisfySlot(paramv[0], NULL_GUID, OCR_EVENT_LATCH_DECR_SLOT) == 0 { }
+}
+fn after { print depv[0]; }
+fn mainEdt {
+  let l = ocrEventCreate(OCR_EVENT_LATCH_T, 0); let i = 0;
+  while i < 20 {
+    ocrEventSatisfySlot(l, NULL_GUID, OCR_EVENT_LATCH_INCR_SLOT); i = i + 1;
+  }
+  let s = ocrEventCreate(OCR_EVENT_STICKY_T, 0); ocrAddDependence(l, s, 0, 0);
+  let t = ocrEdtTemplateCreate(down, 1, 0);
+  ocrEdtCreate(t, EDT_PARAM_DEF, [l], EDT_PARAM_DEF, [], 0);
+  ocrEdtCreate(t, EDT_PARAM_DEF, [l], EDT_PARAM_DEF, [], 0);
+  let o = ocrEventCreate(OCR_EVENT_ONCE_T, 0);
+  ocrEdtCreate(ocrEdtTemplateCreate(after, 0, 2), EDT_PARAM_DEF, [], EDT_PARAM_DEF, [o, s], 0);
+  ocrAddDependence(s, o, 0, 0);
+}";
+
+// Two stages write a digit each behind the numbers in four blocks, and a third one prints them.
+const PIPELINE: &[u8] = b"fn stage {
+  let d = depv[0]; store(d, 0, load(d, 0) * 10 + paramv[4]);
+  ocrDbRelease(d); ocrEventSatisfy(paramv[3], d);
+  if paramv[0] > 1 {
+    ocrEdtCreate(paramv[1], 5, [paramv[0] - 1, paramv[1], paramv[2], paramv[3], paramv[4]],
+      1, [paramv[2]], 0);
+  }
+}
+fn show {
+  print load(depv[0], 0);
+  if paramv[0] > 1 {
+    ocrEdtCreate(paramv[1], 3, [paramv[0] - 1, paramv[1], paramv[2]], 1, [paramv[2]], 0);
+  }
+}
+fn mainEdt {
+  let a = ocrEventCreateParams(OCR_EVENT_CHANNEL_T, EVT_PROP_TAKES_ARG, 4, 1, 1);
+  let b = ocrEventCreateParams(OCR_EVENT_CHANNEL_T, EVT_PROP_TAKES_ARG, 4, 1, 1);
+  let c = ocrEventCreateParams(OCR_EVENT_CHANNEL_T, EVT_PROP_TAKES_ARG, 4, 1, 1);
+  let t = ocrEdtTemplateCreate(stage, 5, 1); let s = ocrEdtTemplateCreate(show, 3, 1);
+  ocrEdtCreate(t, 5, [4, t, a, b, 7], 1, [a], 0); ocrEdtCreate(t, 5, [4, t, b, c, 8], 1, [b], 0);
+  ocrEdtCreate(s, 3, [4, s, c], 1, [c], 0);
+  let i = 1;
+  while i <= 4 {
+    let d = ocrDbCreate(8, 0); store(d, 0, i); ocrDbRelease(d); ocrEventSatisfy(a, d);
+    i = i + 1;
+  }
+}";
+
+// Each EDT above the leaves makes two events, an EDT that adds what they bring, and two EDTs that
+// satisfy them.
+const FIBONACCI: &[u8] = b"fn give {
+  let d = ocrDbCreate(8, 0); store(d, 0, load(depv[0], 0) + load(depv[1], 0));
+  ocrDbRelease(d); ocrEventSatisfy(paramv[0], d);
+}
+fn fib {
+  let n = paramv[0]; let f = paramv[2]; let g = paramv[3];
+  if n < 2 {
+    let d = ocrDbCreate(8, 0); store(d, 0, n);
+    ocrDbRelease(d); ocrEventSatisfy(paramv[1], d);
+    return NULL_GUID;
+  }
+  let a = ocrEventCreate(OCR_EVENT_STICKY_T, EVT_PROP_TAKES_ARG);
+  let b = ocrEventCreate(OCR_EVENT_STICKY_T, EVT_PROP_TAKES_ARG);
+  let s = ocrEdtCreate(g, EDT_PARAM_DEF, [paramv[1]], EDT_PARAM_DEF, [], 0);
+  ocrAddDependence(a, s, 0, DB_MODE_CONST); ocrAddDependence(b, s, 1, DB_MODE_CONST);
+  ocrEdtCreate(f, EDT_PARAM_DEF, [n - 1, a, f, g], EDT_PARAM_DEF, [], 0);
+  ocrEdtCreate(f, EDT_PARAM_DEF, [n - 2, b, f, g], EDT_PARAM_DEF, [], 0);
+}
+fn last { print load(depv[0], 0); ocrShutdown(); }
+fn mainEdt {
+  let e = ocrEventCreate(OCR_EVENT_STICKY_T, EVT_PROP_TAKES_ARG);
+  let w = ocrEdtCreate(ocrEdtTemplateCreate(last, 0, 1), EDT_PARAM_DEF, [], EDT_PARAM_DEF, [], 0);
+  ocrAddDependence(e, w, 0, DB_MODE_CONST);
+  let f = ocrEdtTemplateCreate(fib, 4, 0); let g = ocrEdtTemplateCreate(give, 1, 2);
+  ocrEdtCreate(f, EDT_PARAM_DEF, [10, e, f, g], EDT_PARAM_DEF, [], 0);
+}";
+
+// Two rounds over 64 by 64 cells in 16 tiles.
+const STENCIL: &[u8] = b"fn tile {
+  let me = depv[0]; let d = ocrDbCreate(2048, 0); let k = 0;
+  while k < 256 {
+    let v = load(me, k);
+    if k < 16 { v = v + load(depv[1], 240 + k); } else { v = v + load(me, k - 16); }
+    if k >= 240 { v = v + load(depv[2], k - 240); } else { v = v + load(me, k + 16); }
+    if k % 16 == 0 { v = v + load(depv[3], k + 15); } else { v = v + load(me, k - 1); }
+    if k % 16 == 15 { v = v + load(depv[4], k - 15); } else { v = v + load(me, k + 1); }
+    store(d, k, v);
+    k = k + 1;
+  }
+  ocrDbRelease(d); ocrEventSatisfy(paramv[0], d);
+}
+fn total {
+  let s = 0; let i = 0;
+  while i < 16 { let k = 0; while k < 256 { s = s + load(depv[i], k); k = k + 1; } i = i + 1; }
+  print s; ocrShutdown();
+}
+fn mainEdt {
+  let g = ocrDbCreate(256, 0); let t = ocrEdtTemplateCreate(tile, 1, 5); let i = 0;
+  while i < 16 {
+    let e = ocrEventCreate(OCR_EVENT_STICKY_T, EVT_PROP_TAKES_ARG);
+    let d = ocrDbCreate(2048, 0); store(d, i, i);
+    ocrDbRelease(d); ocrEventSatisfy(e, d); store(g, i, e); i = i + 1;
+  }
+  let r = 1;
+  while r <= 2 {
+    let from = (r + 1) % 2 * 16; let to = r % 2 * 16; i = 0;
+    while i < 16 {
+      let row = from + i / 4 * 4;
+      store(g, to + i, ocrEventCreate(OCR_EVENT_STICKY_T, EVT_PROP_TAKES_ARG));
+      let w = ocrEdtCreate(t, EDT_PARAM_DEF, [load(g, to + i)], EDT_PARAM_DEF, [], 0);
+      ocrAddDependence(load(g, from + i), w, 0, DB_MODE_CONST);
+      ocrAddDependence(load(g, from + (i + 12) % 16), w, 1, DB_MODE_CONST);
+      ocrAddDependence(load(g, from + (i + 4) % 16), w, 2, DB_MODE_CONST);
+      ocrAddDependence(load(g, row + (i + 3) % 4), w, 3, DB_MODE_CONST);
+      ocrAddDependence(load(g, row + (i + 1) % 4), w, 4, DB_MODE_CONST);
+      i = i + 1;
+    }
+    r = r + 1;
+  }
+  let s = ocrEdtCreate(ocrEdtTemplateCreate(total, 0, 16), EDT_PARAM_DEF, [],
+    EDT_PARAM_DEF, [], 0);
+  i = 0;
+  while i < 16 { ocrAddDependence(load(g, i), s, i, DB_MODE_CONST); i = i + 1; }
+}";
+
+#[test]
+fn runs_with_events_are_replayed(rt: HostRuntime) -> Result<(), Fail> {
+    let alloc = rt.alloc();
+    for text in [FED, COUNTED, PIPELINE, FIBONACCI, STENCIL] {
+        for workers in ["1", "2", "4"] {
+            let recording = recording_by(&rt, alloc, workers, text)?;
+            assert_eq!(rt; verdict(alloc, &recording, &recording.entries), Ok(()));
+        }
+    }
+    Ok(())
+}

@@ -100,6 +100,54 @@ const FAULT_OUT: &[u8] = b"1
 
 const FAULT_STATUS: u8 = 6;
 
+const FIBONACCI: &[u8] =
+    b"# Fibonacci's number 10: an EDT makes two smaller ones, and events bring results to a third.
+fn give {
+  let d = ocrDbCreate(8, DB_PROP_NONE);
+  store(d, 0, load(depv[0], 0) + load(depv[1], 0));
+  ocrDbRelease(d);
+  ocrEventSatisfy(paramv[0], d);
+}
+fn fib {
+  let n = paramv[0];
+  let result = paramv[1];
+  let f = paramv[2];
+  let g = paramv[3];
+  if n < 2 {
+    let d = ocrDbCreate(8, DB_PROP_NONE);
+    store(d, 0, n);
+    ocrDbRelease(d);
+    ocrEventSatisfy(result, d);
+    return NULL_GUID;
+  }
+  let a = ocrEventCreate(OCR_EVENT_STICKY_T, EVT_PROP_TAKES_ARG);
+  let b = ocrEventCreate(OCR_EVENT_STICKY_T, EVT_PROP_TAKES_ARG);
+  let sum = ocrEdtCreate(g, EDT_PARAM_DEF, [result], EDT_PARAM_DEF, [], EDT_PROP_NONE);
+  ocrAddDependence(a, sum, 0, DB_MODE_CONST);
+  ocrAddDependence(b, sum, 1, DB_MODE_CONST);
+  ocrEdtCreate(f, EDT_PARAM_DEF, [n - 1, a, f, g], EDT_PARAM_DEF, [], EDT_PROP_NONE);
+  ocrEdtCreate(f, EDT_PARAM_DEF, [n - 2, b, f, g], EDT_PARAM_DEF, [], EDT_PROP_NONE);
+}
+fn last {
+  print load(depv[0], 0);
+  ocrShutdown();
+}
+fn mainEdt {
+  let result = ocrEventCreate(OCR_EVENT_STICKY_T, EVT_PROP_TAKES_ARG);
+  let l = ocrEdtTemplateCreate(last, 0, 1);
+  let w = ocrEdtCreate(l, EDT_PARAM_DEF, [], EDT_PARAM_DEF, [], EDT_PROP_NONE);
+  ocrAddDependence(result, w, 0, DB_MODE_CONST);
+  let f = ocrEdtTemplateCreate(fib, 4, 0);
+  let g = ocrEdtTemplateCreate(give, 1, 2);
+  ocrEdtCreate(f, EDT_PARAM_DEF, [10, result, f, g], EDT_PARAM_DEF, [], EDT_PROP_NONE);
+}
+";
+
+const FIBONACCI_OUT: &[u8] = b"55
+";
+
+const FIBONACCI_STATUS: u8 = 0;
+
 const FIRST: &[u8] = b"# The first program: it prints 42 and ends the run.
 fn mainEdt {
   print 42;
@@ -136,6 +184,60 @@ const OPERATORS_OUT: &[u8] = b"3
 ";
 
 const OPERATORS_STATUS: u8 = 0;
+
+const PIPELINE: &[u8] =
+    b"# A pipeline of channels: each stage writes a digit behind the number in a block, in order.
+fn stage {
+  let left = paramv[0];
+  let template = paramv[1];
+  let input = paramv[2];
+  let output = paramv[3];
+  let digit = paramv[4];
+  let d = depv[0];
+  store(d, 0, load(d, 0) * 10 + digit);
+  ocrDbRelease(d);
+  ocrEventSatisfy(output, d);
+  # The EDT makes the next one of its stage only now, so that the blocks stay in order.
+  if left > 1 {
+    ocrEdtCreate(template, EDT_PARAM_DEF, [left - 1, template, input, output, digit],
+      EDT_PARAM_DEF, [input], EDT_PROP_NONE);
+  }
+}
+fn show {
+  let left = paramv[0];
+  print load(depv[0], 0);
+  if left > 1 {
+    ocrEdtCreate(paramv[1], EDT_PARAM_DEF, [left - 1, paramv[1], paramv[2]], EDT_PARAM_DEF,
+      [paramv[2]], EDT_PROP_NONE);
+  }
+}
+fn mainEdt {
+  let a = ocrEventCreateParams(OCR_EVENT_CHANNEL_T, EVT_PROP_TAKES_ARG, 4, 1, 1);
+  let b = ocrEventCreateParams(OCR_EVENT_CHANNEL_T, EVT_PROP_TAKES_ARG, 4, 1, 1);
+  let c = ocrEventCreateParams(OCR_EVENT_CHANNEL_T, EVT_PROP_TAKES_ARG, 4, 1, 1);
+  let t = ocrEdtTemplateCreate(stage, 5, 1);
+  let s = ocrEdtTemplateCreate(show, 3, 1);
+  ocrEdtCreate(t, EDT_PARAM_DEF, [4, t, a, b, 7], EDT_PARAM_DEF, [a], EDT_PROP_NONE);
+  ocrEdtCreate(t, EDT_PARAM_DEF, [4, t, b, c, 8], EDT_PARAM_DEF, [b], EDT_PROP_NONE);
+  ocrEdtCreate(s, EDT_PARAM_DEF, [4, s, c], EDT_PARAM_DEF, [c], EDT_PROP_NONE);
+  let i = 1;
+  while i <= 4 {
+    let d = ocrDbCreate(8, DB_PROP_NONE);
+    store(d, 0, i);
+    ocrDbRelease(d);
+    ocrEventSatisfy(a, d);
+    i = i + 1;
+  }
+}
+";
+
+const PIPELINE_OUT: &[u8] = b"178
+278
+378
+478
+";
+
+const PIPELINE_STATUS: u8 = 0;
 
 const PRINTS: &[u8] = b"# Each print writes a line: a number from 0 to 2^64 - 1.
 fn mainEdt {
@@ -197,15 +299,119 @@ const RETURNS_OUT: &[u8] = b"1
 
 const RETURNS_STATUS: u8 = 0;
 
-pub const EXAMPLES: [Example; 10] = [
+const STENCIL: &[u8] =
+    b"# A stencil: 10 rounds over 64 by 64 cells in 16 tiles, an EDT for each tile of each round.
+fn tile {
+  # A tile and those above, below, left and right of it; a cell becomes the sum of itself and its
+  # four neighbours, and the borders wrap.
+  let me = depv[0];
+  let d = ocrDbCreate(2048, DB_PROP_NONE);
+  let k = 0;
+  while k < 256 {
+    let v = load(me, k);
+    if k < 16 {
+      v = v + load(depv[1], 240 + k);
+    } else {
+      v = v + load(me, k - 16);
+    }
+    if k >= 240 {
+      v = v + load(depv[2], k - 240);
+    } else {
+      v = v + load(me, k + 16);
+    }
+    if k % 16 == 0 {
+      v = v + load(depv[3], k + 15);
+    } else {
+      v = v + load(me, k - 1);
+    }
+    if k % 16 == 15 {
+      v = v + load(depv[4], k - 15);
+    } else {
+      v = v + load(me, k + 1);
+    }
+    store(d, k, v);
+    k = k + 1;
+  }
+  ocrDbRelease(d);
+  ocrEventSatisfy(paramv[0], d);
+}
+fn total {
+  let sum = 0;
+  let i = 0;
+  while i < 16 {
+    let k = 0;
+    while k < 256 {
+      sum = sum + load(depv[i], k);
+      k = k + 1;
+    }
+    i = i + 1;
+  }
+  print sum;
+  ocrShutdown();
+}
+fn mainEdt {
+  # Words 0 to 15 and 16 to 31 have, by turns, the events of the last round and of the next one.
+  let g = ocrDbCreate(256, DB_PROP_NONE);
+  let t = ocrEdtTemplateCreate(tile, 1, 5);
+  let i = 0;
+  while i < 16 {
+    let e = ocrEventCreate(OCR_EVENT_STICKY_T, EVT_PROP_TAKES_ARG);
+    let d = ocrDbCreate(2048, DB_PROP_NONE);
+    let k = 0;
+    while k < 256 {
+      store(d, k, (i / 4 * 16 + k / 16) * 64 + i % 4 * 16 + k % 16);
+      k = k + 1;
+    }
+    ocrDbRelease(d);
+    ocrEventSatisfy(e, d);
+    store(g, i, e);
+    i = i + 1;
+  }
+  let r = 1;
+  while r <= 10 {
+    let from = (r + 1) % 2 * 16;
+    let to = r % 2 * 16;
+    i = 0;
+    while i < 16 {
+      let row = from + i / 4 * 4;
+      store(g, to + i, ocrEventCreate(OCR_EVENT_STICKY_T, EVT_PROP_TAKES_ARG));
+      let w = ocrEdtCreate(t, EDT_PARAM_DEF, [load(g, to + i)], EDT_PARAM_DEF, [], EDT_PROP_NONE);
+      ocrAddDependence(load(g, from + i), w, 0, DB_MODE_CONST);
+      ocrAddDependence(load(g, from + (i + 12) % 16), w, 1, DB_MODE_CONST);
+      ocrAddDependence(load(g, from + (i + 4) % 16), w, 2, DB_MODE_CONST);
+      ocrAddDependence(load(g, row + (i + 3) % 4), w, 3, DB_MODE_CONST);
+      ocrAddDependence(load(g, row + (i + 1) % 4), w, 4, DB_MODE_CONST);
+      i = i + 1;
+    }
+    r = r + 1;
+  }
+  let s = ocrEdtTemplateCreate(total, 0, 16);
+  let last = ocrEdtCreate(s, EDT_PARAM_DEF, [], EDT_PARAM_DEF, [], EDT_PROP_NONE);
+  i = 0;
+  while i < 16 {
+    ocrAddDependence(load(g, i), last, i, DB_MODE_CONST);
+    i = i + 1;
+  }
+}
+";
+
+const STENCIL_OUT: &[u8] = b"81900000000000
+";
+
+const STENCIL_STATUS: u8 = 0;
+
+pub const EXAMPLES: [Example; 13] = [
     (ABORT, ABORT_OUT, ABORT_STATUS),
     (COLLATZ, COLLATZ_OUT, COLLATZ_STATUS),
     (COUNTERS, COUNTERS_OUT, COUNTERS_STATUS),
     (EDTS, EDTS_OUT, EDTS_STATUS),
     (FAULT, FAULT_OUT, FAULT_STATUS),
+    (FIBONACCI, FIBONACCI_OUT, FIBONACCI_STATUS),
     (FIRST, FIRST_OUT, FIRST_STATUS),
     (OPERATORS, OPERATORS_OUT, OPERATORS_STATUS),
+    (PIPELINE, PIPELINE_OUT, PIPELINE_STATUS),
     (PRINTS, PRINTS_OUT, PRINTS_STATUS),
     (REFUSALS, REFUSALS_OUT, REFUSALS_STATUS),
     (RETURNS, RETURNS_OUT, RETURNS_STATUS),
+    (STENCIL, STENCIL_OUT, STENCIL_STATUS),
 ];

@@ -2,6 +2,8 @@
 #![tactic(auto)]
 
 #[cfg(test)]
+mod events;
+#[cfg(test)]
 mod examples;
 #[cfg(test)]
 mod gates;
@@ -9,5 +11,7 @@ mod gates;
 mod outcomes;
 #[cfg(test)]
 mod runs;
+#[cfg(test)]
+mod stencil;
 #[cfg(test)]
 mod workers;

@@ -574,7 +574,7 @@ fn texts_that_are_no_program_are_told(rt: HostRuntime) -> Result<(), Fail> {
             b"check fault: rule 4 in function 1\n",
         ),
         (
-            b"fn mainEdt { ocrEventCreate(1, 0); }",
+            b"fn mainEdt { let o = 0; ocrEdtCreate(3, 0, [], 0, [], 0, &o); }",
             b"check fault: rule 8 in function 1\n",
         ),
     ];
