@@ -25,7 +25,7 @@ const ENTRIES: usize = 17;
 const TURNS: u64 = 10_000_000;
 
 /// How often an idle worker looks whether another one has begun.
-const FEW_TURNS: u64 = 100_000;
+const FEW_TURNS: u64 = 1_000_000;
 
 /// Holds an idle worker until another one has made all EDTs, and that one until somebody else has
 /// an entry.
