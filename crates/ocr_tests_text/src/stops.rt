@@ -127,7 +127,7 @@ fn programs_with_all_calls_and_no_output_event_are_taken(rt: HostRuntime) {
         "fn mainEdt { let t = ocrEdtTemplateCreate(mainEdt, 0, 1); ocrEdtTemplateDestroy(t); }",
         "fn mainEdt { ocrAddDependence(1, ocrEdtCreate(3, 1, [7], 1, [2], 0), 0, DB_MODE_RW); }",
         "fn mainEdt { store(depv[0], 0, load(depv[0], 0)); ocrAbort(1); }",
-        "fn mainEdt { ocrEventDestroy(ocrEventCreate(1, 0)); ocrEventCreateParams(5, 1, 2, 1, 1); }",
+        "fn mainEdt {ocrEventDestroy(ocrEventCreate(1, 0)); ocrEventCreateParams(5, 1, 2, 1, 1); }",
         "fn mainEdt { ocrEventSatisfy(3, 0); ocrEventSatisfySlot(3, 0, 1); }",
     ];
     for text in rows {
