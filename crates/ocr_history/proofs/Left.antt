@@ -10,7 +10,7 @@ use Rattle.ocr_history.specs.History.{History}
 use Rattle.ocr_history.specs.Made.{is_edt, made_edts}
 use Rattle.ocr_history.specs.Edts.{is_started}
 use Rattle.ocr_history.specs.Numbers.{is_in, placed, IsRising, RisesFrom}
-use Rattle.ocr_history.specs.Output.{left_edts, LeftLaw}
+use Rattle.ocr_history.specs.Output.{LeftLaw}
 
 -- A NUMBER AT ITS PLACE is in the list with the others
 or_same : (a b c : Bool) → a ≡ b → (a || c) ≡ (b || (a || c))

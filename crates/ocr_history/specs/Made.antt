@@ -1,5 +1,5 @@
 -- What the objects of a run are. The opening makes the argument block and the EDT of `mainEdt`.
-use Rattle.std.specs.Prelude.{ℕ, ◌+◌, ◌/◌, List, [], ◌∷◌, length, Bool, true, false, ◌||◌, ◌&&◌, ◌==◌, if◌then◌else◌, Option, Some, None}
+use Rattle.std.specs.Prelude.{ℕ, ◌+◌, ◌/◌, List, [], ◌∷◌, length, Bool, true, false, ◌||◌, ◌&&◌, not, ◌==◌, if◌then◌else◌, Option, Some, None}
 use Rattle.ocr_template.specs.Template.{count_meant}
 use Rattle.ocr_tree.specs.Functions.{number_of_main}
 use Rattle.ocr_meaning.specs.Call.{is_creation}
@@ -7,34 +7,54 @@ use Rattle.ocr_meaning.specs.Holds.{is_done}
 use Rattle.ocr_meaning.specs.declared.call.Call as body
 use Rattle.ocr_meaning.specs.declared.call.Call.TheVariants as call
 use Rattle.ocr_meaning.specs.declared.call.Answer.{Answer}
-use Rattle.ocr_history.specs.declared.objects.TheConstants.{ARGUMENTS, MAIN_EDT}
+use Rattle.ocr_history.specs.declared.objects.TheConstants.{ARGUMENTS, MAIN_EDT, OUTPUT_KIND, OUTPUT_FLAGS}
 use Rattle.ocr_history.specs.declared.entry.Entry.TheVariants.{Call}
 use Rattle.ocr_history.specs.History.{History, Setting}
 use Rattle.ocr_history.specs.Numbers.{placed}
 
 -- what an object is: a block with so many words and the EDT that held it as its creator, 0 where
 -- none did, a template of this function with its counts, an EDT with its function, its parameters
--- and the number of its slots, or an event of the kind of this number with its flags, a channel
--- with the most satisfactions that it keeps
+-- and the number of its slots, an event of the kind of this number with its flags, a channel with
+-- the most satisfactions that it keeps, or a finish scope with the scope that it leaves and the
+-- event that it satisfies when it is done, each 0 where there is none
 pub data Made : Type 0 where
   MadeBlock : (words creator : ℕ) → Made
   MadeTemplate : (function paramc depc : ℕ) → Made
   MadeEdt : (function : ℕ) → (params : List ℕ) → (depc : ℕ) → Made
   MadeEvent : (kind flags most : ℕ) → Made
+  MadeScope : (outer event : ℕ) → Made
 
 -- an accepted creation with this answer makes this object
 abbrev pub makes : Answer → ℕ → Bool
 makes answer g = is_done answer.code && (answer.value == g)
 
+-- a number that is not NULL_GUID names this object
+abbrev pub names_new : ℕ → ℕ → Bool
+names_new n g = not (n == 0) && (n == g)
+
+-- this object is the scope or the output event of an EDT that the call makes
+abbrev pub is_beside : body.Call → Answer → ℕ → Bool
+is_beside (call.EdtCreate from pc ps dc ds fl o) a g =
+    is_done a.code && (names_new a.scope g || names_new a.output g)
+is_beside other a g = false
+
 -- this call makes this object
 abbrev pub is_new : body.Call → Answer → ℕ → Bool
-is_new c a g = is_creation c && makes a g
+is_new c a g = is_beside c a g || (is_creation c && makes a g)
 
 -- the EDT that is made from a template with these parameters and this count
 abbrev pub edt_from : Option Made → List ℕ → ℕ → Option Made
 edt_from (Some (MadeTemplate f own_paramc own_depc)) params depc =
     Some (MadeEdt f params (count_meant own_depc depc))
 edt_from other params depc = None
+
+-- what is made beside an EDT whose maker has this home: its scope, and its output event
+abbrev pub made_beside : Answer → ℕ → ℕ → Option Made → Option Made
+made_beside a home g before =
+    if is_done a.code && names_new a.scope g then Some (MadeScope home a.output)
+    else if is_done a.code && names_new a.output g then
+    Some (MadeEvent OUTPUT_KIND OUTPUT_FLAGS 0)
+    else before
 
 -- the creator holds its block, unless the flag says that it does not
 abbrev pub creator_of : ℕ → ℕ → ℕ
@@ -55,7 +75,8 @@ made s (Call t home (call.DbCreate n fl) answer writes ∷ past) g =
 made s (Call t home (call.TemplateCreate f pc dc) answer writes ∷ past) g =
     if makes answer g then Some (MadeTemplate f pc dc) else made s past g
 made s (Call t home (call.EdtCreate from pc ps dc ds fl o) answer writes ∷ past) g =
-    if makes answer g then edt_from (made s past from) ps dc else made s past g
+    if makes answer g then edt_from (made s past from) ps dc
+    else made_beside answer home g (made s past g)
 made s (Call t home (call.EventCreate k fl) answer writes ∷ past) g =
     if makes answer g then Some (MadeEvent k fl 0) else made s past g
 made s (Call t home (call.EventCreateParams k fl most sats deps) answer writes ∷ past) g =

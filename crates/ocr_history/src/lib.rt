@@ -13,5 +13,5 @@ pub use entry::{Entry, Fault, Message, Stop, What};
 pub use journal::Journal;
 pub use laws::left_law;
 pub use limits::{MOST_OBJECTS, SHARE};
-pub use objects::{ARGUMENTS, MAIN_EDT};
+pub use objects::{ARGUMENTS, MAIN_EDT, OUTPUT_FLAGS, OUTPUT_KIND};
 pub use writes::Writes;

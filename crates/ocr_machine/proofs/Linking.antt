@@ -13,14 +13,14 @@ use Rattle.ocr_meaning.specs.declared.call.Answer.{Answer}
 use Rattle.ocr_parts.specs.declared.part.Part.{Part}
 use Rattle.ocr_parts.specs.declared.part.Part.TheVariants as part
 use Rattle.ocr_parts.specs.Calls.{is_given, is_object, slot_target}
-use Rattle.ocr_parts.specs.Effects.{with_face, with_core, linked_if, linked_to, deps_linked}
+use Rattle.ocr_parts.specs.Effects.{with_face, with_core, with_named, with_beside, new_output, new_scope, linked_if, linked_to, deps_linked}
 use Rattle.ocr_parts.specs.Kinds.{is_edt_face, with_links, is_event, with_event}
 use Rattle.ocr_parts.specs.Messages.{what_to, linked, linked_by, dep_sends, sent_by, sent_by_message, sends}
 use Rattle.ocr_parts.specs.Parts.{Parts}
 use Rattle.ocr_any_event.specs.AnyEvent as event
 use Rattle.ocr_slots.specs.declared.Slot.{Slot}
 use Rattle.ocr_base.proofs.Booleans.{eqb_flips}
-use Rattle.ocr_machine.specs.AtHand.{AreOthers}
+use Rattle.ocr_machine.specs.AtHand.{AtHand, state, AreOthers, HasRoom}
 
 -- a face that is put in its own place
 face_back : (f : Parts) (g : ℕ) (x : Part) → x ≡ f.face g → (m : ℕ) → (if g == m then x else f.face m) ≡ f.face m
@@ -104,18 +104,31 @@ alike_linked g d t f h apart like m other =
       | false ↦ like m other
     ]
 
-same_sends : (g k : ℕ) (ds : List ℕ) (f h : Parts) → AreOthers g ds → IsAlikeBut g f h → dep_sends g k ds f ≡ dep_sends g k ds h
-same_sends g k [] f h others like = refl
-same_sends g k (d ∷ rest) f h others like =
-    let t : Target = slot_target g k in
-    elim (is_object d) as (λ b. (b ≡ true → (g == d) ≡ false) → (if is_given d then linked_by b d t f else []) ++ dep_sends g (k + 1) rest (linked_if b d t f)
-    ≡ (if is_given d then linked_by b d t h else []) ++ dep_sends g (k + 1) rest (linked_if b d t h)) [
+same_sends : (u g k : ℕ) (ds : List ℕ) (f h : Parts) → AreOthers g ds → IsAlikeBut g f h → dep_sends u k ds f ≡ dep_sends u k ds h
+same_sends u g k [] f h others like = refl
+same_sends u g k (d ∷ rest) f h others like =
+    let t : Target = slot_target u k in
+    elim (is_object d) as (λ b. (b ≡ true → (g == d) ≡ false) → (if is_given d then linked_by b d t f else []) ++ dep_sends u (k + 1) rest (linked_if b d t f)
+    ≡ (if is_given d then linked_by b d t h else []) ++ dep_sends u (k + 1) rest (linked_if b d t h)) [
       | true ↦ λ apart.
-          ap (λ (x : Part). (if is_given d then linked x d t else []) ++ dep_sends g (k + 1) rest (linked_to d t f)) (like d (apart refl))
+          ap (λ (x : Part). (if is_given d then linked x d t else []) ++ dep_sends u (k + 1) rest (linked_to d t f)) (like d (apart refl))
           ∙ ap (λ (ms : List What). (if is_given d then linked (h.face d) d t else []) ++ ms)
-          (same_sends g (k + 1) rest (linked_to d t f) (linked_to d t h) others.1 (alike_linked g d t f h (apart refl) like))
-      | false ↦ λ _. ap (λ (ms : List What). (if is_given d then what_to (d, t) ∷ [] else []) ++ ms) (same_sends g (k + 1) rest f h others.1 like)
+          (same_sends u g (k + 1) rest (linked_to d t f) (linked_to d t h) others.1 (alike_linked g d t f h (apart refl) like))
+      | false ↦ λ _. ap (λ (ms : List What). (if is_given d then what_to (d, t) ∷ [] else []) ++ ms) (same_sends u g (k + 1) rest f h others.1 like)
     ] others.0
 
-pub made_sends : (g : ℕ) (ds : List ℕ) (f : Parts) (x y : Part) → AreOthers g ds → dep_sends g 0 ds (with_core (with_face f g x) g y) ≡ dep_sends g 0 ds f
-made_sends g ds f x y others = same_sends g 0 ds (with_core (with_face f g x) g y) f others (λ d apart. ap (λ (b : Bool). if b then x else f.face d) apart)
+and_off : (b : Bool) → (b && false) ≡ false
+and_off true = refl
+and_off false = refl
+
+named_sends : (u n : ℕ) (ds : List ℕ) (f : Parts) (x : Part) → AreOthers n ds → dep_sends u 0 ds (with_named f n x) ≡ dep_sends u 0 ds f
+named_sends u n ds f x others =
+    same_sends u n 0 ds (with_named f n x) f others (λ d apart. ap (λ (b : Bool). if not (n == 0) && b then x else f.face d) apart ∙ ap (λ (b : Bool). if b then x else f.face d) (and_off (not (n == 0))))
+
+pub made_sends : (h : AtHand) (a : Answer) (home : ℕ) (ds : List ℕ) (x y : Part) → HasRoom h a ds
+    → dep_sends a.value 0 ds (with_core (with_face (with_beside (state h) home a) a.value x) a.value y) ≡ dep_sends a.value 0 ds (state h)
+made_sends h a home ds x y room =
+    let f : Parts = with_beside (state h) home a in
+    same_sends a.value a.value 0 ds (with_core (with_face f a.value x) a.value y) f room.others (λ d apart. ap (λ (b : Bool). if b then x else f.face d) apart)
+    ∙ named_sends a.value a.scope ds (with_named (state h) a.output new_output) (new_scope home a) room.not_scope
+    ∙ named_sends a.value a.output ds (state h) new_output room.not_output

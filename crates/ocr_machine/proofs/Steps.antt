@@ -1,5 +1,5 @@
 -- What the steps of parts rest on.
-use Rattle.std.proofs.Common.{◌≡◌, inl, inr, ℕ, List, [], ◌∷◌, ◌++◌, Bool, true, false, Option, Some, None, ◌==◌, ◌&&◌, not, if◌then◌else◌, refl, sym, ◌∙◌, ap, is_some, rules, ◌<◌, ◌≤◌, ◌+◌, arith}
+use Rattle.std.proofs.Common.{◌≡◌, inl, inr, ℕ, List, [], ◌∷◌, ◌++◌, Bool, true, false, Option, Some, None, ◌==◌, ◌&&◌, not, if◌then◌else◌, refl, sym, ◌∙◌, ap, is_some, ◌<◌, ◌≤◌, ◌+◌, arith}
 use Rattle.std.proofs.lemmas.Grind.{common_steps}
 use Rattle.ocr_acquire.specs.Mode.{mode_in}
 use Rattle.ocr_acquire.specs.declared.Mode.{Mode}
@@ -18,11 +18,12 @@ use Rattle.ocr_parts.specs.declared.part.Part.{Part}
 use Rattle.ocr_parts.specs.declared.part.Part.TheVariants as part
 use Rattle.ocr_parts.specs.Calls.{is_given, with_dep}
 use Rattle.ocr_parts.specs.Effects.{awoken, acquired_edt, stale_edt}
-use Rattle.ocr_parts.specs.Kinds.{IsBlock, is_block, is_destroyed, progress_in, core_progress, next_in, is_acquiring, is_running, loan_on, is_edt_face}
-use Rattle.ocr_parts.specs.Codes.{link_code}
+use Rattle.ocr_parts.specs.Kinds.{IsBlock, is_destroyed, progress_in, loan_on}
 use Rattle.ocr_parts.specs.LegalOn.{IsTaken, IsEnding, IsDooming}
 use Rattle.ocr_parts.specs.Parts.{Parts}
-use Rattle.ocr_machine.specs.AtHand.{IsReturning, IsDoomable, is_core}
+use Rattle.ocr_parts.proofs.Choices.{same}
+use Rattle.ocr_parts.proofs.Local.{block_weaker}
+use Rattle.ocr_machine.specs.AtHand.{IsReturning, IsDoomable}
 
 pub awake_acquires : (e : Edt) (s : Progress) → progress_in e ≡ Some s → acquired_edt (awoken e) ≡ phase.Acquiring (after_acquired s false)
 awake_acquires (phase.Acquiring p) s is = cc
@@ -33,17 +34,6 @@ pub awake_passes : (e : Edt) (s : Progress) → progress_in e ≡ Some s → sta
 awake_passes (phase.Acquiring p) s is = cc
 awake_passes (phase.Waiting p) s is = cc
 awake_passes other s is = cc
-
-pub block_there : (x : Part) (P : block.State → Type 0) → IsBlock x P → is_block x ≡ true
-block_there (part.Block st) P h = refl
-block_there other P h = absurd h
-
-pub block_weaker : (x : Part) (P Q : block.State → Type 0) → ((st : block.State) → P st → Q st) → IsBlock x P → IsBlock x Q
-block_weaker (part.Block st) P Q f h = f st h
-block_weaker other P Q f h = absurd h
-
-pub block_at : (x : Part) (st : block.State) (P : block.State → Type 0) → x ≡ part.Block st → IsBlock x P → P st
-block_at x st P is h = rw is at h
 
 pub ending_returns : (f : Parts) (t d : ℕ) → IsEnding f t d → IsBlock (f.face d) (IsReturning t (loan_on (f.core t) d))
 ending_returns f t d h = block_weaker (f.face d) _ (IsReturning t (loan_on (f.core t) d)) (λ st held. record { holder = held.holder; loan_back = held.loan_back }) h
@@ -56,30 +46,10 @@ live_block other P Q f live h = absurd h
 pub dooming_lets : (f : Parts) (t d : ℕ) → is_destroyed (f.face d) ≡ false → IsDooming f t d → IsBlock (f.face d) (IsDoomable t (loan_on (f.core t) d))
 dooming_lets f t d live h = live_block (f.face d) _ (IsDoomable t (loan_on (f.core t) d)) (λ st agreed is. record { live = is; loan_back = agreed.loan_back }) live h
 
--- what goes on, runs or has a next block is a core
-pub next_core : (x : Part) → is_some (next_in (core_progress x)) ≡ true → is_core x ≡ true
-next_core (part.Core c) is = refl
-next_core other is = cc is
-
-pub acquiring_core : (x : Part) → is_acquiring x ≡ true → is_core x ≡ true
-acquiring_core (part.Core c) is = refl
-acquiring_core other is = cc is
-
-pub running_core : (x : Part) → is_running x ≡ true → is_core x ≡ true
-running_core (part.Core c) is = refl
-running_core other is = cc is
-
-pub linkable : (x : Part) (i : ℕ) → link_code x i ≡ code.Done → is_edt_face x ≡ true
-linkable (part.Edt slots) i is = refl
-linkable other i is = cc is
-
 -- a mode that was not found
 pub none_of : (o p : Option Mode) (b : Bool) → p ≡ o → is_some p ≡ not b → b ≡ true → o ≡ None
 none_of None p b same is on = refl
 none_of (Some m) p b same is on = let wrong : true ≡ false = sym (ap (λ (q : Option Mode). is_some q) same) ∙ is ∙ ap not on in cc wrong
-
-same : (n : ℕ) → (n == n) ≡ true
-same n = search rules
 
 mode_added : (t : ℕ) (m : Mode) (holders : List (ℕ × Mode)) → mode_in t holders ≡ None → mode_in t (holders ++ (t, m) ∷ []) ≡ Some m
 mode_added t m [] is = rw (same t) refl

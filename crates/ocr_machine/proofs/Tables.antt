@@ -1,7 +1,6 @@
 -- The table of a run: its parts, and what its slots were set to.
-use Rattle.std.proofs.Common.{◌≡◌, ℕ, zero, suc, ◌+◌, ◌-◌, ◌<◌, ◌≤◌, ◌↔◌, List, [], ◌∷◌, ◌++◌, length, drop, append_assoc, unwrap_or, map, filter, not, slice_set, true, false, ◌==◌, ◌||◌, ◌&&◌, if◌then◌else◌, Option, Some, None, is_some, arith, refl, sym, ◌∙◌, ap, subst, rules}
+use Rattle.std.proofs.Common.{◌≡◌, ℕ, zero, suc, ◌+◌, ◌-◌, ◌<◌, ◌≤◌, ◌↔◌, List, [], ◌∷◌, ◌++◌, length, drop, append_assoc, unwrap_or, map, filter, not, slice_set, true, false, ◌==◌, ◌||◌, ◌&&◌, if◌then◌else◌, Option, Some, None, is_some, arith, refl, sym, ◌∙◌, ap, subst}
 use Rattle.std.proofs.lemmas.Grind.{common_steps}
-use Rattle.std.proofs.lemmas.Bool.{eqb-true}
 use Rattle.std.specs.List.{range_with_len}
 use Rattle.ocr_guid.specs.Target.{EventCall}
 use Rattle.ocr_acquire.specs.Plan as plan
@@ -11,7 +10,7 @@ use Rattle.ocr_edt.specs.Edt as edt
 use Rattle.ocr_history.specs.History as history
 use Rattle.ocr_history.specs.Numbers.{is_in}
 use Rattle.ocr_history.specs.declared.entry.What.TheVariants as what
-use Rattle.ocr_history.specs.Made.{Made, MadeBlock, MadeTemplate, MadeEdt, MadeEvent, made, depc_in}
+use Rattle.ocr_history.specs.Made.{Made, MadeBlock, MadeTemplate, MadeEdt, MadeEvent, MadeScope, made, depc_in}
 use Rattle.ocr_history.specs.declared.entry.Entry.{Entry}
 use Rattle.ocr_history.specs.declared.entry.Entry.TheVariants.{Call, Deliver, Acquire, Wait, StaleAcquire, Start, Free}
 use Rattle.ocr_slots.specs.Slots.{SlotCall, mode_of, payload_of, is_set, slots_of, state_of, slot_at}
@@ -26,12 +25,15 @@ use Rattle.ocr_parts.specs.Kinds.{on_core, core_progress, next_in, is_running}
 use Rattle.ocr_parts.specs.Laws.{AfterLaw, WithinLaw}
 use Rattle.ocr_parts.specs.LegalOn.{IsLegalOn}
 use Rattle.ocr_parts.specs.Messages.{sends, resumes}
-use Rattle.ocr_parts.specs.Parts.{Parts, parts_of, face, core}
+use Rattle.ocr_edt.specs.declared.Identity.{Identity}
+use Rattle.ocr_parts.specs.Parts.{Parts, parts_of, face, core, identity_of}
 use Rattle.ocr_parts.specs.Taken.{look, has, as_face, as_core, is_within, IsWithin, parts_in, place_of, ArePlaced}
+use Rattle.ocr_parts.proofs.Choices.{same}
 use Rattle.ocr_machine.specs.Sets.{filled, are_set, payloads_in, slots_in, stale_on, set_after}
 use Rattle.ocr_machine.specs.Table.{part_at, all_parts, AreAllPlaced, state_in, face_on, core_on, sets_in, slots_on, plan_on, IsLike, IsOf, IsBefore}
 use Rattle.ocr_machine.specs.declared.table.Table.{Table}
 use Rattle.ocr_machine.proofs.Places.{parts_by, place_is, AreKept, kept_as, kept_set, core_set}
+use Rattle.ocr_finish.specs.Scope.{ScopeCall}
 
 -- THE SAME PARTS at all numbers
 same_parts : (limit : ℕ) (at other : ℕ → Part) → ((n : ℕ) → at n ≡ other n) → parts_by limit at ≡ parts_by limit other
@@ -67,31 +69,33 @@ slots_from : (links calls : List SlotCall) (k n : ℕ)
 slots_from links calls k zero = refl
 slots_from links calls k (suc n) = ap (λ (rest : List Slot). (record { mode = mode_of links k; payload = payload_of calls k }) ∷ rest) (slots_from links calls (k + 1) n)
 
-face_slots : (m : Option Made) (links : List SlotCall) (blocks : List BlockCall) (events : List EventCall) → slots_in (face m links blocks events) ≡ state_of (depc_in m) links
-face_slots None links blocks events = refl
-face_slots (Some (MadeBlock n c)) links blocks events = refl
-face_slots (Some (MadeTemplate f pc dc)) links blocks events = refl
-face_slots (Some (MadeEdt f ps n)) links blocks events = refl
-face_slots (Some (MadeEvent k fl most)) links blocks events = refl
+face_slots : (m : Option Made) (links : List SlotCall) (blocks : List BlockCall) (events : List EventCall) (scopes : List ScopeCall) → slots_in (face m links blocks events scopes) ≡ state_of (depc_in m) links
+face_slots None links blocks events scopes = refl
+face_slots (Some (MadeBlock n c)) links blocks events scopes = refl
+face_slots (Some (MadeTemplate f pc dc)) links blocks events scopes = refl
+face_slots (Some (MadeEdt f ps n)) links blocks events scopes = refl
+face_slots (Some (MadeEvent k fl most)) links blocks events scopes = refl
+face_slots (Some (MadeScope outer output)) links blocks events scopes = refl
 
-past_limit : (m : Option Made) (links : List SlotCall) (blocks : List BlockCall) (events : List EventCall) → face m links blocks events ≡ part.Vacant → depc_in m ≡ 0
-past_limit None links blocks events is = refl
-past_limit (Some (MadeBlock n c)) links blocks events is = cc is
-past_limit (Some (MadeTemplate f pc dc)) links blocks events is = refl
-past_limit (Some (MadeEdt f ps n)) links blocks events is = cc is
-past_limit (Some (MadeEvent k fl most)) links blocks events is = refl
+past_limit : (m : Option Made) (links : List SlotCall) (blocks : List BlockCall) (events : List EventCall) (scopes : List ScopeCall) → face m links blocks events scopes ≡ part.Vacant → depc_in m ≡ 0
+past_limit None links blocks events scopes is = refl
+past_limit (Some (MadeBlock n c)) links blocks events scopes is = cc is
+past_limit (Some (MadeTemplate f pc dc)) links blocks events scopes is = refl
+past_limit (Some (MadeEdt f ps n)) links blocks events scopes is = cc is
+past_limit (Some (MadeEvent k fl most)) links blocks events scopes is = refl
+past_limit (Some (MadeScope outer output)) links blocks events scopes is = refl
 
 pub slots_are : (s : history.Setting) (past : history.History) (table : Table) (t : ℕ) → IsOf s past table → slots_on table t ≡ slots_now s past t
 slots_are s past table t of =
     let faces : face_on table t ≡ (parts_of s past).face t = ap (λ (f : Parts). f.face t) of.parts in
-    let here : slots_in (face_on table t) ≡ state_of (depc_of s past t) (link_calls past t) = ap slots_in faces ∙ face_slots (made s past t) (link_calls past t) _ _ in
+    let here : slots_in (face_on table t) ≡ state_of (depc_of s past t) (link_calls past t) = ap slots_in faces ∙ face_slots (made s past t) (link_calls past t) _ _ _ in
     elim (is_within table.limit t) as (λ b. is_within table.limit t ≡ b → filled 0 (slots_in (face_on table t)) (sets_in table t) ≡ slots_now s past t) [
       | true ↦ λ within.
           let sets : sets_in table t ≡ set_calls past t = of.sets t (ap (λ (n : ℕ). is_within n t) (sym of.limit) ∙ within) in
           rw (here, sets) (slots_from (link_calls past t) (set_calls past t) 0 (depc_of s past t))
       | false ↦ λ off.
           let vacant : face_on table t ≡ part.Vacant = rw off refl in
-          let none : depc_of s past t ≡ 0 = past_limit (made s past t) (link_calls past t) _ _ (sym faces ∙ vacant) in
+          let none : depc_of s past t ≡ 0 = past_limit (made s past t) (link_calls past t) _ _ _ (sym faces ∙ vacant) in
           rw (vacant, none) refl
     ] refl
 
@@ -198,28 +202,26 @@ entered after_law within_law s past e old ready after new before limit sets stat
     }
 
 -- what the body of a running EDT gets
-stale_is : (m : Option Made) (t : ℕ) (calls : List edt.EdtCall) (loans : List (ℕ × Kept)) → is_running (core m t calls loans) ≡ true → stale_on (core m t calls loans) ≡ edt.stale_of calls
-stale_is None t calls loans is = cc is
-stale_is (Some (MadeBlock n c)) t calls loans is = cc is
-stale_is (Some (MadeTemplate f pc dc)) t calls loans is = cc is
-stale_is (Some (MadeEvent k fl most)) t calls loans is = cc is
-stale_is (Some (MadeEdt f ps n)) t [] loans is = cc is
-stale_is (Some (MadeEdt f ps n)) t (edt.Start ∷ past) loans is = refl
-stale_is (Some (MadeEdt f ps n)) t (edt.Hold g ∷ past) loans is = refl
-stale_is (Some (MadeEdt f ps n)) t (edt.DropHold g ∷ past) loans is = refl
-stale_is (Some (MadeEdt f ps n)) t (other ∷ past) loans is = cc is
+stale_is : (m : Option Made) (i : Identity) (calls : List edt.EdtCall) (loans : List (ℕ × Kept)) → is_running (core m i calls loans) ≡ true → stale_on (core m i calls loans) ≡ edt.stale_of calls
+stale_is None i calls loans is = cc is
+stale_is (Some (MadeBlock n c)) i calls loans is = cc is
+stale_is (Some (MadeTemplate f pc dc)) i calls loans is = cc is
+stale_is (Some (MadeEvent k fl most)) i calls loans is = cc is
+stale_is (Some (MadeScope outer output)) i calls loans is = cc is
+stale_is (Some (MadeEdt f ps n)) i [] loans is = cc is
+stale_is (Some (MadeEdt f ps n)) i (edt.Start ∷ past) loans is = refl
+stale_is (Some (MadeEdt f ps n)) i (edt.Hold g ∷ past) loans is = refl
+stale_is (Some (MadeEdt f ps n)) i (edt.DropHold g ∷ past) loans is = refl
+stale_is (Some (MadeEdt f ps n)) i (other ∷ past) loans is = cc is
 
 pub depv_is : (s : history.Setting) (past : history.History) (table : Table) (t : ℕ) → IsOf s past table → is_running ((parts_of s past).core t) ≡ true
     → depv_in (stale_on (core_on table t)) (slots_on table t) ≡ depv_of s past t
 depv_is s past table t of running =
     ap (λ (x : Part). depv_in (stale_on x) (slots_on table t)) (ap (λ (f : Parts). f.core t) of.parts)
-    ∙ ap (λ (stale : List ℕ). depv_in stale (slots_on table t)) (stale_is (made s past t) t (edt_calls s past t) (loans_of s past t) running)
+    ∙ ap (λ (stale : List ℕ). depv_in stale (slots_on table t)) (stale_is (made s past t) (identity_of past t) (edt_calls s past t) (loans_of s past t) running)
     ∙ ap (depv_in (edt.stale_of (edt_calls s past t))) (slots_are s past table t of)
 
 -- what an EDT acquires next
-same : (n : ℕ) → (n == n) ≡ true
-same n = search rules
-
 pub next_is : (s : history.Setting) (past : history.History) (table : Table) (t : ℕ) → IsOf s past table
     → next_in (core_progress (on_core (core_on table t) (with_phase (made_ready (plan_on table t))))) ≡ next_on (ready_at t (plan_of s past t) (parts_of s past)) t
 next_is s past table t of =
@@ -228,9 +230,6 @@ next_is s past table t of =
     ∙ sym (rw (same t) refl)
 
 -- THE CORE of an EDT that is made ready in its place
-put_whole : (ps : List Part) (m n : ℕ) (x : Part) → m < length ps → part_at (slice_set ps m x) n ≡ (if m == n then x else part_at ps n)
-put_whole ps m n x below = grind (arith, common_steps)
-
 as_core_step : (x : Part) (step : Core → Core) → as_core (on_core x step) ≡ on_core (as_core x) step
 as_core_step (part.Core c) step = refl
 as_core_step other step = refl
@@ -262,19 +261,6 @@ pub ready_placed : (limit : ℕ) (ps later : List Part) (t : ℕ) (ms : List (�
 ready_placed limit ps later t ms set are =
     kept_set limit (part_at ps) (part_at later) (limit + t) (on_core (part_at ps (limit + t)) (with_phase (made_ready ms))) set
     (kept_step limit (limit + t) (part_at ps (limit + t)) (with_phase (made_ready ms)) (are (limit + t) ∙ place_is limit (part_at ps) (limit + t))) are
-
--- and of one that is not there
-no_core : (f : Parts) (t : ℕ) (x : Part) → x ≡ f.core t → with_core f t x ≡ f
-no_core f t x is = λ i. record {
-  face = f.face;
-  core = λ u. (elim (t == u) as (λ b. (t == u) ≡ b → (if b then x else f.core u) ≡ f.core u) [
-    | true ↦ λ same. is ∙ ap f.core (eqb-true t u same)
-    | false ↦ λ _. refl
-  ] refl) i;
-}
-
-pub ready_nowhere : (limit : ℕ) (ps : List Part) (t : ℕ) (ms : List (ℕ × Mode)) → is_within limit t ≡ false → all_parts limit ps ≡ ready_at t ms (all_parts limit ps)
-ready_nowhere limit ps t ms off = sym (no_core (all_parts limit ps) t _ (rw off refl))
 
 -- THE OPENING
 flipped : (t : ℕ) → (2 == t) ≡ (t == 2)

@@ -11,10 +11,8 @@ use Rattle.ocr_meaning.specs.declared.call.Answer.{Answer}
 use Rattle.ocr_parts.specs.declared.part.Part.{Part}
 use Rattle.ocr_parts.specs.declared.part.Part.TheVariants as part
 use Rattle.ocr_parts.specs.Calls.{is_object}
-use Rattle.ocr_parts.specs.Codes.{code_of}
 use Rattle.ocr_parts.specs.Footprint.{makes_core}
-use Rattle.ocr_parts.specs.Kinds.{is_running}
-use Rattle.ocr_parts.specs.LegalOn.{IsAnswered, IsLoanBack}
+use Rattle.ocr_parts.specs.LegalOn.{IsCallOn, IsLoanBack}
 use Rattle.ocr_parts.specs.Parts.{Parts}
 use Rattle.ocr_parts.specs.Taken.{has, put, keys, is_within, parts_in, ArePlaced}
 
@@ -55,17 +53,22 @@ pub record HasCore (h : AtHand) (t : ℕ) : Type 0 where
   pub within : is_within h.limit t ≡ true
   pub here : has h.items (h.limit + t) ≡ true
 
+-- the face of an object, where the number is not NULL_GUID
+abbrev pub HasNamed : AtHand → ℕ → Type 0
+HasNamed h n = (n == 0) ≡ false → HasFace h n
+
 -- the parts of what an accepted call makes are at hand
 pub record HasMade (h : AtHand) (c : body.Call) (a : Answer) : Type 0 where
   pub face : is_creation c ≡ true → HasFace h a.value
   pub core : makes_core c ≡ true → HasCore h a.value
+  pub scope : makes_core c ≡ true → HasNamed h a.scope
+  pub output : makes_core c ≡ true → HasNamed h a.output
 
--- a call of an EDT that is accepted on these parts
-pub record IsAccepted (h : AtHand) (t : ℕ) (c : body.Call) (a : Answer) : Type 0 where
-  pub running : is_running ((state h).core t) ≡ true
+-- a call of an EDT with this home that is accepted on these parts
+pub record IsAccepted (h : AtHand) (t home : ℕ) (c : body.Call) (a : Answer)
+    (w : List (ℕ × ℕ)) : Type 0 where
+  pub legal : IsCallOn h.limit (state h) t home c a w
   pub done : a.code ≡ Done
-  pub code : code_of t (state h).face c ≡ Done
-  pub answered : IsAnswered h.limit (state h) t c a
   pub made : HasMade h c a
 
 -- a hold that may end
@@ -87,3 +90,14 @@ pub record IsStorable (k : ℕ) (st : block.State) : Type 0 where
 abbrev pub AreOthers : ℕ → List ℕ → Type 0
 AreOthers g [] = Unit {0}
 AreOthers g (d ∷ rest) = (is_object d ≡ true → (g == d) ≡ false) × AreOthers g rest
+
+-- an EDT can be made: its parts are at hand, and the faces of its scope and of its output event,
+-- where it has them, and the dependences name none of these
+pub record HasRoom (h : AtHand) (a : Answer) (deps : List ℕ) : Type 0 where
+  pub face : HasFace h a.value
+  pub core : HasCore h a.value
+  pub scope : HasNamed h a.scope
+  pub output : HasNamed h a.output
+  pub others : AreOthers a.value deps
+  pub not_scope : AreOthers a.scope deps
+  pub not_output : AreOthers a.output deps

@@ -6,7 +6,7 @@ ghost use Rattle.ocr_slots.specs.declared.Slot.{Slot};
 ghost use Rattle.ocr_slots.specs.Steps.{after_link};
 ghost use Rattle.ocr_parts.specs.Calls.{mode_named, target_of};
 ghost use Rattle.ocr_parts.specs.Codes.{link_code, dependence_code, brings_block};
-ghost use Rattle.ocr_parts.specs.Effects.{with_face, called, doomed_template, linked_if};
+ghost use Rattle.ocr_parts.specs.Effects.{with_face, called, joined, doomed_template, linked_if};
 ghost use Rattle.ocr_parts.specs.Kinds.{IsBlock, with_block, with_links, with_template, is_template, with_event, is_event, is_edt_face, counted_on};
 ghost use Rattle.ocr_any_event.specs.AnyEvent.{after_destroy};
 ghost use Rattle.ocr_parts.specs.Messages.{sent_by, linked_by, resumed_by_call};
@@ -15,6 +15,7 @@ ghost use Rattle.ocr_machine.specs.AtHand.{state, Becomes, IsAccepted, IsStorabl
 use crate::ending::{destroy, end_hold};
 use crate::events::{depend, satisfy_at};
 use crate::making::{create_block, create_event, create_template, make_edt};
+use crate::scopes::join_home;
 use crate::table::Entered;
 use crate::taken::Taken;
 use ocr_acquire::Mode;
@@ -26,16 +27,41 @@ use ocr_meaning::{Answer, Call};
 use ocr_parts::Part;
 use std::alloc::Global;
 
-/// What an accepted call does; gives what it sends, and who is resumed.
-pub(crate) fn call_step(
+/// What the entry of an accepted call does; gives what it sends, and who is resumed.
+pub(crate) fn call_entry(
     alloc: Global,
     parts: &mut Taken,
     edt: u64,
+    home: u64,
     call: &Call,
     answer: &Answer,
     writes: &Writes,
 ) -> Result<Entered, NoMemory>
-    requires accepted { IsAccepted parts.old edt call.now answer.now }
+    requires accepted { IsAccepted parts.old edt home call.now answer.now writes.now }
+    requires counts { (g : ℕ) → counted_on ((state parts.old).face g) < 2 ^ 64 - 1 }
+    ensures parts { IfOk result (λ _. Becomes parts.old parts.new
+        (joined call.now home (called edt call.now answer.now writes.now (state parts.old)))) }
+    ensures messages { IfOk result (λ r. r.messages.items
+        ≡ sent_by call.now answer.now (state parts.old)) }
+    ensures resumed { IfOk result (λ r. r.resumed.items
+        ≡ resumed_by_call edt call.now (state parts.old)) }
+{
+    let called = call_step(alloc, parts, edt, home, call, answer, writes)?;
+    join_home(parts, home, call);
+    Ok(called)
+}
+
+/// What an accepted call does; gives what it sends, and who is resumed.
+fn call_step(
+    alloc: Global,
+    parts: &mut Taken,
+    edt: u64,
+    home: u64,
+    call: &Call,
+    answer: &Answer,
+    writes: &Writes,
+) -> Result<Entered, NoMemory>
+    requires accepted { IsAccepted parts.old edt home call.now answer.now writes.now }
     requires counts { (g : ℕ) → counted_on ((state parts.old).face g) < 2 ^ 64 - 1 }
     ensures parts { IfOk result (λ _. Becomes parts.old parts.new
         (called edt call.now answer.now writes.now (state parts.old))) }
@@ -88,10 +114,12 @@ pub(crate) fn call_step(
             params,
             depc,
             deps,
-            flags: _,
+            flags,
             output: _,
         } => {
-            let messages = make_edt(alloc, parts, *template, params, *depc, deps, answer.value)?;
+            let messages = make_edt(
+                alloc, parts, home, *template, params, *depc, deps, *flags, answer,
+            )?;
             Ok(only_sent(alloc, messages))
         }
         Call::EventCreate { kind, flags } => {

@@ -4,18 +4,19 @@ ghost use Rattle.ocr_acquire.specs.Mode.{mode_in};
 ghost use Rattle.ocr_datablock.specs.Steps.{after_release, after_doom};
 ghost use Rattle.ocr_parts.specs.Calls.{is_number};
 ghost use Rattle.ocr_parts.specs.Effects.{with_face, with_core, with_phase, dropped_edt, ended_edt, dropping_core, returned, hold_ended, ended};
-ghost use Rattle.ocr_parts.specs.Kinds.{IsBlock, with_block, on_core, is_running, is_destroyed, loan_on};
+ghost use Rattle.ocr_parts.specs.Kinds.{IsBlock, with_block, on_core, is_running, is_destroyed, loan_on, identity_on};
 ghost use Rattle.ocr_parts.specs.LegalOn.{IsEnding, IsDooming, IsEndOn, IsLoanBack};
 ghost use Rattle.ocr_parts.specs.Loans.{loan_in};
-ghost use Rattle.ocr_parts.specs.Messages.{resumed_by, resumed_by_doom};
+ghost use Rattle.ocr_parts.specs.Messages.{resumed_by, resumed_by_doom, sent_by_end, payload_of_end};
 ghost use Rattle.ocr_machine.specs.AtHand.{state, Becomes, IsReturning, IsDoomable};
 
+use crate::scopes::sent_by_end;
 use crate::taken::Taken;
 use ocr_base::NoMemory;
 use ocr_datablock::{Block, Lent};
-use ocr_edt::Edt;
+use ocr_edt::{Edt, Identity};
 use ocr_guid::Guid;
-use ocr_history::Writes;
+use ocr_history::{What, Writes};
 use ocr_parts::{Core, Kept, Part};
 use std::alloc::Global;
 
@@ -168,12 +169,44 @@ fn doom_at(
     Ok(resumed)
 }
 
-/// The EDT ends.
-pub(crate) fn end_core(parts: &mut Taken, edt: u64)
+/// The EDT ends with this GUID; gives what goes out to its output event and to its home.
+pub(crate) fn end_step(
+    alloc: Global,
+    parts: &mut Taken,
+    edt: u64,
+    returned: u64,
+) -> Result<Vec<What>, NoMemory>
     requires { IsEndOn (state parts.old) edt }
-    ensures { Becomes parts.old parts.new
+    ensures parts { IfOk result (λ _. Becomes parts.old parts.new
+        (with_core (state parts.old) edt
+        (on_core ((state parts.old).core edt) (with_phase ended_edt)))) }
+    ensures messages { IfOk result (λ r. r.items
+        ≡ sent_by_end (identity_on ((state parts.old).core edt))
+        (payload_of_end ((state parts.old).face returned) returned)) }
+{
+    let payload = payload_of_end(parts, returned);
+    let identity = end_core(parts, edt);
+    sent_by_end(alloc, identity, payload)
+}
+
+/// What the output event gets: the block that the body returned, and NULL_GUID for anything else.
+fn payload_of_end(parts: &Taken, returned: u64) -> Guid
+    ensures { result ≡ payload_of_end ((state parts.now).face returned) returned }
+{
+    if parts.is_block(returned) {
+        Guid(returned)
+    } else {
+        Guid::NULL
+    }
+}
+
+/// The EDT ends; gives what it keeps through all its phases.
+fn end_core(parts: &mut Taken, edt: u64) -> Identity
+    requires { IsEndOn (state parts.old) edt }
+    ensures parts { Becomes parts.old parts.new
         (with_core (state parts.old) edt
         (on_core ((state parts.old).core edt) (with_phase ended_edt))) }
+    ensures identity { result ≡ identity_on ((state parts.old).core edt) }
 {
     let Core {
         function,
@@ -184,6 +217,7 @@ pub(crate) fn end_core(parts: &mut Taken, edt: u64)
     let Edt::Running(running) = phase else {
         unreachable!()
     };
+    let identity = running.identity();
     let core = Core {
         function,
         params,
@@ -191,4 +225,5 @@ pub(crate) fn end_core(parts: &mut Taken, edt: u64)
         loans,
     };
     parts.put_core(edt, core);
+    identity
 }

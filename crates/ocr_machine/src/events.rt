@@ -1,4 +1,4 @@
-// What satisfies events, and what their targets get.
+// What messages bring: what satisfies events, what their targets get, and who leaves a scope.
 ghost use Rattle.std.specs.Prelude.{◌≡◌, ◌≤◌, ◌<◌, ◌-◌, ◌^◌, ◌++◌, ℕ, length, map, true, IfOk};
 ghost use Rattle.ocr_any_event.specs.AnyEvent.{after_satisfy};
 ghost use Rattle.ocr_guid.specs.Target.{sent_by_firing, sent_by_linking};
@@ -11,6 +11,7 @@ ghost use Rattle.ocr_parts.specs.Messages.{what_to, carried_by, satisfied, linke
 ghost use Rattle.ocr_machine.specs.AtHand.{state, Becomes};
 
 use crate::codes::is_object;
+use crate::scopes::leave_at;
 use crate::taken::Taken;
 use ocr_any_event::AnyEvent;
 use ocr_base::NoMemory;
@@ -38,7 +39,8 @@ pub(crate) fn deliver_step(
             slot,
             payload,
         } => satisfy_at(alloc, parts, event.0, u64::from(slot), payload.0),
-        What::Set { .. } | What::Leave { .. } => Ok(Vec::new(alloc)),
+        What::Leave { scope } => leave_at(alloc, parts, scope.0),
+        What::Set { .. } => Ok(Vec::new(alloc)),
     }
 }
 

@@ -9,12 +9,12 @@ ghost use Rattle.ocr_slots.specs.Slots.{state_of as slots_of};
 ghost use Rattle.ocr_slots.specs.Steps.{after_link};
 ghost use Rattle.ocr_template.specs.Template.{count_meant};
 ghost use Rattle.ocr_parts.specs.Calls.{dep_links, is_given};
-ghost use Rattle.ocr_parts.specs.Effects.{with_face, with_core, creating_core, holding_edt, new_face, new_core, deps_linked};
+ghost use Rattle.ocr_parts.specs.Effects.{with_face, with_core, with_named, with_beside, creating_core, holding_edt, new_face, new_core, new_output, new_scope, deps_linked};
 ghost use Rattle.ocr_parts.specs.Kinds.{on_core, is_running, is_template};
 ghost use Rattle.ocr_parts.specs.Messages.{dep_sends};
-ghost use Rattle.ocr_parts.specs.Parts.{identity_of};
+ghost use Rattle.ocr_parts.specs.Parts.{new_identity};
 ghost use Rattle.ocr_parts.specs.declared.part.Part.TheVariants as part;
-ghost use Rattle.ocr_machine.specs.AtHand.{state, Becomes, HasFace, HasCore, AreOthers, slots_meant};
+ghost use Rattle.ocr_machine.specs.AtHand.{state, Becomes, HasFace, HasCore, HasNamed, HasRoom, slots_meant};
 
 use crate::events::depend_all;
 use crate::taken::Taken;
@@ -22,9 +22,11 @@ use ocr_acquire::Mode;
 use ocr_any_event::{CHANNEL, event_of};
 use ocr_base::{NoMemory, Seq};
 use ocr_datablock::Block;
-use ocr_edt::{Edt, Filling};
+use ocr_edt::{Edt, Filling, Identity};
+use ocr_finish::Scope;
 use ocr_guid::Guid;
-use ocr_history::What;
+use ocr_history::{OUTPUT_FLAGS, OUTPUT_KIND, What};
+use ocr_meaning::Answer;
 use ocr_parts::{Core, Kept, Loans, Part};
 use ocr_slots::Slots;
 use ocr_template::{EDT_PARAM_DEF, Template};
@@ -148,62 +150,109 @@ pub(crate) fn create_event(
     parts.put_face(event, Part::Event(made));
 }
 
-/// Makes an EDT from a template, whose slots get the dependences; gives what goes to them at once.
+/// Makes an EDT from a template, with its scope and its output event, by one with this home. Its
+/// slots get the dependences; gives what goes to them at once.
 pub(crate) fn make_edt(
     alloc: Global,
     parts: &mut Taken,
+    home: u64,
     template: u64,
     params: &Seq<u64>,
     depc: u64,
     deps: &Seq<u64>,
-    edt: u64,
+    flags: u64,
+    answer: &Answer,
 ) -> Result<Vec<What>, NoMemory>
     requires template { is_template ((state parts.old).face template) ≡ true }
     requires slots { slots_meant ((state parts.old).face template) depc ≤ 32 }
     requires deps { length deps.now ≤ slots_meant ((state parts.old).face template) depc }
-    requires others { AreOthers edt deps.now }
-    requires face { HasFace parts.old edt }
-    requires core { HasCore parts.old edt }
+    requires room { HasRoom parts.old answer.now deps.now }
     ensures parts { IfOk result (λ _. Becomes parts.old parts.new
-        (deps_linked edt 0 deps.now
+        (deps_linked answer.now.value 0 deps.now
         (with_core
-        (with_face (state parts.old) edt
+        (with_face (with_beside (state parts.old) home answer.now) answer.now.value
         (new_face ((state parts.old).face template) depc deps.now))
-        edt (new_core ((state parts.old).face template) edt params.now)))) }
+        answer.now.value (new_core ((state parts.old).face template)
+        (new_identity answer.now.value flags answer.now home) params.now)))) }
     ensures messages { IfOk result (λ r. r.items
-        ≡ dep_sends edt 0 deps.now (state parts.old)) }
+        ≡ dep_sends answer.now.value 0 deps.now (state parts.old)) }
 {
-    create_edt(alloc, parts, template, params, depc, deps, edt)?;
-    depend_all(alloc, parts, edt, deps.as_slice())
+    let template = parts.template(template);
+    create_beside(alloc, parts, home, answer);
+    let identity = new_identity(flags, answer, home);
+    create_edt(alloc, parts, template, params, depc, deps, identity)?;
+    depend_all(alloc, parts, answer.value, deps.as_slice())
+}
+
+/// The output event and the scope of a new EDT, where it has them.
+fn create_beside(alloc: Global, parts: &mut Taken, home: u64, answer: &Answer)
+    requires output { HasNamed parts.old answer.now.output }
+    requires scope { HasNamed parts.old answer.now.scope }
+    ensures { Becomes parts.old parts.new (with_beside (state parts.old) home answer.now) }
+{
+    create_output(alloc, parts, answer.output.0);
+    create_scope(parts, home, answer);
+}
+
+fn create_output(alloc: Global, parts: &mut Taken, output: u64)
+    requires { HasNamed parts.old output }
+    ensures { Becomes parts.old parts.new (with_named (state parts.old) output new_output) }
+{
+    if output != 0 {
+        create_event(alloc, parts, OUTPUT_KIND, OUTPUT_FLAGS, 0, output);
+    }
+}
+
+fn create_scope(parts: &mut Taken, home: u64, answer: &Answer)
+    requires { HasNamed parts.old answer.now.scope }
+    ensures { Becomes parts.old parts.new
+        (with_named (state parts.old) answer.now.scope (new_scope home answer.now)) }
+{
+    if answer.scope != Guid::NULL {
+        let made = Scope::new(Guid(home), answer.output);
+        parts.put_face(answer.scope.0, Part::Scope(made));
+    }
+}
+
+/// Who a new EDT is whose maker has this home.
+fn new_identity(flags: u64, answer: &Answer, home: u64) -> Identity
+    ensures { result ≡ new_identity answer.now.value flags answer.now home }
+{
+    let finish = flags == 1;
+    Identity {
+        edt: Guid(answer.value),
+        scope: if finish { answer.scope } else { Guid(home) },
+        output: answer.output,
+        finish,
+    }
 }
 
 /// Makes an EDT from a template.
 fn create_edt(
     alloc: Global,
     parts: &mut Taken,
-    template: u64,
+    template: Template,
     params: &Seq<u64>,
     depc: u64,
     deps: &Seq<u64>,
-    edt: u64,
+    identity: Identity,
 ) -> Result<(), NoMemory>
-    requires template { is_template ((state parts.old).face template) ≡ true }
-    requires slots { slots_meant ((state parts.old).face template) depc ≤ 32 }
-    requires deps { length deps.now ≤ slots_meant ((state parts.old).face template) depc }
-    requires face { HasFace parts.old edt }
-    requires core { HasCore parts.old edt }
+    requires slots { count_meant template.depc depc ≤ 32 }
+    requires deps { length deps.now ≤ count_meant template.depc depc }
+    requires face { HasFace parts.old identity.edt }
+    requires core { HasCore parts.old identity.edt }
     ensures { IfOk result (λ _. Becomes parts.old parts.new
         (with_core
-        (with_face (state parts.old) edt
-        (new_face ((state parts.old).face template) depc deps.now))
-        edt (new_core ((state parts.old).face template) edt params.now))) }
+        (with_face (state parts.old) identity.edt
+        (new_face (part.Template template) depc deps.now))
+        identity.edt (new_core (part.Template template) identity params.now))) }
 {
-    let template = parts.template(template);
+    let edt = identity.edt;
     let count = meant_count(template.depc, depc) as u32;
     let slots = new_slots(alloc, count, deps.as_slice())?;
-    let core = made_core(alloc, template.function, params, edt)?;
-    parts.put_face(edt, Part::Edt(slots));
-    parts.put_core(edt, core);
+    let core = made_core(alloc, template.function, params, identity)?;
+    parts.put_face(edt.0, Part::Edt(slots));
+    parts.put_core(edt.0, core);
     Ok(())
 }
 
@@ -215,12 +264,17 @@ fn meant_count(own: u64, given: u64) -> u64
 }
 
 /// The core of a new EDT.
-fn made_core(alloc: Global, function: u32, params: &Seq<u64>, edt: u64) -> Result<Core, NoMemory>
+fn made_core(
+    alloc: Global,
+    function: u32,
+    params: &Seq<u64>,
+    identity: Identity,
+) -> Result<Core, NoMemory>
     ensures { IfOk result
         (λ core. core ≡ record {
           function = function;
           params = params.now;
-          edt = phase.Filling (identity_of edt);
+          edt = phase.Filling identity;
           loans = [];
         }) }
 {
@@ -230,9 +284,21 @@ fn made_core(alloc: Global, function: u32, params: &Seq<u64>, edt: u64) -> Resul
     Ok(Core {
         function,
         params: Seq::from_vec(params),
-        edt: Edt::Filling(Filling::new(Guid(edt), Guid::NULL, Guid::NULL, false)),
+        edt: filling(identity),
         loans: Loans::new(alloc),
     })
+}
+
+fn filling(identity: Identity) -> Edt
+    ensures { result ≡ phase.Filling identity }
+{
+    let Identity {
+        edt,
+        scope,
+        output,
+        finish,
+    } = identity;
+    Edt::Filling(Filling::new(edt, scope, output, finish))
 }
 
 /// The slots of an EDT, of which dependences are given for some.

@@ -85,7 +85,7 @@ impl Table {
         match &self.parts[edt as usize] {
             Part::Edt(slots) => Some((slots, &self.sets[edt as usize])),
             Part::Vacant | Part::Block(_) | Part::Template(_) => None,
-            Part::Event(_) | Part::Core(_) => None,
+            Part::Event(_) | Part::Scope(_) | Part::Core(_) => None,
         }
     }
 
@@ -129,7 +129,7 @@ impl Table {
             Some(Part::Core(core)) => Ok(next_of(core, members.as_slice())),
             Some(Part::Vacant) | Some(Part::Edt(_)) => Ok(None),
             Some(Part::Block(_)) | Some(Part::Template(_)) => Ok(None),
-            Some(Part::Event(_)) | None => Ok(None),
+            Some(Part::Event(_)) | Some(Part::Scope(_)) | None => Ok(None),
         }
     }
 
@@ -225,7 +225,7 @@ impl Table {
             Some(Part::Core(core)) => is_stale_in(&core.edt, block),
             Some(Part::Vacant) | Some(Part::Edt(_)) => false,
             Some(Part::Block(_)) | Some(Part::Template(_)) => false,
-            Some(Part::Event(_)) | None => false,
+            Some(Part::Event(_)) | Some(Part::Scope(_)) | None => false,
         }
     }
 
@@ -323,6 +323,7 @@ fn ready_part(part: Part, members: SmallVec<(Guid, Mode), 8>) -> Part
         Part::Block(state) => Part::Block(state),
         Part::Template(template) => Part::Template(template),
         Part::Event(event) => Part::Event(event),
+        Part::Scope(scope) => Part::Scope(scope),
     }
 }
 

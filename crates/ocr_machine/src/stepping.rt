@@ -7,8 +7,8 @@ ghost use Rattle.ocr_parts.specs.LegalOn.{IsLegalOn};
 ghost use Rattle.ocr_parts.specs.Messages.{sends, resumes};
 ghost use Rattle.ocr_parts.specs.Taken.{keys, parts_in, ArePlaced};
 
-use crate::calling::call_step;
-use crate::ending::{end_core, end_hold};
+use crate::calling::call_entry;
+use crate::ending::{end_hold, end_step};
 use crate::events::deliver_step;
 use crate::taken::Taken;
 use crate::waking::{acquire_step, pass_by, start_core, wait_step};
@@ -47,13 +47,13 @@ pub fn step(
     match entry {
         Entry::Call {
             edt,
-            home: _,
+            home,
             call,
             answer,
             writes,
         } => {
             if answer.code == Code::Done {
-                let called = call_step(alloc, &mut taken, edt.0, call, answer, writes)?;
+                let called = call_entry(alloc, &mut taken, edt.0, home.0, call, answer, writes)?;
                 messages = called.messages;
                 resumed = called.resumed;
             }
@@ -64,7 +64,9 @@ pub fn step(
         Entry::Free { edt, block, writes } => {
             resumed = end_hold(alloc, &mut taken, edt.0, block.0, writes)?;
         }
-        Entry::End { edt, returned: _ } => end_core(&mut taken, edt.0),
+        Entry::End { edt, returned } => {
+            messages = end_step(alloc, &mut taken, edt.0, returned.0)?;
+        }
         Entry::Deliver { message, code } => {
             if *code == Code::Done {
                 messages = deliver_step(alloc, &mut taken, message.what)?;

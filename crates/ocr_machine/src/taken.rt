@@ -1,12 +1,13 @@
 // The parts that an entry has at hand.
 ghost use Rattle.std.specs.Prelude.{◌≡◌, ◌≤◌, ◌+◌, true, IfSome, IfNone};
-ghost use Rattle.ocr_parts.specs.Kinds.{is_block, is_edt_face, is_event, is_template};
+ghost use Rattle.ocr_parts.specs.Kinds.{is_block, is_edt_face, is_event, is_scope, is_template};
 ghost use Rattle.ocr_parts.specs.Taken.{look, put};
 ghost use Rattle.ocr_parts.specs.declared.part.Part.TheVariants as part;
 ghost use Rattle.ocr_machine.specs.AtHand.{state, with_part, is_core};
 
 use ocr_any_event::AnyEvent;
 use ocr_datablock::Block;
+use ocr_finish::Scope;
 use ocr_parts::{Core, Part};
 use ocr_slots::Slots;
 use ocr_template::Template;
@@ -117,8 +118,22 @@ impl Taken {
         }
         match find(&self.parts, object) {
             Some(Part::Event(_)) => true,
-            None | Some(Part::Vacant) | Some(Part::Core(_)) => false,
+            None | Some(Part::Vacant) | Some(Part::Core(_)) | Some(Part::Scope(_)) => false,
             Some(Part::Edt(_)) | Some(Part::Block(_)) | Some(Part::Template(_)) => false,
+        }
+    }
+
+    /// Whether the object is a block.
+    pub fn is_block(&self, object: u64) -> bool
+        ensures { result ≡ is_block ((state self.now).face object) }
+    {
+        if object < 1 || self.limit < object {
+            return false;
+        }
+        match find(&self.parts, object) {
+            Some(Part::Block(_)) => true,
+            None | Some(Part::Vacant) | Some(Part::Core(_)) | Some(Part::Scope(_)) => false,
+            Some(Part::Edt(_)) | Some(Part::Template(_)) | Some(Part::Event(_)) => false,
         }
     }
 
@@ -131,7 +146,7 @@ impl Taken {
         }
         match find(&self.parts, object) {
             Some(Part::Edt(_)) => true,
-            None | Some(Part::Vacant) | Some(Part::Core(_)) => false,
+            None | Some(Part::Vacant) | Some(Part::Core(_)) | Some(Part::Scope(_)) => false,
             Some(Part::Block(_)) | Some(Part::Template(_)) | Some(Part::Event(_)) => false,
         }
     }
@@ -143,6 +158,18 @@ impl Taken {
         ensures left { self.new ≡ with_part self.old event part.Vacant }
     {
         let Part::Event(made) = replace(&mut self.parts, event, Part::Vacant) else {
+            unreachable!()
+        };
+        made
+    }
+
+    /// Takes a finish scope out.
+    pub fn take_scope(&mut self, scope: u64) -> Scope
+        requires { is_scope ((state self.old).face scope) ≡ true }
+        ensures was { (state self.old).face scope ≡ part.Scope result }
+        ensures left { self.new ≡ with_part self.old scope part.Vacant }
+    {
+        let Part::Scope(made) = replace(&mut self.parts, scope, Part::Vacant) else {
             unreachable!()
         };
         made

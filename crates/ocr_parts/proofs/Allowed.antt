@@ -17,16 +17,18 @@ use Rattle.ocr_meaning.specs.declared.call.Call.TheVariants as call
 use Rattle.ocr_meaning.specs.declared.call.Answer.{Answer}
 use Rattle.ocr_history.specs.declared.entry.Entry.TheVariants.{Call, Acquire, Wait, Free}
 use Rattle.ocr_history.specs.History.{History, Setting}
-use Rattle.ocr_history.specs.Made.{Made, MadeBlock, made, makes, size_in, creator_in}
-use Rattle.ocr_parts.specs.Calls.{is_number, ask_calls, lend_calls, end_calls, block_calls, link_calls, stores_from, argument_words, next_member, mode_next, doom_calls, event_calls}
+use Rattle.ocr_history.specs.Made.{Made, MadeBlock, made, is_new, size_in, creator_in}
+use Rattle.ocr_parts.specs.Calls.{is_number, ask_calls, lend_calls, end_calls, block_calls, link_calls, stores_from, argument_words, next_member, mode_next, doom_calls, event_calls, scope_calls}
 use Rattle.ocr_parts.specs.Parts.{face, parts_of}
-use Rattle.ocr_parts.specs.LegalOn.{IsHeld, IsShared, IsTaken, IsRefused, IsAnswered, IsGranted, IsNewcomer, IsAgreed, IsCallOn}
+use Rattle.ocr_parts.specs.LegalOn.{IsHeld, IsShared, IsTaken, IsRefused, IsGranted, IsNewcomer, IsAgreed, IsCallOn}
 use Rattle.ocr_parts.specs.Laws.{AllowedLaw, FreeLaw}
 use Rattle.ocr_parts.proofs.Blocks.{borrower_is, asked_held}
+use Rattle.ocr_parts.proofs.Fresh.{made_old}
 use Rattle.ocr_parts.proofs.After.{mode_is, not_stale, no_other, done_is}
 use Rattle.ocr_datablock.specs.Steps.{AreAllowed}
 use Rattle.ocr_meaning.specs.Holds.{is_done}
 use Rattle.ocr_parts.specs.Kinds.{IsBlock, is_destroyed}
+use Rattle.ocr_finish.specs.Scope.{ScopeCall}
 
 abbrev Are : Option Made → List block.BlockCall → Type 0
 Are m calls = AreAllowed (size_in m) (creator_in m) calls
@@ -35,9 +37,9 @@ are_if : (b : Bool) (m : Option Made) (x y : List block.BlockCall) → (b ≡ tr
 are_if true m x y one other = one refl
 are_if false m x y one other = other
 
-new_are : (b : Bool) (m n : Option Made) (calls : List block.BlockCall) → Are n calls → Are (if b then m else n) (if b then [] else calls)
-new_are true m n calls are = tt
-new_are false m n calls are = are
+new_are : (b : Bool) (m n : Option Made) (calls : List block.BlockCall) → (b ≡ false → m ≡ n) → Are n calls → Are m (if b then [] else calls)
+new_are true m n calls old are = tt
+new_are false m n calls old are = subst (λ (k : Option Made). Are k calls) (sym (old refl)) are
 
 -- THE OPENING
 stores_are : (xs : List ℕ) (k n c : ℕ) (ys : List block.BlockCall) → k + length xs ≤ n → AreAllowed n c ys → block.borrower_of ys ≡ None → AreAllowed n c (stores_from k xs ++ ys)
@@ -56,28 +58,28 @@ opened_are s d false other = tt
 not_number : (t : ℕ) (o : Option ℕ) → is_number t o ≡ false → o ≡ Some t → ⊥
 not_number t o off is = let on : is_number t o ≡ true = ap (is_number t) is ∙ search rules in cc (off, on)
 
-end_are : (m : Option Made) (links : List slot.SlotCall) (blocks : List block.BlockCall) (events : List EventCall) (t : ℕ) (w : List (ℕ × ℕ)) (mo : Option Mode) (loan : Option Loan) → IsBlock (face m links blocks events) (IsHeld t mo loan)
+end_are : (m : Option Made) (links : List slot.SlotCall) (blocks : List block.BlockCall) (events : List EventCall) (scopes : List ScopeCall) (t : ℕ) (w : List (ℕ × ℕ)) (mo : Option Mode) (loan : Option Loan) → IsBlock (face m links blocks events scopes) (IsHeld t mo loan)
     → Are m blocks → Are m (end_calls t w blocks)
-end_are (Some (MadeBlock n c)) links blocks events t w mo loan held are =
+end_are (Some (MadeBlock n c)) links blocks events scopes t w mo loan held are =
     elim (is_number t (block.borrower_of blocks)) as (λ b. is_number t (block.borrower_of blocks) ≡ b → AreAllowed n c (block.Release t ∷ (if b then block.TakeBack t w ∷ blocks else blocks))) [
       | true ↦ λ is. ((are, borrower_is t (block.borrower_of blocks) is), (held.holder, λ no. cc no))
       | false ↦ λ off. (are, (held.holder, not_number t (block.borrower_of blocks) off))
     ] refl
-end_are other links blocks events t w mo loan held are = absurd held
+end_are other links blocks events scopes t w mo loan held are = absurd held
 
-doom_are : (m : Option Made) (links : List slot.SlotCall) (blocks : List block.BlockCall) (events : List EventCall) (t : ℕ) (w : List (ℕ × ℕ)) (mo : Option Mode) (loan : Option Loan) → IsBlock (face m links blocks events) (IsAgreed t mo loan)
-    → is_destroyed (face m links blocks events) ≡ false → Are m blocks → Are m (doom_calls t w blocks)
-doom_are (Some (MadeBlock n c)) links blocks events t w mo loan held live are =
+doom_are : (m : Option Made) (links : List slot.SlotCall) (blocks : List block.BlockCall) (events : List EventCall) (scopes : List ScopeCall) (t : ℕ) (w : List (ℕ × ℕ)) (mo : Option Mode) (loan : Option Loan) → IsBlock (face m links blocks events scopes) (IsAgreed t mo loan)
+    → is_destroyed (face m links blocks events scopes) ≡ false → Are m blocks → Are m (doom_calls t w blocks)
+doom_are (Some (MadeBlock n c)) links blocks events scopes t w mo loan held live are =
     elim (is_number t (block.borrower_of blocks)) as (λ b. is_number t (block.borrower_of blocks) ≡ b → AreAllowed n c (block.Doom t ∷ (if b then block.TakeBack t w ∷ blocks else blocks))) [
       | true ↦ λ is. ((are, borrower_is t (block.borrower_of blocks) is), (live, λ no. cc no))
       | false ↦ λ off. (are, (live, not_number t (block.borrower_of blocks) off))
     ] refl
-doom_are other links blocks events t w mo loan held live are = absurd held
+doom_are other links blocks events scopes t w mo loan held live are = absurd held
 
 -- A STORE
-store_are : (m : Option Made) (links : List slot.SlotCall) (blocks : List block.BlockCall) (events : List EventCall) (t k v : ℕ) (mo : Option Mode) → IsBlock (face m links blocks events) (IsShared t k mo) → Are m blocks → Are m (block.Store k v ∷ blocks)
-store_are (Some (MadeBlock n c)) links blocks events t k v mo held are = (are, (held.exists, held.not_lent))
-store_are other links blocks events t k v mo held are = absurd held
+store_are : (m : Option Made) (links : List slot.SlotCall) (blocks : List block.BlockCall) (events : List EventCall) (scopes : List ScopeCall) (t k v : ℕ) (mo : Option Mode) → IsBlock (face m links blocks events scopes) (IsShared t k mo) → Are m blocks → Are m (block.Store k v ∷ blocks)
+store_are (Some (MadeBlock n c)) links blocks events scopes t k v mo held are = (are, (held.exists, held.not_lent))
+store_are other links blocks events scopes t k v mo held are = absurd held
 
 -- A BLOCK IS GRANTED
 exclusive_is : (m : Mode) → is_exclusive m ≡ true → m ≡ mode.Ew
@@ -103,8 +105,8 @@ lend_are n c calls t m are held none = elim (is_exclusive m) as (λ b. is_exclus
   | false ↦ λ _. are
 ] refl
 
-taken_are : (made : Option Made) (links : List slot.SlotCall) (blocks : List block.BlockCall) (events : List EventCall) (t : ℕ) (m : Mode) → IsBlock (face made links blocks events) (IsTaken t m) → Are made blocks → Are made (lend_calls t m (ask_calls t m (creator_in made) blocks))
-taken_are (Some (MadeBlock n c)) links blocks events t m taken are =
+taken_are : (made : Option Made) (links : List slot.SlotCall) (blocks : List block.BlockCall) (events : List EventCall) (scopes : List ScopeCall) (t : ℕ) (m : Mode) → IsBlock (face made links blocks events scopes) (IsTaken t m) → Are made blocks → Are made (lend_calls t m (ask_calls t m (creator_in made) blocks))
+taken_are (Some (MadeBlock n c)) links blocks events scopes t m taken are =
     elim (is_some (mode_in t (block.holders_of c blocks))) as (λ b. is_some (mode_in t (block.holders_of c blocks)) ≡ b → AreAllowed n c (lend_calls t m (if b then blocks else block.Ask t m ∷ blocks))) [
       | true ↦ λ here. lend_are n c blocks t m are (held_here t m (block.state_of n c blocks) here taken.fit) taken.not_lent
       | false ↦ λ off.
@@ -112,11 +114,11 @@ taken_are (Some (MadeBlock n c)) links blocks events t m taken are =
           let free = free_there t m (block.state_of n c blocks) off taken.fit in
           lend_are n c (block.Ask t m ∷ blocks) t m (are, (none, free.not_waiting, free.some_mode)) (asked_held t m (block.state_of n c blocks) taken none) taken.not_lent
     ] refl
-taken_are other links blocks events t m taken are = absurd taken
+taken_are other links blocks events scopes t m taken are = absurd taken
 
-refused_are : (made : Option Made) (links : List slot.SlotCall) (blocks : List block.BlockCall) (events : List EventCall) (t : ℕ) (m : Mode) → IsBlock (face made links blocks events) (IsRefused t m) → Are made blocks → Are made (block.Ask t m ∷ blocks)
-refused_are (Some (MadeBlock n c)) links blocks events t m refused are = (are, (refused.newcomer.no_holder, refused.newcomer.not_waiting, refused.newcomer.some_mode))
-refused_are other links blocks events t m refused are = absurd refused
+refused_are : (made : Option Made) (links : List slot.SlotCall) (blocks : List block.BlockCall) (events : List EventCall) (scopes : List ScopeCall) (t : ℕ) (m : Mode) → IsBlock (face made links blocks events scopes) (IsRefused t m) → Are made blocks → Are made (block.Ask t m ∷ blocks)
+refused_are (Some (MadeBlock n c)) links blocks events scopes t m refused are = (are, (refused.newcomer.no_holder, refused.newcomer.not_waiting, refused.newcomer.some_mode))
+refused_are other links blocks events scopes t m refused are = absurd refused
 
 first_of : (a b : Bool) → (a && b) ≡ true → a ≡ true
 first_of true b h = refl
@@ -128,28 +130,28 @@ second_of false b h = cc h
 
 called_are : (s : Setting) (past : History) (t home : ℕ) (c : body.Call) (a : Answer) (w : List (ℕ × ℕ)) (d : ℕ) → IsCallOn s.limit (parts_of s past) t home c a w → Are (made s past d) (block_calls s past d)
     → Are (made s (Call t home c a w ∷ past) d) (block_calls s (Call t home c a w ∷ past) d)
-called_are s past t home (call.DbCreate n fl) a w d legal are = new_are (makes a d) _ (made s past d) (block_calls s past d) are
-called_are s past t home (call.TemplateCreate f pc dc) a w d legal are = new_are (makes a d) _ (made s past d) (block_calls s past d) are
-called_are s past t home (call.EdtCreate from pc ps dc ds fl o) a w d legal are = new_are (makes a d) _ (made s past d) (block_calls s past d) are
+called_are s past t home (call.DbCreate n fl) a w d legal are = new_are (is_new (call.DbCreate n fl) a d) _ (made s past d) (block_calls s past d) (made_old s past t home (call.DbCreate n fl) a w d) are
+called_are s past t home (call.TemplateCreate f pc dc) a w d legal are = new_are (is_new (call.TemplateCreate f pc dc) a d) _ (made s past d) (block_calls s past d) (made_old s past t home (call.TemplateCreate f pc dc) a w d) are
+called_are s past t home (call.EdtCreate from pc ps dc ds fl o) a w d legal are = new_are (is_new (call.EdtCreate from pc ps dc ds fl o) a d) _ (made s past d) (block_calls s past d) (made_old s past t home (call.EdtCreate from pc ps dc ds fl o) a w d) are
 called_are s past t home (call.DbRelease b) a w d legal are =
     are_if (is_done a.code && (b == d)) (made s past d) (end_calls t w (block_calls s past d)) (block_calls s past d)
     (λ here. let e : b ≡ d = eqb-true b d (second_of (is_done a.code) (b == d) here) in
     subst (λ (n : ℕ). Are (made s past n) (block_calls s past n) → Are (made s past n) (end_calls t w (block_calls s past n))) e
-    (end_are (made s past b) (link_calls past b) (block_calls s past b) (event_calls s past b) t w _ _ (legal.value.0 (first_of (is_done a.code) (b == d) here))) are) are
+    (end_are (made s past b) (link_calls past b) (block_calls s past b) (event_calls s past b) (scope_calls past b) t w _ _ (legal.value.0 (first_of (is_done a.code) (b == d) here))) are) are
 called_are s past t home (call.DbDestroy b) a w d legal are =
     are_if (is_done a.code && (b == d)) (made s past d) (doom_calls t w (block_calls s past d)) (block_calls s past d)
     (λ here. let e : b ≡ d = eqb-true b d (second_of (is_done a.code) (b == d) here) in
     let on : is_done a.code ≡ true = first_of (is_done a.code) (b == d) here in
     subst (λ (n : ℕ). Are (made s past n) (block_calls s past n) → Are (made s past n) (doom_calls t w (block_calls s past n))) e
-    (doom_are (made s past b) (link_calls past b) (block_calls s past b) (event_calls s past b) t w _ _ (legal.value.0 on)
+    (doom_are (made s past b) (link_calls past b) (block_calls s past b) (event_calls s past b) (scope_calls past b) t w _ _ (legal.value.0 on)
     (no_other (is_destroyed ((parts_of s past).face b)) (not_stale t (parts_of s past).face (call.DbDestroy b) (sym legal.code ∙ done_is a.code on)))) are) are
 called_are s past t home (call.Store b k v) a w d legal are =
     are_if (is_done a.code && (b == d)) (made s past d) (block.Store k v ∷ block_calls s past d) (block_calls s past d)
     (λ here. let e : b ≡ d = eqb-true b d (second_of (is_done a.code) (b == d) here) in
     subst (λ (n : ℕ). Are (made s past n) (block_calls s past n) → Are (made s past n) (block.Store k v ∷ block_calls s past n)) e
-    (store_are (made s past b) (link_calls past b) (block_calls s past b) (event_calls s past b) t k v _ legal.value.0) are) are
-called_are s past t home (call.EventCreate k fl) a w d legal are = new_are (makes a d) _ (made s past d) (block_calls s past d) are
-called_are s past t home (call.EventCreateParams k fl gen sat deps) a w d legal are = new_are (makes a d) _ (made s past d) (block_calls s past d) are
+    (store_are (made s past b) (link_calls past b) (block_calls s past b) (event_calls s past b) (scope_calls past b) t k v _ legal.value.0) are) are
+called_are s past t home (call.EventCreate k fl) a w d legal are = new_are (is_new (call.EventCreate k fl) a d) _ (made s past d) (block_calls s past d) (made_old s past t home (call.EventCreate k fl) a w d) are
+called_are s past t home (call.EventCreateParams k fl gen sat deps) a w d legal are = new_are (is_new (call.EventCreateParams k fl gen sat deps) a d) _ (made s past d) (block_calls s past d) (made_old s past t home (call.EventCreateParams k fl gen sat deps) a w d) are
 called_are s past t home other a w d legal are = are
 
 pub allowed_law : AllowedLaw
@@ -159,20 +161,20 @@ allowed_law s (Acquire t b ∷ past) run d =
     let m = mode_next (next_member s past t) in
     are_if (b == d) (made s past d) (lend_calls t m (ask_calls t m (creator_in (made s past d)) (block_calls s past d))) (block_calls s past d)
     (λ here. subst (λ (n : ℕ). Are (made s past n) (block_calls s past n) → Are (made s past n) (lend_calls t m (ask_calls t m (creator_in (made s past n)) (block_calls s past n)))) (eqb-true b d here)
-    (taken_are (made s past b) (link_calls past b) (block_calls s past b) (event_calls s past b) t m
+    (taken_are (made s past b) (link_calls past b) (block_calls s past b) (event_calls s past b) (scope_calls past b) t m
     (subst (λ (k : Mode). IsBlock ((parts_of s past).face b) (IsTaken t k)) (sym (mode_is s past t _ run.1.on_parts.next)) run.1.on_parts.taken)) (allowed_law s past run.0 d))
     (allowed_law s past run.0 d)
 allowed_law s (Wait t b ∷ past) run d =
     let m = mode_next (next_member s past t) in
     are_if (b == d) (made s past d) (block.Ask t m ∷ block_calls s past d) (block_calls s past d)
     (λ here. subst (λ (n : ℕ). Are (made s past n) (block_calls s past n) → Are (made s past n) (block.Ask t m ∷ block_calls s past n)) (eqb-true b d here)
-    (refused_are (made s past b) (link_calls past b) (block_calls s past b) (event_calls s past b) t m
+    (refused_are (made s past b) (link_calls past b) (block_calls s past b) (event_calls s past b) (scope_calls past b) t m
     (subst (λ (k : Mode). IsBlock ((parts_of s past).face b) (IsRefused t k)) (sym (mode_is s past t _ run.1.on_parts.next)) run.1.on_parts.refused)) (allowed_law s past run.0 d))
     (allowed_law s past run.0 d)
 allowed_law s (Free t b w ∷ past) run d =
     are_if (b == d) (made s past d) (end_calls t w (block_calls s past d)) (block_calls s past d)
     (λ here. subst (λ (n : ℕ). Are (made s past n) (block_calls s past n) → Are (made s past n) (end_calls t w (block_calls s past n))) (eqb-true b d here)
-    (end_are (made s past b) (link_calls past b) (block_calls s past b) (event_calls s past b) t w _ _ run.1.on_parts.held) (allowed_law s past run.0 d))
+    (end_are (made s past b) (link_calls past b) (block_calls s past b) (event_calls s past b) (scope_calls past b) t w _ _ run.1.on_parts.held) (allowed_law s past run.0 d))
     (allowed_law s past run.0 d)
 allowed_law s (e ∷ past) run d = allowed_law s past run.0 d
 

@@ -13,7 +13,7 @@ use Rattle.ocr_meaning.specs.declared.call.Call as body
 use Rattle.ocr_meaning.specs.declared.call.Call.TheVariants as call
 use Rattle.ocr_meaning.specs.declared.call.Answer.{Answer}
 use Rattle.ocr_history.specs.declared.entry.Entry.TheVariants.{Call, Acquire, Wait, StaleAcquire, Start, Free, End}
-use Rattle.ocr_history.specs.History.{History, Setting, own}
+use Rattle.ocr_history.specs.History.{History, Setting}
 use Rattle.ocr_history.specs.Made.{made, is_new, creator_in}
 use Rattle.ocr_parts.specs.Calls.{edt_step, edt_calls, with_plan, awake, plan_of, loan_step, loans_of, next_member, block_calls, kept_now}
 use Rattle.ocr_parts.specs.Legal.{IsRun}
@@ -23,7 +23,6 @@ use Rattle.ocr_parts.proofs.Allowed.{allowed_law}
 use Rattle.ocr_acquire.specs.Mode.{mode_in}
 use Rattle.ocr_parts.specs.Loans.{kept_created, kept_in, without_kept}
 use Rattle.ocr_parts.specs.declared.loans.Kept.{Kept}
-use Rattle.ocr_parts.specs.Effects.{acquired}
 
 -- an EDT that has a loan of a block has acquired it
 abbrev has_loan : ℕ → List (ℕ × Kept) → Bool

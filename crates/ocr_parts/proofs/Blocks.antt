@@ -12,7 +12,7 @@ use Rattle.ocr_datablock.specs.Block as block
 use Rattle.ocr_datablock.specs.Lent.{Loan, loan_of}
 use Rattle.ocr_datablock.proofs.Laws.{ask_law, release_law, doom_law, store_law, lend_law, take_back_law}
 use Rattle.ocr_parts.specs.declared.part.Part.TheVariants as part
-use Rattle.ocr_history.specs.Made.{Made, MadeBlock, MadeEdt, size_in, creator_in, MadeTemplate, MadeEvent, made}
+use Rattle.ocr_history.specs.Made.{Made, MadeBlock, MadeEdt, size_in, creator_in, MadeTemplate, MadeEvent}
 use Rattle.ocr_parts.specs.Calls.{is_number, ask_calls, lend_calls, return_calls, end_calls, doom_calls}
 use Rattle.ocr_parts.specs.Parts.{face}
 use Rattle.ocr_parts.specs.Effects.{asked_if, lent_if, granted, returned, hold_ended, doomed_template}
@@ -24,6 +24,7 @@ use Rattle.ocr_parts.specs.Kinds.{IsBlock, size_on, with_block, with_links, word
 use Rattle.ocr_any_event.specs.AnyEvent as event
 use Rattle.ocr_any_event.proofs.Laws as event_laws
 use Rattle.ocr_slots.specs.Steps.{after_link}
+use Rattle.ocr_finish.specs.Scope.{ScopeCall}
 
 -- a borrower by its number
 pub borrower_is : (t : ℕ) (o : Option ℕ) → is_number t o ≡ true → o ≡ Some t
@@ -45,37 +46,37 @@ returned_is n c blocks t w loan lent back =
       | false ↦ λ is. sym (not_back t w loan (block.state_of n c blocks) back is)
     ] refl
 
-pub block_ended : (m : Option Made) (links : List slot.SlotCall) (blocks : List block.BlockCall) (events : List EventCall) (t : ℕ) (w : List (ℕ × ℕ)) (mo : Option Mode) (loan : Option Loan)
-    → (block.borrower_of blocks ≡ Some t → loan ≡ Some (loan_of mode.Ew (block.contents (size_in m) blocks) [])) → IsBlock (face m links blocks events) (IsHeld t mo loan)
-    → face m links (end_calls t w blocks) events ≡ with_block (face m links blocks events) (hold_ended after_release t w loan)
-block_ended (Some (MadeBlock n c)) links blocks events t w mo loan lent held =
+pub block_ended : (m : Option Made) (links : List slot.SlotCall) (blocks : List block.BlockCall) (events : List EventCall) (scopes : List ScopeCall) (t : ℕ) (w : List (ℕ × ℕ)) (mo : Option Mode) (loan : Option Loan)
+    → (block.borrower_of blocks ≡ Some t → loan ≡ Some (loan_of mode.Ew (block.contents (size_in m) blocks) [])) → IsBlock (face m links blocks events scopes) (IsHeld t mo loan)
+    → face m links (end_calls t w blocks) events scopes ≡ with_block (face m links blocks events scopes) (hold_ended after_release t w loan)
+block_ended (Some (MadeBlock n c)) links blocks events scopes t w mo loan lent held =
     ap part.Block ((release_law n c (return_calls t w blocks) t).0 ∙ ap (λ (st : block.State). after_release st t) (returned_is n c blocks t w loan lent held.loan_back))
-block_ended other links blocks events t w mo loan lent held = absurd held
+block_ended other links blocks events scopes t w mo loan lent held = absurd held
 
 -- a block is destroyed, and a template
-pub block_doomed : (m : Option Made) (links : List slot.SlotCall) (blocks : List block.BlockCall) (events : List EventCall) (t : ℕ) (w : List (ℕ × ℕ)) (mo : Option Mode) (loan : Option Loan)
-    → (block.borrower_of blocks ≡ Some t → loan ≡ Some (loan_of mode.Ew (block.contents (size_in m) blocks) [])) → IsBlock (face m links blocks events) (IsAgreed t mo loan)
-    → face m links (doom_calls t w blocks) events ≡ with_block (face m links blocks events) (hold_ended after_doom t w loan)
-block_doomed (Some (MadeBlock n c)) links blocks events t w mo loan lent held =
+pub block_doomed : (m : Option Made) (links : List slot.SlotCall) (blocks : List block.BlockCall) (events : List EventCall) (scopes : List ScopeCall) (t : ℕ) (w : List (ℕ × ℕ)) (mo : Option Mode) (loan : Option Loan)
+    → (block.borrower_of blocks ≡ Some t → loan ≡ Some (loan_of mode.Ew (block.contents (size_in m) blocks) [])) → IsBlock (face m links blocks events scopes) (IsAgreed t mo loan)
+    → face m links (doom_calls t w blocks) events scopes ≡ with_block (face m links blocks events scopes) (hold_ended after_doom t w loan)
+block_doomed (Some (MadeBlock n c)) links blocks events scopes t w mo loan lent held =
     ap part.Block ((doom_law n c (return_calls t w blocks) t).0 ∙ ap (λ (st : block.State). after_doom st t) (returned_is n c blocks t w loan lent held.loan_back))
-block_doomed other links blocks events t w mo loan lent held = absurd held
+block_doomed other links blocks events scopes t w mo loan lent held = absurd held
 
-pub template_doomed : (m : Option Made) (links : List slot.SlotCall) (blocks : List block.BlockCall) (events : List EventCall) → is_template (face m links blocks events) ≡ true
-    → face m links blocks (Destruction ∷ events) ≡ with_template (face m links blocks events) doomed_template
-template_doomed (Some (MadeTemplate f pc dc)) links blocks events is = refl
-template_doomed other links blocks events is = cc is
+pub template_doomed : (m : Option Made) (links : List slot.SlotCall) (blocks : List block.BlockCall) (events : List EventCall) (scopes : List ScopeCall) → is_template (face m links blocks events scopes) ≡ true
+    → face m links blocks (Destruction ∷ events) scopes ≡ with_template (face m links blocks events scopes) doomed_template
+template_doomed (Some (MadeTemplate f pc dc)) links blocks events scopes is = refl
+template_doomed other links blocks events scopes is = cc is
 
 -- an event is destroyed
-pub event_destroyed : (m : Option Made) (links : List slot.SlotCall) (blocks : List block.BlockCall) (events : List EventCall) → is_event (face m links blocks events) ≡ true → is_destroyed (face m links blocks events) ≡ false
-    → face m links blocks (Destruction ∷ events) ≡ with_event (face m links blocks events) event.after_destroy
-event_destroyed (Some (MadeEvent k fl most)) links blocks events is live = ap part.Event (event_laws.destroy_law k fl most events live)
-event_destroyed other links blocks events is live = cc is
+pub event_destroyed : (m : Option Made) (links : List slot.SlotCall) (blocks : List block.BlockCall) (events : List EventCall) (scopes : List ScopeCall) → is_event (face m links blocks events scopes) ≡ true → is_destroyed (face m links blocks events scopes) ≡ false
+    → face m links blocks (Destruction ∷ events) scopes ≡ with_event (face m links blocks events scopes) event.after_destroy
+event_destroyed (Some (MadeEvent k fl most)) links blocks events scopes is live = ap part.Event (event_laws.destroy_law k fl most events live)
+event_destroyed other links blocks events scopes is live = cc is
 
 -- A STORE
-pub block_stored : (m : Option Made) (links : List slot.SlotCall) (blocks : List block.BlockCall) (events : List EventCall) (t k v : ℕ) (mo : Option Mode) → IsBlock (face m links blocks events) (IsShared t k mo)
-    → face m links (block.Store k v ∷ blocks) events ≡ with_block (face m links blocks events) (λ st. after_store st k v)
-block_stored (Some (MadeBlock n c)) links blocks events t k v mo held = ap part.Block (store_law n c blocks k v held.not_lent)
-block_stored other links blocks events t k v mo held = absurd held
+pub block_stored : (m : Option Made) (links : List slot.SlotCall) (blocks : List block.BlockCall) (events : List EventCall) (scopes : List ScopeCall) (t k v : ℕ) (mo : Option Mode) → IsBlock (face m links blocks events scopes) (IsShared t k mo)
+    → face m links (block.Store k v ∷ blocks) events scopes ≡ with_block (face m links blocks events scopes) (λ st. after_store st k v)
+block_stored (Some (MadeBlock n c)) links blocks events scopes t k v mo held = ap part.Block (store_law n c blocks k v held.not_lent)
+block_stored other links blocks events scopes t k v mo held = absurd held
 
 -- A BLOCK IS GRANTED
 asked_is : (n c : ℕ) (blocks : List block.BlockCall) (t : ℕ) (m : Mode) → block.state_of n c (ask_calls t m c blocks) ≡ asked_if t m (block.state_of n c blocks)
@@ -96,33 +97,33 @@ lent_is n c blocks t m none = elim (is_exclusive m) as (λ b. block.state_of n c
   | false ↦ refl
 ]
 
-pub block_granted : (made : Option Made) (links : List slot.SlotCall) (blocks : List block.BlockCall) (events : List EventCall) (t : ℕ) (m : Mode) → IsBlock (face made links blocks events) (IsTaken t m)
-    → face made links (lend_calls t m (ask_calls t m (creator_in made) blocks)) events ≡ with_block (face made links blocks events) (granted t m)
-block_granted (Some (MadeBlock n c)) links blocks events t m taken =
+pub block_granted : (made : Option Made) (links : List slot.SlotCall) (blocks : List block.BlockCall) (events : List EventCall) (scopes : List ScopeCall) (t : ℕ) (m : Mode) → IsBlock (face made links blocks events scopes) (IsTaken t m)
+    → face made links (lend_calls t m (ask_calls t m (creator_in made) blocks)) events scopes ≡ with_block (face made links blocks events scopes) (granted t m)
+block_granted (Some (MadeBlock n c)) links blocks events scopes t m taken =
     ap part.Block (lent_is n c (ask_calls t m c blocks) t m (asked_borrower c blocks t m ∙ taken.not_lent) ∙ ap (lent_if t m) (asked_is n c blocks t m))
-block_granted other links blocks events t m taken = absurd taken
+block_granted other links blocks events scopes t m taken = absurd taken
 
-pub block_asked : (made : Option Made) (links : List slot.SlotCall) (blocks : List block.BlockCall) (events : List EventCall) (t : ℕ) (m : Mode)
-    → face made links (block.Ask t m ∷ blocks) events ≡ with_block (face made links blocks events) (λ st. after_ask st t m)
-block_asked (Some (MadeBlock n c)) links blocks events t m = ap part.Block (ask_law n c blocks t m).0
-block_asked other links blocks events t m = refl
+pub block_asked : (made : Option Made) (links : List slot.SlotCall) (blocks : List block.BlockCall) (events : List EventCall) (scopes : List ScopeCall) (t : ℕ) (m : Mode)
+    → face made links (block.Ask t m ∷ blocks) events scopes ≡ with_block (face made links blocks events scopes) (λ st. after_ask st t m)
+block_asked (Some (MadeBlock n c)) links blocks events scopes t m = ap part.Block (ask_law n c blocks t m).0
+block_asked other links blocks events scopes t m = refl
 
 -- a block has the length with which it was made
-pub size_is : (made : Option Made) (links : List slot.SlotCall) (blocks : List block.BlockCall) (events : List EventCall) → size_on (face made links blocks events) ≡ size_in made
-size_is (Some (MadeBlock n c)) links blocks events = refl
-size_is other links blocks events = refl
+pub size_is : (made : Option Made) (links : List slot.SlotCall) (blocks : List block.BlockCall) (events : List EventCall) (scopes : List ScopeCall) → size_on (face made links blocks events scopes) ≡ size_in made
+size_is (Some (MadeBlock n c)) links blocks events scopes = refl
+size_is other links blocks events scopes = refl
 
 -- the words that a loan begins with are the contents
-pub words_are : (made : Option Made) (links : List slot.SlotCall) (blocks : List block.BlockCall) (events : List EventCall) (t : ℕ) (m : Mode) → IsBlock (face made links blocks events) (IsTaken t m)
-    → words_on (face made links blocks events) ≡ block.contents (size_in made) blocks
-words_are (Some (MadeBlock n c)) links blocks events t m taken = rw taken.not_lent refl
-words_are other links blocks events t m taken = absurd taken
+pub words_are : (made : Option Made) (links : List slot.SlotCall) (blocks : List block.BlockCall) (events : List EventCall) (scopes : List ScopeCall) (t : ℕ) (m : Mode) → IsBlock (face made links blocks events scopes) (IsTaken t m)
+    → words_on (face made links blocks events scopes) ≡ block.contents (size_in made) blocks
+words_are (Some (MadeBlock n c)) links blocks events scopes t m taken = rw taken.not_lent refl
+words_are other links blocks events scopes t m taken = absurd taken
 
 -- LINKS
-pub edt_linked : (made : Option Made) (links : List slot.SlotCall) (blocks : List block.BlockCall) (events : List EventCall) (i : ℕ) (m : Mode) → link_code (face made links blocks events) i ≡ code.Done
-    → face made (slot.Linking i m ∷ links) blocks events ≡ with_links (face made links blocks events) (λ slots. after_link slots i m)
-edt_linked (Some (MadeEdt f ps n)) links blocks events i m done = ap part.Edt (link_law n links i m done)
-edt_linked other links blocks events i m done = cc
+pub edt_linked : (made : Option Made) (links : List slot.SlotCall) (blocks : List block.BlockCall) (events : List EventCall) (scopes : List ScopeCall) (i : ℕ) (m : Mode) → link_code (face made links blocks events scopes) i ≡ code.Done
+    → face made (slot.Linking i m ∷ links) blocks events scopes ≡ with_links (face made links blocks events scopes) (λ slots. after_link slots i m)
+edt_linked (Some (MadeEdt f ps n)) links blocks events scopes i m done = ap part.Edt (link_law n links i m done)
+edt_linked other links blocks events scopes i m done = cc
 
 -- WHO ASKS and can be granted holds the block
 mode_added : (t : ℕ) (m : Mode) (holders : List (ℕ × Mode)) → mode_in t holders ≡ None → mode_in t (holders ++ (t, m) ∷ []) ≡ Some m

@@ -18,10 +18,11 @@ use Rattle.ocr_history.specs.declared.entry.What.{What}
 use Rattle.ocr_history.specs.declared.entry.What.TheVariants as what
 use Rattle.ocr_history.specs.History.{History, Setting}
 use Rattle.ocr_history.specs.Made.{Made, MadeEvent, made, is_new, is_edt_made}
-use Rattle.ocr_parts.specs.Calls.{is_object, slot_target, target_of, link_if, dep_targets, event_step, deliver_step, event_calls, link_calls, block_calls}
+use Rattle.ocr_parts.specs.Calls.{is_object, slot_target, target_of, link_if, dep_targets, event_step, deliver_step, event_calls, link_calls, block_calls, scope_calls}
 use Rattle.ocr_parts.specs.Kinds.{counted_on}
 use Rattle.ocr_parts.specs.Parts.{face}
 use Rattle.ocr_parts.specs.Laws.{CountedLaw}
+use Rattle.ocr_finish.specs.Scope.{ScopeCall}
 
 -- the satisfactions on both slots of a latch
 abbrev counts : List EventCall → ℕ
@@ -88,12 +89,12 @@ event_count true b k takes most calls = omega arith
 event_count false true k takes most calls = omega arith
 event_count false false k takes most calls = omega arith
 
-face_count : (m : Option Made) (links : List slot.SlotCall) (blocks : List block.BlockCall) (events : List EventCall) → counted_on (face m links blocks events) ≤ counts events
-face_count (Some (MadeEvent k fl most)) links blocks events = event_count (k == LATCH) (k == CHANNEL) (event.plain_kind k) (event.takes_arg fl) most events
-face_count other links blocks events = omega arith
+face_count : (m : Option Made) (links : List slot.SlotCall) (blocks : List block.BlockCall) (events : List EventCall) (scopes : List ScopeCall) → counted_on (face m links blocks events scopes) ≤ counts events
+face_count (Some (MadeEvent k fl most)) links blocks events scopes = event_count (k == LATCH) (k == CHANNEL) (event.plain_kind k) (event.takes_arg fl) most events
+face_count other links blocks events scopes = omega arith
 
 pub counted_law : CountedLaw
 counted_law s past g =
-    let on_face = face_count (made s past g) (link_calls past g) (block_calls s past g) (event_calls s past g) in
+    let on_face = face_count (made s past g) (link_calls past g) (block_calls s past g) (event_calls s past g) (scope_calls past g) in
     let told = calls_count s past g in
     omega arith

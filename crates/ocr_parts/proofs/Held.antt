@@ -21,7 +21,7 @@ use Rattle.ocr_parts.proofs.After.{linked_core, deps_core}
 use Rattle.ocr_acquire.specs.Mode.{mode_in}
 use Rattle.ocr_meaning.specs.Holds.{after_call, creator_hold, is_done, with_hold}
 use Rattle.ocr_parts.specs.Bodies.{hold_of, holds_on}
-use Rattle.ocr_parts.specs.Effects.{with_face, with_core, new_face, new_core, called, dropped_edt, dropping_core, holding_core, holding_edt}
+use Rattle.ocr_parts.specs.Effects.{joined, called, dropped_edt, dropping_core, holding_core, holding_edt}
 use Rattle.ocr_parts.specs.Kinds.{holds_of, is_running, kept_on, mode_on, on_core, work_in}
 use Rattle.ocr_parts.specs.Laws.{HoldsLaw}
 use Rattle.ocr_parts.specs.LegalOn.{IsCallOn}
@@ -126,13 +126,14 @@ done_held limit f t home (call.DbCreate n fl) a w legal on d =
 done_held limit f t home (call.AddDependence from x i m) a w legal on d = rw on (ap (λ (y : Part). hold_of (mode_on y d) (kept_on y d)) (linked_core (not (from == 0)) from _ _ t))
 done_held limit f t home (call.EdtCreate from pc params dc deps flags output) a w legal on d =
     let apart : (a.value == t) ≡ false = other_number f t a (legal.value.no_core on) legal.running in
-    let new : Parts = with_core (with_face f a.value (new_face (f.face from) dc deps)) a.value (new_core (f.face from) a.value params) in
-    let same_there : new.core t ≡ f.core t = rw apart refl in
-    rw on (ap (λ (y : Part). hold_of (mode_on y d) (kept_on y d)) (deps_core a.value 0 deps new t ∙ same_there))
+    rw on (ap (λ (y : Part). hold_of (mode_on y d) (kept_on y d)) (deps_core a.value 0 deps _ t ∙ same_there (a.value == t) _ (f.core t) apart))
+  where
+    same_there : (b : Bool) (x y : Part) → b ≡ false → (if b then x else y) ≡ y
+    same_there b x y off = rw off refl
 done_held limit f t home other a w legal on d = rw on refl
 
 pub holds_law : HoldsLaw
-holds_law limit f t home c a w legal d = elim (is_done a.code) as (λ b. is_done a.code ≡ b → holds_on (if b then called t c a w f else f) t d ≡ after_call c a (holds_on f t) d) [
+holds_law limit f t home c a w legal d = elim (is_done a.code) as (λ b. is_done a.code ≡ b → holds_on (if b then joined c home (called t c a w f) else f) t d ≡ after_call c a (holds_on f t) d) [
   | true ↦ λ on. done_held limit f t home c a w legal on d
   | false ↦ λ off. rw off refl
 ] refl

@@ -14,19 +14,22 @@ use Rattle.ocr_meaning.specs.declared.call.Call.TheVariants as call
 use Rattle.ocr_meaning.specs.declared.call.Answer.{Answer}
 use Rattle.ocr_history.specs.declared.entry.Entry.TheVariants.{Call, Acquire, Wait, Free}
 use Rattle.ocr_parts.specs.declared.part.Part.{Part}
-use Rattle.ocr_parts.specs.declared.part.Part.TheVariants as part
 use Rattle.ocr_history.specs.History.{History, Setting, own}
-use Rattle.ocr_history.specs.Made.{Made, MadeBlock, MadeEdt, made, makes, size_in, creator_in, is_edt_made}
-use Rattle.ocr_parts.specs.Calls.{is_number, ask_calls, lend_calls, end_calls, block_calls, stores_from, argument_words, contents_of, loans_of, link_calls, edt_calls, next_member, mode_next, plan_of, doom_calls, event_calls, return_calls}
-use Rattle.ocr_parts.specs.Parts.{face, core, parts_of}
+use Rattle.ocr_history.specs.Made.{Made, MadeBlock, MadeEdt, made, is_new, size_in, creator_in, is_edt_made}
+use Rattle.ocr_parts.specs.Calls.{is_number, ask_calls, lend_calls, end_calls, block_calls, stores_from, argument_words, contents_of, loans_of, link_calls, edt_calls, next_member, mode_next, plan_of, doom_calls, event_calls, return_calls, scope_calls}
+use Rattle.ocr_parts.proofs.Fresh.{new_fresh, made_old}
+use Rattle.ocr_parts.proofs.Within.{made_none}
+use Rattle.ocr_parts.specs.Parts.{face, core, parts_of, identity_of}
 use Rattle.ocr_parts.specs.Effects.{with_phase, made_ready, ready_at}
-use Rattle.ocr_parts.specs.LegalOn.{IsShared, IsTaken, IsNamed, IsAnswered}
+use Rattle.ocr_parts.specs.LegalOn.{IsFresh, IsShared, IsTaken, IsCallOn}
 use Rattle.ocr_parts.specs.Laws.{IsLentTo, LentLaw}
 use Rattle.ocr_parts.proofs.Blocks.{asked_borrower, asked_contents}
 use Rattle.ocr_acquire.specs.Mode.{is_exclusive}
 use Rattle.ocr_parts.specs.Kinds.{IsBlock, core_progress, next_in, on_core}
 use Rattle.ocr_parts.specs.Loans.{kept_created, kept_in, kept_of, without_kept}
 use Rattle.ocr_parts.specs.declared.loans.Kept.{Kept}
+use Rattle.ocr_finish.specs.Scope.{ScopeCall}
+use Rattle.ocr_edt.specs.declared.Identity.{Identity}
 
 -- what is told of a block and of a loan, by their lists
 abbrev lent_kept : Option Made → List block.BlockCall → Kept
@@ -114,12 +117,14 @@ granted_fit md c0 blocks loans mt u d t m none edt is =
     ] refl is
 
 -- an object that is made where nothing was
-created_fit : (bd bt : Bool) (md mt xd xt : Option Made) (blocks : List block.BlockCall) (loans : List (ℕ × Kept)) (d t : ℕ) → (bt ≡ true → is_edt_made mt ≡ false)
+created_fit : (bd bt : Bool) (md mt xd xt : Option Made) (blocks : List block.BlockCall) (loans : List (ℕ × Kept)) (d t : ℕ) → (bd ≡ false → xd ≡ md) → (bt ≡ false → xt ≡ mt) → (bt ≡ true → is_edt_made mt ≡ false)
     → (bd ≡ false → block.borrower_of blocks ≡ Some t → IsFit md blocks loans mt d) → block.borrower_of (if bd then [] else blocks) ≡ Some t
-    → IsFit (if bd then xd else md) (if bd then [] else blocks) (if bt then [] else loans) (if bt then xt else mt) d
-created_fit true bt md mt xd xt blocks loans d t vacant fit is = cc is
-created_fit false true md mt xd xt blocks loans d t vacant fit is = absurd (cc (sym (vacant refl) ∙ (fit refl is).1))
-created_fit false false md mt xd xt blocks loans d t vacant fit is = fit refl is
+    → IsFit xd (if bd then [] else blocks) (if bt then [] else loans) xt d
+created_fit true bt md mt xd xt blocks loans d t here there vacant fit is = cc is
+created_fit false true md mt xd xt blocks loans d t here there vacant fit is = absurd (cc (sym (vacant refl) ∙ (fit refl is).1))
+created_fit false false md mt xd xt blocks loans d t here there vacant fit is =
+    let now = fit refl is in
+    (now.0 ∙ ap (λ (m : Option Made). Some (lent_kept m blocks)) (sym (here refl)), ap is_edt_made (there refl) ∙ now.1)
 
 first_of : (a b : Bool) → (a && b) ≡ true → a ≡ true
 first_of true b h = refl
@@ -129,43 +134,42 @@ second_of : (a b : Bool) → (a && b) ≡ true → b ≡ true
 second_of true b h = h
 second_of false b h = cc h
 
-no_edt : (m : Option Made) (links : List slot.SlotCall) (blocks : List block.BlockCall) (events : List EventCall) → face m links blocks events ≡ part.Vacant → is_edt_made m ≡ false
-no_edt (Some (MadeEdt f ps n)) links blocks events is = cc
-no_edt other links blocks events is = refl
+fresh_edt : (s : Setting) (past : History) (t : ℕ) → IsFresh s.limit (parts_of s past) t → is_edt_made (made s past t) ≡ false
+fresh_edt s past t fresh = ap is_edt_made (made_none s past t fresh.vacant)
 
-fresh_edt : (s : Setting) (past : History) (a : Answer) (t : ℕ) → IsNamed s.limit (parts_of s past) a → makes a t ≡ true → is_edt_made (made s past t) ≡ false
-fresh_edt s past a t named is =
-    let e : a.value ≡ t = eqb-true a.value t (second_of (is_done a.code) (a.value == t) is) in
-    subst (λ (g : ℕ). is_edt_made (made s past g) ≡ false) e
-    (no_edt (made s past a.value) (link_calls past a.value) (block_calls s past a.value) (event_calls s past a.value) (named.fresh (first_of (is_done a.code) (a.value == t) is)).vacant)
+shared_not_lent : (m : Option Made) (links : List slot.SlotCall) (blocks : List block.BlockCall) (events : List EventCall) (scopes : List ScopeCall) (t k : ℕ) (mo : Option Mode) → IsBlock (face m links blocks events scopes) (IsShared t k mo) → block.borrower_of blocks ≡ None
+shared_not_lent (Some (MadeBlock n c)) links blocks events scopes t k mo h = h.not_lent
+shared_not_lent other links blocks events scopes t k mo h = absurd h
 
-shared_not_lent : (m : Option Made) (links : List slot.SlotCall) (blocks : List block.BlockCall) (events : List EventCall) (t k : ℕ) (mo : Option Mode) → IsBlock (face m links blocks events) (IsShared t k mo) → block.borrower_of blocks ≡ None
-shared_not_lent (Some (MadeBlock n c)) links blocks events t k mo h = h.not_lent
-shared_not_lent other links blocks events t k mo h = absurd h
+pub taken_not_lent : (m : Option Made) (links : List slot.SlotCall) (blocks : List block.BlockCall) (events : List EventCall) (scopes : List ScopeCall) (t : ℕ) (mo : Mode) → IsBlock (face m links blocks events scopes) (IsTaken t mo) → block.borrower_of blocks ≡ None
+taken_not_lent (Some (MadeBlock n c)) links blocks events scopes t mo h = h.not_lent
+taken_not_lent other links blocks events scopes t mo h = absurd h
 
-pub taken_not_lent : (m : Option Made) (links : List slot.SlotCall) (blocks : List block.BlockCall) (events : List EventCall) (t : ℕ) (mo : Mode) → IsBlock (face m links blocks events) (IsTaken t mo) → block.borrower_of blocks ≡ None
-taken_not_lent (Some (MadeBlock n c)) links blocks events t mo h = h.not_lent
-taken_not_lent other links blocks events t mo h = absurd h
-
-progress_made : (m : Option Made) (t : ℕ) (calls : List edt.EdtCall) (loans : List (ℕ × Kept)) (members : List (ℕ × Mode)) (x : ℕ × Mode)
-    → next_in (core_progress (on_core (core m t calls loans) (with_phase (made_ready members)))) ≡ Some x → is_edt_made m ≡ true
-progress_made (Some (MadeEdt f ps n)) t calls loans members x is = refl
-progress_made other t calls loans members x is = cc
+progress_made : (m : Option Made) (i : Identity) (calls : List edt.EdtCall) (loans : List (ℕ × Kept)) (members : List (ℕ × Mode)) (x : ℕ × Mode)
+    → next_in (core_progress (on_core (core m i calls loans) (with_phase (made_ready members)))) ≡ Some x → is_edt_made m ≡ true
+progress_made (Some (MadeEdt f ps n)) i calls loans members x is = refl
+progress_made other i calls loans members x is = cc
 
 -- the core of an EDT that was made ready
 pub ready_core : (s : Setting) (past : History) (t : ℕ) → (ready_at t (plan_of s past t) (parts_of s past)).core t ≡ on_core ((parts_of s past).core t) (with_phase (made_ready (plan_of s past t)))
 ready_core s past t = rw (same t) refl
 
-called_fit : (s : Setting) (past : History) (u home : ℕ) (c : body.Call) (a : Answer) (w : List (ℕ × ℕ)) (d t : ℕ) → IsAnswered s.limit (parts_of s past) u c a
+called_fit : (s : Setting) (past : History) (u home : ℕ) (c : body.Call) (a : Answer) (w : List (ℕ × ℕ)) (d t : ℕ) → IsCallOn s.limit (parts_of s past) u home c a w
     → (block.borrower_of (block_calls s past d) ≡ Some t → IsLentTo s past d t) → block.borrower_of (block_calls s (Call u home c a w ∷ past) d) ≡ Some t → IsLentTo s (Call u home c a w ∷ past) d t
 called_fit s past u home (call.DbCreate n fl) a w d t legal fit is =
     let own : Bool = (u == t) && (fl == 0) in
-    created_fit (makes a d) (makes a t) (made s past d) (made s past t) _ _ (block_calls s past d) (if is_done a.code && own then (a.value, kept_created (n / 8)) ∷ loans_of s past t else loans_of s past t) d t (fresh_edt s past a t legal)
+    let c : body.Call = call.DbCreate n fl in
+    created_fit (is_new c a d) (is_new c a t) (made s past d) (made s past t) _ _ (block_calls s past d) (if is_done a.code && own then (a.value, kept_created (n / 8)) ∷ loans_of s past t else loans_of s past t) d t (made_old s past u home c a w d) (made_old s past u home c a w t)
+    (λ new. fresh_edt s past t (new_fresh s.limit (parts_of s past) u home c a w t legal new))
     (λ apart borrowed. (held_past (is_done a.code) own (n / 8) a.value d (loans_of s past t) apart ∙ (fit borrowed).0, (fit borrowed).1)) is
 called_fit s past u home (call.TemplateCreate f pc dc) a w d t legal fit is =
-    created_fit (makes a d) (makes a t) (made s past d) (made s past t) _ _ (block_calls s past d) (loans_of s past t) d t (fresh_edt s past a t legal) (λ _. fit) is
+    let c : body.Call = call.TemplateCreate f pc dc in
+    created_fit (is_new c a d) (is_new c a t) (made s past d) (made s past t) _ _ (block_calls s past d) (loans_of s past t) d t (made_old s past u home c a w d) (made_old s past u home c a w t)
+    (λ new. fresh_edt s past t (new_fresh s.limit (parts_of s past) u home c a w t legal new)) (λ _. fit) is
 called_fit s past u home (call.EdtCreate from pc ps dc ds fl o) a w d t legal fit is =
-    created_fit (makes a d) (makes a t) (made s past d) (made s past t) _ _ (block_calls s past d) (loans_of s past t) d t (fresh_edt s past a t legal.named) (λ _. fit) is
+    let c : body.Call = call.EdtCreate from pc ps dc ds fl o in
+    created_fit (is_new c a d) (is_new c a t) (made s past d) (made s past t) _ _ (block_calls s past d) (loans_of s past t) d t (made_old s past u home c a w d) (made_old s past u home c a w t)
+    (λ new. fresh_edt s past t (new_fresh s.limit (parts_of s past) u home c a w t legal new)) (λ _. fit) is
 called_fit s past u home (call.DbRelease b) a w d t legal fit is =
     let blocks = block_calls s past d in
     let loans = loans_of s past t in
@@ -204,13 +208,17 @@ called_fit s past u home (call.Store b k v) a w d t legal fit is =
     (λ here borrowed.
     let e : b ≡ d = eqb-true b d (second_of (is_done a.code) (b == d) here) in
     let none : block.borrower_of blocks ≡ None = subst (λ (n : ℕ). block.borrower_of (block_calls s past n) ≡ None) e
-    (shared_not_lent (made s past b) (link_calls past b) (block_calls s past b) (event_calls s past b) u k _ legal.0) in
+    (shared_not_lent (made s past b) (link_calls past b) (block_calls s past b) (event_calls s past b) (scope_calls past b) u k _ legal.value.0) in
     cc)
     (λ _ borrowed. fit borrowed) is
 called_fit s past u home (call.EventCreate k fl) a w d t legal fit is =
-    created_fit (makes a d) (makes a t) (made s past d) (made s past t) _ _ (block_calls s past d) (loans_of s past t) d t (fresh_edt s past a t legal) (λ _. fit) is
+    let c : body.Call = call.EventCreate k fl in
+    created_fit (is_new c a d) (is_new c a t) (made s past d) (made s past t) _ _ (block_calls s past d) (loans_of s past t) d t (made_old s past u home c a w d) (made_old s past u home c a w t)
+    (λ new. fresh_edt s past t (new_fresh s.limit (parts_of s past) u home c a w t legal new)) (λ _. fit) is
 called_fit s past u home (call.EventCreateParams k fl gen sat deps) a w d t legal fit is =
-    created_fit (makes a d) (makes a t) (made s past d) (made s past t) _ _ (block_calls s past d) (loans_of s past t) d t (fresh_edt s past a t legal) (λ _. fit) is
+    let c : body.Call = call.EventCreateParams k fl gen sat deps in
+    created_fit (is_new c a d) (is_new c a t) (made s past d) (made s past t) _ _ (block_calls s past d) (loans_of s past t) d t (made_old s past u home c a w d) (made_old s past u home c a w t)
+    (λ new. fresh_edt s past t (new_fresh s.limit (parts_of s past) u home c a w t legal new)) (λ _. fit) is
 called_fit s past u home other a w d t legal fit is = fit is
 
 acquired_fit : (s : Setting) (past : History) (u b d t : ℕ) (k : Mode) → IsBlock ((parts_of s past).face b) (IsTaken u k) → ((u == t) ≡ true → is_edt_made (made s past t) ≡ true)
@@ -223,20 +231,20 @@ acquired_fit s past u b d t k taken edt fit is =
     (λ here borrowed.
     let e : b ≡ d = eqb-true b d here in
     let none : block.borrower_of blocks ≡ None = subst (λ (n : ℕ). block.borrower_of (block_calls s past n) ≡ None) e
-    (taken_not_lent (made s past b) (link_calls past b) (block_calls s past b) (event_calls s past b) u k taken) in
+    (taken_not_lent (made s past b) (link_calls past b) (block_calls s past b) (event_calls s past b) (scope_calls past b) u k taken) in
     subst (λ (n : ℕ). IsFit (made s past d) (lend_calls u m (ask_calls u m (creator_in (made s past d)) blocks)) (if u == t then (n, kept_of m (size_in (made s past n)) (contents_of s past n)) ∷ loans else loans) (made s past t) d) (sym e)
     (granted_fit (made s past d) (creator_in (made s past d)) blocks loans (made s past t) u d t m none edt borrowed))
     (λ apart borrowed. (loan_past (u == t) (kept_of m (size_in (made s past b)) (contents_of s past b)) b d loans apart ∙ (fit borrowed).0, (fit borrowed).1)) is
 
 pub lent_law : LentLaw
 lent_law s [] run d t is = absurd (none_lent s (d == 1) t is)
-lent_law s (Call u home c a w ∷ past) run d t is = called_fit s past u home c a w d t run.1.on_parts.value (lent_law s past run.0 d t) is
+lent_law s (Call u home c a w ∷ past) run d t is = called_fit s past u home c a w d t run.1.on_parts (lent_law s past run.0 d t) is
 lent_law s (Acquire u b ∷ past) run d t is =
     acquired_fit s past u b d t _ run.1.on_parts.taken
     (λ here.
     let e : u ≡ t = eqb-true u t here in
     subst (λ (n : ℕ). is_edt_made (made s past n) ≡ true) e
-    (progress_made (made s past u) u (edt_calls s past u) (loans_of s past u) (plan_of s past u) _ (ap (λ (x : Part). next_in (core_progress x)) (sym (ready_core s past u)) ∙ run.1.on_parts.next)))
+    (progress_made (made s past u) (identity_of past u) (edt_calls s past u) (loans_of s past u) (plan_of s past u) _ (ap (λ (x : Part). next_in (core_progress x)) (sym (ready_core s past u)) ∙ run.1.on_parts.next)))
     (lent_law s past run.0 d t) is
 lent_law s (Wait u b ∷ past) run d t is =
     elim (b == d) as (λ x. block.borrower_of (if x then block.Ask u (mode_next (next_member s past u)) ∷ block_calls s past d else block_calls s past d) ≡ Some t

@@ -1,9 +1,11 @@
 pub mod After
 pub mod Allowed
 pub mod Awaited
+pub mod Beside
 pub mod Blocks
 pub mod Choices
 pub mod Counted
+pub mod Fresh
 pub mod Held
 pub mod Keeping
 pub mod Lent

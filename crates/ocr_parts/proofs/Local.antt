@@ -1,5 +1,5 @@
 -- What an entry does, and whether it is legal, rests on the parts that it names.
-use Rattle.std.proofs.Common.{◌≡◌, ℕ, ◌/◌, List, [], ◌∷◌, Bool, true, false, Option, Some, None, ◌==◌, ◌||◌, ◌&&◌, not, ◌++◌, ◌+◌, if◌then◌else◌, refl, sym, ◌∙◌, ap, subst, is_some}
+use Rattle.std.proofs.Common.{◌≡◌, ℕ, ◌/◌, List, [], ◌∷◌, Bool, true, false, Option, Some, None, ◌==◌, ◌||◌, ◌&&◌, not, ◌++◌, ◌+◌, ◌≤◌, if◌then◌else◌, refl, sym, ◌∙◌, ap, subst, is_some, arith}
 use Rattle.ocr_guid.specs.declared.Code.TheVariants as code
 use Rattle.ocr_datablock.specs.Block as block
 use Rattle.ocr_datablock.specs.Lent.{Loan}
@@ -12,20 +12,23 @@ use Rattle.ocr_history.specs.declared.entry.Entry.TheVariants.{Call, Deliver, Ac
 use Rattle.ocr_parts.specs.declared.part.Part.{Part}
 use Rattle.ocr_parts.specs.declared.part.Part.TheVariants as part
 use Rattle.ocr_parts.specs.Calls.{is_given, is_object, slot_target, target_of, mode_next, mode_named}
-use Rattle.ocr_parts.specs.Parts.{Parts, core, face}
+use Rattle.ocr_parts.specs.Parts.{Parts, new_identity, core, face}
 use Rattle.ocr_parts.specs.Codes.{Source, satisfy_code, brings_block, wanted_sources, is_any, release_code, dependence_code, Sort, creation_code, is_its_own, is_missing, is_of_other_kind, is_refused_as_stale, number_code, wanted}
-use Rattle.ocr_parts.specs.Effects.{with_face, linked_if, brought, with_phase, next_on, granted, hold_ended, dropping_core, acquiring_core, waiting_edt, started_edt, ended_edt, new_face, new_core, ended, called, settled, settled_parts, creating_core, awoken, doomed_template, stale_edt}
-use Rattle.ocr_parts.specs.LegalOn.{IsSatisfiable, delivery_code, IsDeliverOn, IsShared, IsTaken, IsRefused, IsLoanBack, IsHeld, IsEnding, IsNamed, IsAnswered, IsLegalOn, IsLoaded, IsAgreed, IsDooming}
-use Rattle.ocr_parts.specs.Messages.{what_to, satisfied, linked, linked_by, dep_sends, sent_by, sent_by_message, resumed_by, resumes, resumed_by_doom}
-use Rattle.ocr_parts.specs.Footprint.{is_brought_to, names_face, makes_core, on_face, on_core_of, IsAlike, is_wanted}
+use Rattle.ocr_parts.specs.Effects.{with_face, linked_if, brought, joins, joined, new_scope, with_phase, next_on, granted, hold_ended, dropping_core, acquiring_core, waiting_edt, started_edt, ended_edt, new_face, new_core, ended, called, settled, settled_parts, creating_core, awoken, doomed_template, stale_edt}
+use Rattle.ocr_parts.specs.LegalOn.{IsSatisfiable, delivery_code, HasMember, IsBeside, IsScoped, last_of, HasOutput, IsJoinable, IsHome, IsDeliverOn, IsShared, IsTaken, IsRefused, IsLoanBack, IsHeld, IsEnding, IsNamed, IsAnswered, IsLegalOn, IsLoaded, IsAgreed, IsDooming}
+use Rattle.ocr_parts.specs.Messages.{what_to, satisfied, linked, linked_by, dep_sends, sent_by, sent_by_leave, sent_by_message, payload_of_end, sent_by_end, resumed_by, resumes, resumed_by_doom}
+use Rattle.ocr_parts.specs.Footprint.{is_brought_to, names_beside, names_face, makes_core, on_face, on_core_of, IsAlike, is_wanted}
 use Rattle.ocr_parts.specs.Laws.{EffectLaw, CodeLaw, LegalityLaw, SettledLegalLaw}
 use Rattle.ocr_parts.proofs.Choices.{same, or_right, left, right, chosen}
 use Rattle.ocr_acquire.specs.Mode.{mode_in}
 use Rattle.ocr_datablock.specs.Steps.{after_ask, after_release, after_store, after_doom}
 use Rattle.ocr_history.specs.History.{own}
 use Rattle.ocr_meaning.specs.Holds.{is_done}
-use Rattle.ocr_parts.specs.Kinds.{is_block, is_edt_face, IsBlock, core_progress, holds_of, is_acquiring, loan_on, mode_on, next_in, on_core, size_on, with_block, with_links, words_on, work_of, with_template, with_event}
+use Rattle.ocr_parts.specs.Kinds.{is_block, with_scope, identity_on, home_on, is_edt_face, IsBlock, core_progress, holds_of, is_acquiring, loan_on, mode_on, next_in, on_core, size_on, with_block, with_links, words_on, work_of, with_template, with_event}
 use Rattle.ocr_any_event.specs.AnyEvent as event
+use Rattle.ocr_finish.specs.Scope as scope
+use Rattle.ocr_history.specs.Made.{names_new}
+use Rattle.std.proofs.lemmas.Grind.{common_steps}
 use Rattle.ocr_guid.specs.declared.target.Target.{Target as Reached}
 use Rattle.ocr_guid.specs.declared.Code.{Code}
 use Rattle.ocr_history.specs.declared.entry.What.{What}
@@ -46,6 +49,10 @@ second b c = rw (or_right b) refl
 -- the source of a dependence is named, where it is not NULL_GUID
 source_named : (from x i m : ℕ) (a : Answer) → (from == 0) ≡ false → names_face (call.AddDependence from x i m) a from ≡ true
 source_named from x i m a some = rw (some, same from) (second (x == from) false)
+
+-- what a call names, its entry names, besides what is made beside an EDT and the home that it joins
+pub call_named : (t home : ℕ) (c : body.Call) (a : Answer) (w : List (ℕ × ℕ)) (g : ℕ) → names_face c a g ≡ true → on_face (Call t home c a w) g ≡ true
+call_named t home c a w g is = rw is (or_right (joins c home g || names_beside c a g))
 
 -- EFFECTS
 called_faces : (t : ℕ) (c : body.Call) (a : Answer) (w : List (ℕ × ℕ)) (f h : Parts) → ((g : ℕ) → names_face c a g ≡ true → f.face g ≡ h.face g) → f.core t ≡ h.core t → (b : Bool) (g : ℕ) → f.face g ≡ h.face g
@@ -74,9 +81,19 @@ called_faces t (call.EventDestroy x) a w f h alike own true g here = chosen (x =
 called_faces t (call.TemplateCreate function pc dc) a w f h alike own true g here = chosen (a.value == g) _ _ _ _ refl here
 called_faces t (call.EdtCreate from pc params dc deps flags output) a w f h alike own true g here =
     deps_face a.value 0 deps _ g
-    ∙ ap (dep_fold a.value 0 g deps) (chosen (a.value == g) _ _ _ _ (ap (λ (x : Part). new_face x dc deps) (alike from (first from _ _))) here)
+    ∙ ap (dep_fold a.value 0 g deps) (chosen (a.value == g) _ _ _ _ (ap (λ (x : Part). new_face x dc deps) (alike from (first from _ _)))
+    (chosen (names_new a.scope g) _ _ _ _ (ap (λ (x : Part). new_scope (home_on x) a) own) (chosen (names_new a.output g) _ _ _ _ refl here)))
     ∙ sym (deps_face a.value 0 deps _ g)
 called_faces t other a w f h alike own true g here = here
+
+-- and the home that is joined
+joined_faces : (c : body.Call) (home g : ℕ) (x y f h : Parts) (b : Bool) → (if b then x else f).face g ≡ (if b then y else h).face g → (if b then joined c home x else f).face g ≡ (if b then joined c home y else h).face g
+joined_faces c home g x y f h true is = ap (λ (p : Part). if joins c home g then with_scope p scope.after_join else p) is
+joined_faces c home g x y f h false is = is
+
+joined_cores : (c : body.Call) (home u : ℕ) (x y f h : Parts) (b : Bool) → (if b then x else f).core u ≡ (if b then y else h).core u → (if b then joined c home x else f).core u ≡ (if b then joined c home y else h).core u
+joined_cores c home u x y f h true is = is
+joined_cores c home u x y f h false is = is
 
 called_cores : (t : ℕ) (c : body.Call) (a : Answer) (w : List (ℕ × ℕ)) (f h : Parts) → ((g : ℕ) → names_face c a g ≡ true → f.face g ≡ h.face g) → f.core t ≡ h.core t → (b : Bool) (u : ℕ) → f.core u ≡ h.core u
     → (if b then called t c a w f else f).core u ≡ (if b then called t c a w h else h).core u
@@ -86,7 +103,7 @@ called_cores t (call.DbRelease d) a w f h alike own true u here = chosen (t == u
 called_cores t (call.DbDestroy d) a w f h alike own true u here = chosen (t == u) _ _ _ _ (ap (λ (x : Part). on_core x (dropping_core d)) own) here
 called_cores t (call.EdtCreate from pc params dc deps flags output) a w f h alike own true u here =
     deps_core a.value 0 deps _ u
-    ∙ chosen (a.value == u) _ _ _ _ (ap (λ (x : Part). new_core x a.value params) (alike from (first from _ _))) here
+    ∙ chosen (a.value == u) _ _ _ _ (λ j. new_core (alike from (first from _ _) j) (new_identity a.value flags a (home_on (own j))) params) here
     ∙ sym (deps_core a.value 0 deps _ u)
 called_cores t (call.AddDependence from x i m) a w f h alike own true u here =
     linked_core (not (from == 0)) from (target_of (is_edt_face (f.face x)) x i) _ u ∙ here
@@ -142,26 +159,30 @@ sent_alike other a f h alike = refl
 brought_faces : (w : What) (f h : Parts) → ((g : ℕ) → is_brought_to w g ≡ true → f.face g ≡ h.face g) → (b : Bool) (g : ℕ) → f.face g ≡ h.face g → (if b then brought w f else f).face g ≡ (if b then brought w h else h).face g
 brought_faces w f h alike false g here = here
 brought_faces (what.Satisfy e i p) f h alike true g here = chosen (e == g) _ _ _ _ (ap (λ (x : Part). with_event x (λ st. event.after_satisfy st i p)) (alike e (same e))) here
+brought_faces (what.Leave x) f h alike true g here = chosen (x == g) _ _ _ _ (ap (λ (y : Part). with_scope y scope.after_leave) (alike x (same x))) here
 brought_faces other f h alike true g here = here
 
 brought_cores : (w : What) (f h : Parts) (b : Bool) (u : ℕ) → f.core u ≡ h.core u → (if b then brought w f else f).core u ≡ (if b then brought w h else h).core u
 brought_cores w f h false u here = here
 brought_cores (what.Satisfy e i p) f h true u here = here
+brought_cores (what.Leave x) f h true u here = here
 brought_cores other f h true u here = here
 
 brought_sends : (w : What) (f h : Parts) → ((g : ℕ) → is_brought_to w g ≡ true → f.face g ≡ h.face g) → sent_by_message w f ≡ sent_by_message w h
 brought_sends (what.Satisfy e i p) f h alike = ap (λ (x : Part). satisfied x i p) (alike e (same e))
+brought_sends (what.Leave x) f h alike = ap sent_by_leave (alike x (same x))
 brought_sends other f h alike = refl
 
 pub effect_law : EffectLaw
 effect_law (Call t home c a w) f h alike =
-    let own : f.core t ≡ h.core t = alike.cores t (left t (makes_core c && (a.value == t))) in (
+    let own : f.core t ≡ h.core t = alike.cores t (left t (makes_core c && (a.value == t))) in
+    let named : (g : ℕ) → names_face c a g ≡ true → f.face g ≡ h.face g = λ g on. alike.faces g (call_named t home c a w g on) in (
       record {
-        faces = λ g on. called_faces t c a w f h alike.faces own (is_done a.code) g (alike.faces g on);
-        cores = λ u on. called_cores t c a w f h alike.faces own (is_done a.code) u (alike.cores u on);
+        faces = λ g on. joined_faces c home g (called t c a w f) (called t c a w h) f h (is_done a.code) (called_faces t c a w f h named own (is_done a.code) g (alike.faces g on));
+        cores = λ u on. joined_cores c home u (called t c a w f) (called t c a w h) f h (is_done a.code) (called_cores t c a w f h named own (is_done a.code) u (alike.cores u on));
       },
-      ap (λ (l : List What). if is_done a.code then l else []) (sent_alike c a f h alike.faces),
-      called_resumes t home c a w f h alike.faces,
+      ap (λ (l : List What). if is_done a.code then l else []) (sent_alike c a f h named),
+      called_resumes t home c a w f h named,
     )
 effect_law (Acquire t d) f h alike =
     let face_d : f.face d ≡ h.face d = alike.faces d (right d (t == d)) in
@@ -197,7 +218,7 @@ effect_law (End t g) f h alike = (
     faces = alike.faces;
     cores = λ u on. chosen (t == u) _ _ _ _ (ap (λ (x : Part). on_core x (with_phase ended_edt)) (alike.cores t (same t))) (alike.cores u on);
   },
-  refl,
+  (λ j. sent_by_end (identity_on (alike.cores t (same t) j)) (payload_of_end (alike.faces g (same g) j) g)),
   refl,
 )
 effect_law (Deliver m c) f h alike = (
@@ -239,7 +260,7 @@ number_alike t other f h alike = refl
 
 pub code_law : CodeLaw
 code_law t home c a w f h alike =
-    let here : (g : ℕ) → is_wanted g (wanted c) ≡ true → f g ≡ h g = λ g on. alike g (rw on refl) in
+    let here : (g : ℕ) → is_wanted g (wanted c) ≡ true → f g ≡ h g = λ g on. alike g (call_named t home c a w g (rw on refl)) in
     λ j. if any_alike f h is_missing (wanted c) here j then code.Enoent
     else if is_its_own c || any_alike f h is_of_other_kind (wanted c) here j then code.Einval
     else if any_alike f h (is_refused_as_stale t) (wanted c) here j then code.Stale
@@ -255,10 +276,11 @@ record IsLike (x y : Part) : Type 0 where
   progress : core_progress x ≡ core_progress y
   acquiring : is_acquiring x ≡ is_acquiring y
   vacant : x ≡ part.Vacant → y ≡ part.Vacant
+  home : home_on x ≡ home_on y
   back : (t d : ℕ) (st : block.State) → IsLoanBack t (loan_on x d) st → IsLoanBack t (loan_on y d) st
 
 like_same : (x y : Part) → x ≡ y → IsLike x y
-like_same x y is = subst (IsLike x) is (record { work = refl; progress = refl; acquiring = refl; vacant = λ v. v; back = λ t d st b. b })
+like_same x y is = subst (IsLike x) is (record { work = refl; progress = refl; acquiring = refl; vacant = λ v. v; home = refl; back = λ t d st b. b })
 
 named_like : (limit : ℕ) (f h : Parts) (a : Answer) → f.face a.value ≡ h.face a.value → IsNamed limit f a → IsNamed limit h a
 named_like limit f h a is named = record {
@@ -294,7 +316,6 @@ answered_like limit f h t (call.DbCreate n fl) a faces cores answered = named_li
 answered_like limit f h t (call.EdtCreate from pc params dc deps flags output) a faces cores answered = record {
   named = named_like limit f h a (faces a.value (right a.value _)) answered.named;
   no_core = λ on. (cores a.value (right a.value (t == a.value))).vacant (answered.no_core on);
-  no_output = answered.no_output;
 }
 answered_like limit f h t (call.DbRelease d) a faces cores answered = (λ on. ending_like f h t d (faces d (first d _ _)) (cores t (left t false)) (answered.0 on), answered.1)
 answered_like limit f h t (call.DbDestroy d) a faces cores answered = (λ on. dooming_like f h t d (faces d (first d _ _)) (cores t (left t false)) (answered.0 on), answered.1)
@@ -309,17 +330,54 @@ answered_like limit f h t other a faces cores answered = absurd answered
 delivered_like : (w : What) (c : Code) (f h : Parts) → ((g : ℕ) → is_brought_to w g ≡ true → f.face g ≡ h.face g) → IsDeliverOn f w c → IsDeliverOn h w c
 delivered_like (what.Set x i p) c f h faces legal = legal
 delivered_like (what.Satisfy e i p) c f h faces legal = subst (λ (x : Part). IsSatisfiable i x × (c ≡ delivery_code x p)) (faces e (same e)) legal
-delivered_like (what.Leave x) c f h faces legal = absurd legal
+delivered_like (what.Leave x) c f h faces legal = subst (λ (y : Part). HasMember y × (c ≡ code.Done)) (faces x (same x)) legal
+
+-- what is made beside an EDT, and the home that it joins
+named_self : (n : ℕ) → (n == 0) ≡ false → names_new n n ≡ true
+named_self n some = rw (some, same n) refl
+
+on_scope : (x y z : Bool) → ((x || (true || y)) || z) ≡ true
+on_scope x y z = rw (or_right x) refl
+
+on_output : (x y z : Bool) → ((x || (y || true)) || z) ≡ true
+on_output x y z = rw (or_right y, or_right x) refl
+
+not_none : (n : ℕ) → 1 ≤ n → (n == 0) ≡ false
+not_none n some = grind (arith, common_steps)
+
+beside_like : (on : Bool) (limit : ℕ) (f h : Parts) (other n : ℕ) → ((n == 0) ≡ false → f.face n ≡ h.face n) → IsBeside on limit f other n → IsBeside on limit h other n
+beside_like true limit f h other n alike beside = (
+  record { some = beside.0.some; within = beside.0.within; vacant = sym (alike (not_none n beside.0.some)) ∙ beside.0.vacant },
+  beside.1,
+)
+beside_like false limit f h other n alike beside = beside
+
+scope_like : (limit : ℕ) (f h : Parts) (t home : ℕ) (c : body.Call) (a : Answer) (w : List (ℕ × ℕ)) → ((g : ℕ) → on_face (Call t home c a w) g ≡ true → f.face g ≡ h.face g) → IsScoped limit f c a → IsScoped limit h c a
+scope_like limit f h t home (call.EdtCreate from pc params dc deps flags output) a w faces scope =
+    beside_like (is_done a.code && (flags == 1)) limit f h a.value a.scope (λ some. faces a.scope (rw (named_self a.scope some) (on_scope _ (names_new a.output a.scope) _))) scope
+scope_like limit f h t home other a w faces scope = scope
+
+output_like : (limit : ℕ) (f h : Parts) (t home : ℕ) (c : body.Call) (a : Answer) (w : List (ℕ × ℕ)) → ((g : ℕ) → on_face (Call t home c a w) g ≡ true → f.face g ≡ h.face g) → HasOutput limit f c a → HasOutput limit h c a
+output_like limit f h t home (call.EdtCreate from pc params dc deps flags output) a w faces has =
+    beside_like (is_done a.code && output) limit f h (last_of a) a.output (λ some. faces a.output (rw (named_self a.output some) (on_output _ _ _))) has
+output_like limit f h t home other a w faces has = has
+
+home_like : (f h : Parts) (t home : ℕ) (c : body.Call) (a : Answer) (w : List (ℕ × ℕ)) → ((g : ℕ) → on_face (Call t home c a w) g ≡ true → f.face g ≡ h.face g) → IsLike (f.core t) (h.core t) → IsHome f t home c a → IsHome h t home c a
+home_like f h t home (call.EdtCreate from pc params dc deps flags output) a w faces like at = record {
+  own = at.own ∙ like.home;
+  joinable = λ done some. subst IsJoinable (faces home (rw (named_self home some) refl)) (at.joinable done some);
+}
+home_like f h t home other a w faces like at = at
 
 legal_like : (limit : ℕ) (e : Entry) (f h : Parts) → ((g : ℕ) → on_face e g ≡ true → f.face g ≡ h.face g) → ((u : ℕ) → on_core_of e u ≡ true → IsLike (f.core u) (h.core u))
     → IsLegalOn limit f e → IsLegalOn limit h e
 legal_like limit (Call t home c a w) f h faces cores legal = record {
   running = ap (λ (o : Option Work). is_some o) (sym (cores t (left t (makes_core c && (a.value == t)))).work) ∙ legal.running;
   code = legal.code ∙ code_law t home c a w f.face h.face faces;
-  value = answered_like limit f h t c a faces cores legal.value;
-  no_scope = legal.no_scope;
-  no_output = legal.no_output;
-  no_home = legal.no_home;
+  value = answered_like limit f h t c a (λ g on. faces g (call_named t home c a w g on)) cores legal.value;
+  scope = scope_like limit f h t home c a w faces legal.scope;
+  output = output_like limit f h t home c a w faces legal.output;
+  at_home = home_like f h t home c a w faces (cores t (left t (makes_core c && (a.value == t)))) legal.at_home;
 }
 legal_like limit (Acquire t d) f h faces cores legal = record {
   next = subst (λ (o : Option Progress). next_in o ≡ Some (d, mode_next (next_in o))) (cores t (same t)).progress legal.next;
@@ -372,11 +430,11 @@ back_settled t d (one ∷ rest) st =
     ]
 
 like_settled : (x : Part) → IsLike x (settled x)
-like_settled (part.Core c) = record { work = refl; progress = refl; acquiring = refl; vacant = λ v. cc v; back = λ t d st. (back_settled t d c.loans st).0 }
+like_settled (part.Core c) = record { work = refl; progress = refl; acquiring = refl; vacant = λ v. cc v; home = refl; back = λ t d st. (back_settled t d c.loans st).0 }
 like_settled other = like_same _ _ refl
 
 settled_like : (x : Part) → IsLike (settled x) x
-settled_like (part.Core c) = record { work = refl; progress = refl; acquiring = refl; vacant = λ v. cc v; back = λ t d st. (back_settled t d c.loans st).1 }
+settled_like (part.Core c) = record { work = refl; progress = refl; acquiring = refl; vacant = λ v. cc v; home = refl; back = λ t d st. (back_settled t d c.loans st).1 }
 settled_like other = like_same _ _ refl
 
 pub settled_legal_law : SettledLegalLaw

@@ -14,11 +14,13 @@ use Rattle.ocr_meaning.specs.declared.call.Call.TheVariants as call
 use Rattle.ocr_meaning.specs.declared.call.Answer.{Answer}
 use Rattle.ocr_history.specs.declared.entry.Entry.TheVariants.{Call, Acquire, Wait, StaleAcquire, Start, Free, End}
 use Rattle.ocr_history.specs.History.{History, Setting}
-use Rattle.ocr_history.specs.Made.{is_new}
+use Rattle.ocr_history.specs.Made.{Made, MadeEdt, is_new, is_edt_made}
 use Rattle.ocr_parts.specs.Calls.{edt_step, edt_calls, with_plan, awake, plan_of, asks_in, slots_now}
 use Rattle.ocr_parts.specs.Effects.{made_ready, awoken, acquired_edt, waiting_edt, started_edt, holding_edt, dropped_edt, ended_edt, stale_edt}
 use Rattle.ocr_meaning.specs.Holds.{is_done}
-use Rattle.ocr_parts.specs.Kinds.{is_acquiring_edt, next_in, progress_in, work_in}
+use Rattle.ocr_parts.specs.Kinds.{is_acquiring_edt, next_in, progress_in, work_in, identity_on}
+use Rattle.ocr_parts.specs.Parts.{core}
+use Rattle.ocr_parts.specs.declared.loans.Kept.{Kept}
 
 -- PLANS that were given are well formed
 abbrev pub IsFormed : List edt.EdtCall → Type 0
@@ -142,3 +144,20 @@ edt_dropped i calls d running = let found = running_work (edt.edt_of i calls) ru
 
 pub edt_ended : (i : Identity) (calls : List edt.EdtCall) → is_some (work_in (edt.edt_of i calls)) ≡ true → edt.edt_of i (edt.End ∷ calls) ≡ ended_edt (edt.edt_of i calls)
 edt_ended i calls running = let found = running_work (edt.edt_of i calls) running in rw found.1 (end_law i found.0 calls found.1)
+
+-- an EDT is who it was made as, in every phase
+same_identity : (i : Identity) (calls : List edt.EdtCall) → edt.identity_of (edt.edt_of i calls) ≡ i
+same_identity i [] = refl
+same_identity i (edt.Ready plan ∷ rest) = refl
+same_identity i (edt.Acquired g ∷ rest) = refl
+same_identity i (edt.FoundStale g ∷ rest) = refl
+same_identity i (edt.Wait ∷ rest) = refl
+same_identity i (edt.Resumed ∷ rest) = refl
+same_identity i (edt.Start ∷ rest) = refl
+same_identity i (edt.Hold g ∷ rest) = refl
+same_identity i (edt.DropHold g ∷ rest) = refl
+same_identity i (edt.End ∷ rest) = refl
+
+pub identity_is : (m : Option Made) (i : Identity) (calls : List edt.EdtCall) (loans : List (ℕ × Kept)) → is_edt_made m ≡ true → identity_on (core m i calls loans) ≡ i
+identity_is (Some (MadeEdt f ps n)) i calls loans is = same_identity i calls
+identity_is other i calls loans is = cc is

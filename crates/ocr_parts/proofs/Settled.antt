@@ -18,11 +18,12 @@ use Rattle.ocr_parts.specs.declared.part.Core.{Core}
 use Rattle.ocr_parts.specs.declared.part.Part.{Part}
 use Rattle.ocr_parts.specs.declared.part.Part.TheVariants as part
 use Rattle.ocr_parts.specs.Calls.{is_object, slot_target, target_of, mode_named, mode_next}
-use Rattle.ocr_parts.specs.Parts.{Parts, core, face}
-use Rattle.ocr_parts.specs.Effects.{new_face, linked_if, deps_linked, brought, with_face, with_core, with_phase, next_on, granted, returned, hold_ended, new_core, dropping_core, acquiring_core, waiting_edt, started_edt, ended_edt, ended, called, settled_core, settled, settled_parts, acquired_edt, awoken, core_with, creating_core, holding_core, stale_edt}
+use Rattle.ocr_edt.specs.declared.Identity.{Identity}
+use Rattle.ocr_parts.specs.Parts.{Parts, new_identity}
+use Rattle.ocr_parts.specs.Effects.{new_face, with_beside, linked_if, deps_linked, brought, joined, with_face, with_core, with_phase, next_on, granted, returned, hold_ended, new_core, dropping_core, acquiring_core, waiting_edt, started_edt, ended_edt, ended, called, settled_core, settled, settled_parts, acquired_edt, awoken, core_with, creating_core, holding_core, stale_edt}
 use Rattle.ocr_parts.specs.Laws.{SettledLaw}
 use Rattle.ocr_datablock.specs.Steps.{after_ask, after_release, after_doom}
-use Rattle.ocr_parts.specs.Kinds.{is_edt_face, with_links, core_progress, loan_on, next_in, on_core, size_on, with_block, words_on}
+use Rattle.ocr_parts.specs.Kinds.{home_on, is_edt_face, with_links, core_progress, loan_on, next_in, on_core, size_on, with_block, words_on}
 use Rattle.ocr_parts.specs.Loans.{given_loan, kept_in, loan_in, settled_loan, settled_loans, without_kept}
 use Rattle.ocr_parts.specs.declared.loans.Kept.{Kept}
 
@@ -94,9 +95,13 @@ settled_ended step f t d w =
     core_settled (with_face f d (with_block (f.face d) (hold_ended step t w (loan_on (f.core t) d)))) t (dropping_core d) (dropping_commutes d)
     ∙ (λ i. with_core (with_face (settled_parts f) d (with_block (f.face d) (λ st. step (loan_settled (f.core t) d w st i) t))) t (on_core (settled (f.core t)) (dropping_core d)))
 
-new_settled : (x : Part) (g : ℕ) (params : List ℕ) → settled (new_core x g params) ≡ new_core x g params
-new_settled (part.Template t) g params = refl
-new_settled other g params = refl
+new_settled : (x : Part) (i : Identity) (params : List ℕ) → settled (new_core x i params) ≡ new_core x i params
+new_settled (part.Template t) i params = refl
+new_settled other i params = refl
+
+home_settled : (x : Part) → home_on x ≡ home_on (settled x)
+home_settled (part.Core c) = refl
+home_settled other = refl
 
 settled_linked : (b : Bool) (d : ℕ) (to : Reached) (f : Parts) → settled_parts (linked_if b d to f) ≡ linked_if b d to (settled_parts f)
 settled_linked true d to f = refl
@@ -109,6 +114,7 @@ settled_deps t k (d ∷ rest) f = settled_deps t (k + 1) rest (linked_if (is_obj
 settled_brought : (w : What) (b : Bool) (f : Parts) → settled_parts (if b then brought w f else f) ≡ (if b then brought w (settled_parts f) else settled_parts f)
 settled_brought w false f = refl
 settled_brought (what.Satisfy e i p) true f = refl
+settled_brought (what.Leave x) true f = refl
 settled_brought other true f = refl
 
 settled_called : (t : ℕ) (c : body.Call) (a : Answer) (w : List (ℕ × ℕ)) (f : Parts) → settled_parts (called t c a w f) ≡ called t c a w (settled_parts f)
@@ -117,16 +123,20 @@ settled_called t (call.DbRelease d) a w f = settled_ended after_release f t d w
 settled_called t (call.DbDestroy d) a w f = settled_ended after_doom f t d w
 settled_called t (call.AddDependence from x i m) a w f = settled_linked (not (from == 0)) from (target_of (is_edt_face (f.face x)) x i) (with_face f x (with_links (f.face x) (λ slots. after_link slots i (mode_named m))))
 settled_called t (call.EdtCreate from pc params dc deps flags output) a w f =
-    settled_deps a.value 0 deps (with_core (with_face f a.value (new_face (f.face from) dc deps)) a.value (new_core (f.face from) a.value params))
+    let made : Parts → ℕ → Parts = λ g home. with_core (with_face (with_beside g home a) a.value (new_face (g.face from) dc deps)) a.value (new_core (g.face from) (new_identity a.value flags a home) params) in
+    let home : ℕ = home_on (f.core t) in
+    settled_deps a.value 0 deps (made f home)
     ∙ ap (deps_linked a.value 0 deps) (λ i. record {
-      face = (with_face f a.value (new_face (f.face from) dc deps)).face;
-      core = λ u. (settled_if (a.value == u) (new_core (f.face from) a.value params) (f.core u) ∙ ap (λ (x : Part). if a.value == u then x else settled (f.core u)) (new_settled (f.face from) a.value params)) i;
+      face = (made f home).face;
+      core = λ u. (settled_if (a.value == u) (new_core (f.face from) (new_identity a.value flags a home) params) (f.core u)
+          ∙ ap (λ (x : Part). if a.value == u then x else settled (f.core u)) (new_settled (f.face from) (new_identity a.value flags a home) params)) i;
     })
+    ∙ ap (λ (k : ℕ). deps_linked a.value 0 deps (made (settled_parts f) k)) (home_settled (f.core t))
 settled_called t other a w f = refl
 
 pub settled_law : SettledLaw
-settled_law (Call t home c a w) f = elim (is_done a.code) as (λ b. settled_parts (if b then called t c a w f else f) ≡ (if b then called t c a w (settled_parts f) else settled_parts f)) [
-  | true ↦ settled_called t c a w f
+settled_law (Call t home c a w) f = elim (is_done a.code) as (λ b. settled_parts (if b then joined c home (called t c a w f) else f) ≡ (if b then joined c home (called t c a w (settled_parts f)) else settled_parts f)) [
+  | true ↦ ap (joined c home) (settled_called t c a w f)
   | false ↦ refl
 ]
 settled_law (Deliver m c) f = settled_brought m.what (is_done c) f

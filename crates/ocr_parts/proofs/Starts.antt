@@ -20,12 +20,12 @@ use Rattle.ocr_history.specs.History.{History, Setting}
 use Rattle.ocr_history.specs.declared.entry.Entry.{Entry}
 use Rattle.ocr_meaning.specs.Holds.{is_done}
 use Rattle.ocr_parts.specs.Calls.{plan_of}
-use Rattle.ocr_parts.specs.Effects.{brought, acquired_edt, acquiring_core, awoken, called, changed, creating_core, dropped_edt, dropping_core, edt_in, ended_edt, holding_core, holding_edt, made_ready, new_core, next_mode_on, readied, ready_at, started_edt, waiting_edt, with_phase, stale_edt}
-use Rattle.ocr_parts.specs.Kinds.{is_acquiring, is_acquiring_edt, on_core, size_on, words_on}
+use Rattle.ocr_parts.specs.Effects.{brought, joined, acquired_edt, acquiring_core, awoken, called, changed, creating_core, dropped_edt, dropping_core, edt_in, ended_edt, holding_core, holding_edt, made_ready, new_core, next_mode_on, readied, ready_at, started_edt, waiting_edt, with_phase, stale_edt}
+use Rattle.ocr_parts.specs.Kinds.{home_on, is_acquiring, is_acquiring_edt, on_core, size_on, words_on}
 use Rattle.ocr_parts.specs.Laws.{SetLaw, StartLaw}
 use Rattle.ocr_parts.specs.Legal.{IsLegal, IsRun}
 use Rattle.ocr_parts.specs.LegalOn.{IsCallOn, IsLegalOn}
-use Rattle.ocr_parts.specs.Parts.{Parts, parts_of}
+use Rattle.ocr_parts.specs.Parts.{Parts, new_identity, parts_of}
 use Rattle.ocr_parts.specs.declared.part.Part.{Part}
 
 -- the EDT has started, by its core
@@ -107,7 +107,7 @@ called_begun limit f u home (call.DbDestroy d) a w t legal on is = begun_at f u 
 called_begun limit f u home (call.AddDependence from x i m) a w t legal on is = ap is_begun (linked_core (not (from == 0)) from _ _ t) ∙ is
 called_begun limit f u home (call.EdtCreate from pc ps dc ds fl o) a w t legal on is =
     ap is_begun (deps_core a.value 0 ds _ t)
-    ∙ elim (a.value == t) as (λ b. (a.value == t) ≡ b → is_begun (if b then new_core (f.face from) a.value ps else f.core t) ≡ true) [
+    ∙ elim (a.value == t) as (λ b. (a.value == t) ≡ b → is_begun (if b then new_core (f.face from) (new_identity a.value fl a (home_on (f.core u))) ps else f.core t) ≡ true) [
       | true ↦ λ here. absurd (let none : is_begun (f.core t) ≡ false = ap (λ (n : ℕ). is_begun (f.core n)) (sym (eqb-true a.value t here)) ∙ ap is_begun (legal.value.no_core on) in cc (is, none))
       | false ↦ λ _. is
     ] refl
@@ -116,11 +116,12 @@ called_begun limit f u home other a w t legal on is = is
 brought_core : (w : What) (b : Bool) (f : Parts) (u : ℕ) → (if b then brought w f else f).core u ≡ f.core u
 brought_core w false f u = refl
 brought_core (what.Satisfy e i p) true f u = refl
+brought_core (what.Leave x) true f u = refl
 brought_core other true f u = refl
 
 -- what has begun stays so
 changed_begun : (limit : ℕ) (e : Entry) (members : List (ℕ × Mode)) (f : Parts) (t : ℕ) → IsLegalOn limit (readied members e f) e → is_begun (f.core t) ≡ true → is_begun ((changed e (readied members e f)).core t) ≡ true
-changed_begun limit (Call u home c a w) members f t legal is = elim (is_done a.code) as (λ b. is_done a.code ≡ b → is_begun ((if b then called u c a w f else f).core t) ≡ true) [
+changed_begun limit (Call u home c a w) members f t legal is = elim (is_done a.code) as (λ b. is_done a.code ≡ b → is_begun ((if b then joined c home (called u c a w f) else f).core t) ≡ true) [
   | true ↦ λ on. called_begun limit f u home c a w t legal on is
   | false ↦ λ _. is
 ] refl

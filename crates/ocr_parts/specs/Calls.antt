@@ -12,6 +12,7 @@ use Rattle.ocr_slots.specs.Slots as slot
 use Rattle.ocr_datablock.specs.Block as block
 use Rattle.ocr_edt.specs.Edt as edt
 use Rattle.ocr_edt.specs.Phases.{first_of, is_named}
+use Rattle.ocr_finish.specs.Scope.{ScopeCall, Joining, Parting}
 use Rattle.ocr_meaning.specs.Holds.{is_done}
 use Rattle.ocr_meaning.specs.declared.call.Call as body
 use Rattle.ocr_meaning.specs.declared.call.Call.TheVariants as call
@@ -21,7 +22,7 @@ use Rattle.ocr_history.specs.declared.entry.Entry.TheVariants.{Call, Deliver, Ac
 use Rattle.ocr_history.specs.declared.entry.What.{What}
 use Rattle.ocr_history.specs.declared.entry.What.TheVariants as what
 use Rattle.ocr_history.specs.History.{History, Setting}
-use Rattle.ocr_history.specs.Made.{is_new, is_edt_made, made, depc_in, size_in, creator_in}
+use Rattle.ocr_history.specs.Made.{is_new, makes, names_new, is_edt_made, made, depc_in, size_in, creator_in}
 use Rattle.ocr_parts.specs.declared.loans.Kept.{Kept}
 use Rattle.ocr_parts.specs.Loans.{without_kept, kept_of, kept_created}
 
@@ -49,9 +50,10 @@ abbrev pub dep_links : ℕ → List ℕ → List slot.SlotCall → List slot.Slo
 dep_links k [] calls = calls
 dep_links k (d ∷ rest) calls = dep_links (k + 1) rest (with_dep k d calls)
 
-abbrev pub first_links : body.Call → List slot.SlotCall
-first_links (call.EdtCreate from pc ps dc ds fl o) = dep_links 0 ds []
-first_links other = []
+abbrev pub first_links : body.Call → Answer → ℕ → List slot.SlotCall
+first_links (call.EdtCreate from pc ps dc ds fl o) a t =
+    if makes a t then dep_links 0 ds [] else []
+first_links other a t = []
 
 abbrev pub link_step : body.Call → Answer → ℕ → List slot.SlotCall → List slot.SlotCall
 link_step (call.AddDependence from x i m) a t calls =
@@ -61,7 +63,7 @@ link_step other a t calls = calls
 abbrev pub link_calls : History → ℕ → List slot.SlotCall
 link_calls [] t = if t == MAIN_EDT then slot.Linking 0 mode.Rw ∷ [] else []
 link_calls (Call by home c a w ∷ past) t =
-    if is_new c a t then first_links c else link_step c a t (link_calls past t)
+    if is_new c a t then first_links c a t else link_step c a t (link_calls past t)
 link_calls (e ∷ past) t = link_calls past t
 
 -- SETTINGS of slots, by the deliveries. The opening sets slot 0 of the first EDT to the argument
@@ -293,6 +295,25 @@ event_calls s (Call by home c a w ∷ past) g =
 event_calls s (Deliver m code ∷ past) g =
     deliver_step m.what (is_done code) g (event_calls s past g)
 event_calls s (e ∷ past) g = event_calls s past g
+
+-- FINISH SCOPES. An EDT that is made joins the scope that is its maker's home; of a finish EDT its
+-- scope does so in its place
+abbrev pub join_step : body.Call → ℕ → Answer → ℕ → List ScopeCall → List ScopeCall
+join_step (call.EdtCreate from pc ps dc ds fl o) home a g calls =
+    if is_done a.code && names_new home g then Joining ∷ calls else calls
+join_step other home a g calls = calls
+
+-- a member leaves by a message
+abbrev pub leave_step : What → Bool → ℕ → List ScopeCall → List ScopeCall
+leave_step (what.Leave x) done g calls = if done && (x == g) then Parting ∷ calls else calls
+leave_step other done g calls = calls
+
+abbrev pub scope_calls : History → ℕ → List ScopeCall
+scope_calls [] g = []
+scope_calls (Call by home c a w ∷ past) g =
+    if is_new c a g then [] else join_step c home a g (scope_calls past g)
+scope_calls (Deliver m code ∷ past) g = leave_step m.what (is_done code) g (scope_calls past g)
+scope_calls (e ∷ past) g = scope_calls past g
 
 -- WHAT AN EDT KEEPS with the blocks that it holds: the length of each, and in EW and CONST the
 -- contents at the acquire

@@ -119,13 +119,13 @@ abbrev pub release_code : Part → ℕ → Code
 release_code x t = if is_held_by x t then code.Done else code.Eperm
 
 -- the counts of a creation: as many parameters as are counted, no dependences or as many as are
--- counted. Finish scopes are not built: no flag is given
+-- counted. The one flag is that of a finish EDT
 abbrev pub counted_code : Result (ℕ × ℕ) Code → List ℕ → List ℕ → ℕ → Code
 counted_code (Err c) params deps flags = c
 counted_code (Ok counts) params deps flags =
     if not (length params == counts.0) then code.Einval
     else if not ((length deps == 0) || (length deps == counts.1)) then code.Einval
-    else if not (flags == 0) then code.Einval
+    else if nat_lt 1 flags then code.Einval
     else code.Done
 
 abbrev pub creation_code : Part → ℕ → List ℕ → ℕ → List ℕ → ℕ → Code

@@ -12,9 +12,11 @@ use Rattle.ocr_datablock.specs.Steps.{after_ask, after_release, after_doom, afte
 use Rattle.ocr_datablock.specs.Lent.{Loan}
 use Rattle.ocr_guid.specs.declared.target.Target.{Target}
 use Rattle.ocr_any_event.specs.AnyEvent as event
+use Rattle.ocr_edt.specs.declared.Identity.{Identity}
 use Rattle.ocr_edt.specs.declared.Edt.{Edt}
 use Rattle.ocr_edt.specs.declared.Edt.TheVariants as phase
 use Rattle.ocr_edt.specs.Steps.{after_ready, after_acquired, after_start, after_hold, after_drop_hold}
+use Rattle.ocr_finish.specs.Scope as scope
 use Rattle.ocr_meaning.specs.Holds.{is_done}
 use Rattle.ocr_meaning.specs.declared.call.Call as body
 use Rattle.ocr_meaning.specs.declared.call.Call.TheVariants as call
@@ -25,15 +27,16 @@ use Rattle.ocr_history.specs.declared.entry.Stop.TheVariants as by
 use Rattle.ocr_history.specs.declared.entry.What.{What}
 use Rattle.ocr_history.specs.declared.entry.What.TheVariants as what
 use Rattle.ocr_history.specs.History.{History, Setting}
-use Rattle.ocr_history.specs.Made.{creator_of}
+use Rattle.ocr_history.specs.declared.objects.TheConstants.{OUTPUT_KIND, OUTPUT_FLAGS}
+use Rattle.ocr_history.specs.Made.{creator_of, names_new}
 use Rattle.ocr_parts.specs.declared.loans.Kept.{Kept}
 use Rattle.ocr_parts.specs.declared.part.Core as core_type
 use Rattle.ocr_parts.specs.declared.part.Part.{Part}
 use Rattle.ocr_parts.specs.declared.part.Part.TheVariants as part
 use Rattle.ocr_parts.specs.Loans.{without_kept, kept_of, kept_created, settled_loans}
 use Rattle.ocr_parts.specs.Calls.{dep_links, is_object, slot_target, target_of, plan_of, mode_named, mode_next}
-use Rattle.ocr_parts.specs.Parts.{Parts, identity_of}
-use Rattle.ocr_parts.specs.Kinds.{with_block, words_on, size_on, is_held_by, with_links, with_template, with_event, is_edt_face, on_core, core_progress, next_in, loan_on}
+use Rattle.ocr_parts.specs.Parts.{Parts, new_identity}
+use Rattle.ocr_parts.specs.Kinds.{with_block, words_on, size_on, is_held_by, with_links, with_template, with_event, with_scope, is_edt_face, on_core, home_on, core_progress, next_in, loan_on}
 
 -- these parts, but for one
 abbrev pub with_face : Parts → ℕ → Part → Parts
@@ -41,6 +44,10 @@ with_face f n x = record { face = λ g. if n == g then x else f.face g; core = f
 
 abbrev pub with_core : Parts → ℕ → Part → Parts
 with_core f n x = record { face = f.face; core = λ t. if n == t then x else f.core t }
+
+-- but for one where the number is not NULL_GUID
+abbrev pub with_named : Parts → ℕ → Part → Parts
+with_named f n x = record { face = λ g. if names_new n g then x else f.face g; core = f.core }
 
 -- THE STEPS of an EDT.
 abbrev pub made_ready : List (ℕ × Mode) → Edt → Edt
@@ -138,15 +145,25 @@ new_face (part.Template t) dc deps =
     part.Edt (slot.state_of (count_meant t.depc dc) (dep_links 0 deps []))
 new_face other dc deps = part.Vacant
 
-abbrev pub new_core : Part → ℕ → List ℕ → Part
-new_core (part.Template t) g params =
+abbrev pub new_core : Part → Identity → List ℕ → Part
+new_core (part.Template t) i params =
     part.Core (record {
       function = t.function;
       params = params;
-      edt = phase.Filling (identity_of g);
+      edt = phase.Filling i;
       loans = [];
     })
-new_core other g params = part.Vacant
+new_core other i params = part.Vacant
+
+-- the faces beside it, where its maker has this home: those of its scope and of its output event
+abbrev pub new_scope : ℕ → Answer → Part
+new_scope home a = part.Scope (scope.state_of home a.output [])
+
+abbrev pub new_output : Part
+new_output = part.Event (event.state_of OUTPUT_KIND OUTPUT_FLAGS 0 [])
+
+abbrev pub with_beside : Parts → ℕ → Answer → Parts
+with_beside f home a = with_named (with_named f a.output new_output) a.scope (new_scope home a)
 
 -- the EDT's hold of the block ends by a step of the block
 abbrev pub ended : (block.State → ℕ → block.State) → Parts → ℕ → ℕ → List (ℕ × ℕ) → Parts
@@ -198,9 +215,21 @@ called t (call.EventDestroy e) a w f =
     with_face f e (with_event (f.face e) event.after_destroy)
 called t (call.EdtCreate from pc params dc deps flags output) a w f =
     deps_linked a.value 0 deps
-    (with_core (with_face f a.value (new_face (f.face from) dc deps))
-    a.value (new_core (f.face from) a.value params))
+    (with_core
+    (with_face (with_beside f (home_on (f.core t)) a) a.value (new_face (f.face from) dc deps))
+    a.value (new_core (f.face from) (new_identity a.value flags a (home_on (f.core t))) params))
 called t other a w f = f
+
+-- an EDT that is made joins its maker's home
+abbrev pub joins : body.Call → ℕ → ℕ → Bool
+joins (call.EdtCreate from pc params dc deps flags output) home g = names_new home g
+joins other home g = false
+
+abbrev pub joined : body.Call → ℕ → Parts → Parts
+joined c home f = record {
+  face = λ g. if joins c home g then with_scope (f.face g) scope.after_join else f.face g;
+  core = f.core;
+}
 
 -- THE PARTS AFTER AN ENTRY. The core of an EDT that acquires, waits, finds a block gone or starts
 -- was made ready before
@@ -225,10 +254,11 @@ waited f t d =
 abbrev pub brought : What → Parts → Parts
 brought (what.Satisfy e slot p) f =
     with_face f e (with_event (f.face e) (λ st. event.after_satisfy st slot p))
+brought (what.Leave x) f = with_face f x (with_scope (f.face x) scope.after_leave)
 brought other f = f
 
 abbrev pub changed : Entry → Parts → Parts
-changed (Call t home c a w) f = if is_done a.code then called t c a w f else f
+changed (Call t home c a w) f = if is_done a.code then joined c home (called t c a w f) else f
 changed (Deliver m c) f = if is_done c then brought m.what f else f
 changed (Acquire t d) f = acquired f t d
 changed (Wait t d) f = waited f t d

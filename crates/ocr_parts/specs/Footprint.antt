@@ -8,10 +8,12 @@ use Rattle.ocr_history.specs.declared.entry.Entry.{Entry}
 use Rattle.ocr_history.specs.declared.entry.Entry.TheVariants.{Call, Deliver, Acquire, Wait, StaleAcquire, Start, Free, End}
 use Rattle.ocr_history.specs.declared.entry.What.{What}
 use Rattle.ocr_history.specs.declared.entry.What.TheVariants as what
+use Rattle.ocr_history.specs.Made.{names_new}
 use Rattle.ocr_history.specs.Numbers.{placed}
 use Rattle.ocr_parts.specs.declared.part.Part.{Part}
 use Rattle.ocr_parts.specs.Parts.{Parts}
 use Rattle.ocr_parts.specs.Codes.{Sort, wanted}
+use Rattle.ocr_parts.specs.Effects.{joins}
 use Rattle.ocr_parts.specs.Taken.{is_within, has}
 
 -- the entry names the face of this object: one that its call wants or makes
@@ -22,13 +24,20 @@ is_wanted g (one ∷ rest) = (one.0 == g) || is_wanted g rest
 abbrev pub names_face : body.Call → Answer → ℕ → Bool
 names_face c a g = is_wanted g (wanted c) || (is_creation c && (a.value == g))
 
--- a message names the event that it satisfies, and a Set nothing
+-- and those of a new EDT's scope and output event
+abbrev pub names_beside : body.Call → Answer → ℕ → Bool
+names_beside (call.EdtCreate from pc params dc deps flags output) a g =
+    names_new a.scope g || names_new a.output g
+names_beside other a g = false
+
+-- a message names the event that it satisfies or the scope that it leaves, and a Set nothing
 abbrev pub is_brought_to : What → ℕ → Bool
 is_brought_to (what.Satisfy e slot p) g = e == g
+is_brought_to (what.Leave x) g = x == g
 is_brought_to other g = false
 
 abbrev pub on_face : Entry → ℕ → Bool
-on_face (Call t home c a w) g = names_face c a g
+on_face (Call t home c a w) g = (joins c home g || names_beside c a g) || names_face c a g
 on_face (Deliver m c) g = is_brought_to m.what g
 on_face (Acquire t d) g = (t == g) || (d == g)
 on_face (Wait t d) g = (t == g) || (d == g)
@@ -74,12 +83,20 @@ and_made limit c a numbers =
 abbrev pub call_footprint : ℕ → body.Call → Answer → List ℕ → List ℕ
 call_footprint limit c a numbers = and_wanted limit (wanted c) (and_made limit c a numbers)
 
+-- those of a new EDT's scope and output event, and of the home that it joins
+abbrev pub and_beside : ℕ → ℕ → body.Call → Answer → List ℕ → List ℕ
+and_beside limit home (call.EdtCreate from pc params dc deps flags output) a numbers =
+    and_face limit home (and_face limit a.scope (and_face limit a.output numbers))
+and_beside limit home other a numbers = numbers
+
 abbrev pub message_footprint : ℕ → What → List ℕ
 message_footprint limit (what.Satisfy e slot p) = and_face limit e []
+message_footprint limit (what.Leave x) = and_face limit x []
 message_footprint limit other = []
 
 abbrev pub footprint_of : ℕ → Entry → List ℕ
-footprint_of limit (Call t home c a w) = call_footprint limit c a (and_core limit t [])
+footprint_of limit (Call t home c a w) =
+    and_beside limit home c a (call_footprint limit c a (and_core limit t []))
 footprint_of limit (Deliver m c) = message_footprint limit m.what
 footprint_of limit (Acquire t d) = and_face limit t (and_face limit d (and_core limit t []))
 footprint_of limit (Wait t d) = and_face limit t (and_face limit d (and_core limit t []))

@@ -9,14 +9,18 @@ use Rattle.ocr_datablock.specs.Lent.{Loan}
 use Rattle.ocr_template.specs.declared.Template.{Template}
 use Rattle.ocr_any_event.specs.declared.AnyEvent.{AnyEvent}
 use Rattle.ocr_any_event.specs.AnyEvent as event
+use Rattle.ocr_edt.specs.declared.Identity.{Identity}
 use Rattle.ocr_edt.specs.declared.Edt.{Edt}
 use Rattle.ocr_edt.specs.declared.Edt.TheVariants as phase
+use Rattle.ocr_edt.specs.Edt as edt
 use Rattle.ocr_edt.specs.Phases.{Progress, Work, next_of}
+use Rattle.ocr_finish.specs.Scope as scope
 use Rattle.ocr_parts.specs.declared.loans.Kept.{Kept}
 use Rattle.ocr_parts.specs.declared.part.Core as core_type
 use Rattle.ocr_parts.specs.declared.part.Part.{Part}
 use Rattle.ocr_parts.specs.declared.part.Part.TheVariants as part
 use Rattle.ocr_parts.specs.Loans.{kept_in, loan_in}
+use Rattle.ocr_parts.specs.Parts.{plain_identity}
 
 abbrev pub is_vacant : Part → Bool
 is_vacant part.Vacant = true
@@ -80,6 +84,15 @@ is_destroyed (part.Template t) = t.destroyed
 is_destroyed (part.Event st) = event.is_destroyed st
 is_destroyed other = false
 
+-- FINISH SCOPES
+abbrev pub is_scope : Part → Bool
+is_scope (part.Scope st) = true
+is_scope other = false
+
+abbrev pub with_scope : Part → (scope.State → scope.State) → Part
+with_scope (part.Scope st) step = part.Scope (step st)
+with_scope other step = other
+
 -- EDTS: their faces
 abbrev pub is_edt_face : Part → Bool
 is_edt_face (part.Edt slots) = true
@@ -93,6 +106,14 @@ with_links other step = other
 abbrev pub on_core : Part → (core_type.Core → core_type.Core) → Part
 on_core (part.Core c) step = part.Core (step c)
 on_core other step = other
+
+-- who an EDT is, and its home: its own scope for a finish EDT, else that of its maker, 0 for none
+abbrev pub identity_on : Part → Identity
+identity_on (part.Core c) = edt.identity_of c.edt
+identity_on other = plain_identity 0
+
+abbrev pub home_on : Part → ℕ
+home_on x = (identity_on x).scope
 
 -- how far an EDT that acquires or waits has come
 abbrev pub progress_in : Edt → Option Progress

@@ -6,11 +6,14 @@ use Rattle.ocr_acquire.specs.Mode.{mode_in, is_exclusive}
 use Rattle.ocr_datablock.specs.Block as block
 use Rattle.ocr_datablock.specs.Steps.{AreAllowed}
 use Rattle.ocr_datablock.specs.Lent.{loan_of}
+use Rattle.ocr_any_event.specs.declared.TheConstants.{ONCE}
+use Rattle.ocr_any_event.specs.AnyEvent.{takes_arg}
 use Rattle.ocr_meaning.specs.Holds.{is_done, after_call}
 use Rattle.ocr_meaning.specs.declared.call.Call as body
 use Rattle.ocr_meaning.specs.declared.call.Answer.{Answer}
 use Rattle.ocr_history.specs.declared.entry.Entry.{Entry}
 use Rattle.ocr_history.specs.declared.entry.Entry.TheVariants.{Call}
+use Rattle.ocr_history.specs.declared.objects.TheConstants.{OUTPUT_KIND, OUTPUT_FLAGS}
 use Rattle.ocr_history.specs.Edts.{StartsOnce}
 use Rattle.ocr_history.specs.History.{History, Setting}
 use Rattle.ocr_history.specs.Made.{made, is_edt_made, size_in, creator_in}
@@ -146,3 +149,7 @@ AwaitedLaw = (s : Setting) (past : History) → IsRun s past → (t d : ℕ) (m 
 abbrev pub CountedLaw : Type 0
 CountedLaw =
     (s : Setting) (past : History) (g : ℕ) → counted_on ((parts_of s past).face g) ≤ length past
+
+-- an output event is a ONCE event that takes an argument
+abbrev pub OutputLaw : Type 0
+OutputLaw = (OUTPUT_KIND ≡ ONCE) × (takes_arg OUTPUT_FLAGS ≡ true)

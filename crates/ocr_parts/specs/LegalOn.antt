@@ -1,5 +1,5 @@
 -- What the legality of an entry asks of the parts.
-use Rattle.std.specs.Prelude.{◌≡◌, ◌≤◌, ◌<◌, ◌⊎◌, ℕ, List, [], Bool, true, false, Option, Some, None, is_some, length, slice_index}
+use Rattle.std.specs.Prelude.{◌≡◌, ◌≤◌, ◌<◌, ◌⊎◌, ℕ, List, [], Bool, true, false, ◌&&◌, ◌==◌, if◌then◌else◌, Option, Some, None, is_some, length, slice_index}
 use Rattle.ocr_guid.specs.Code.{number_of}
 use Rattle.ocr_guid.specs.declared.Code.{Code}
 use Rattle.ocr_guid.specs.declared.Code.TheVariants as code
@@ -9,6 +9,7 @@ use Rattle.ocr_acquire.specs.Mode.{is_null, mode_in, is_exclusive}
 use Rattle.ocr_datablock.specs.Block as block
 use Rattle.ocr_datablock.specs.Lent.{Loan}
 use Rattle.ocr_edt.specs.Phases.{least_of}
+use Rattle.ocr_finish.specs.declared.TheConstants.{MOST_MEMBERS}
 use Rattle.ocr_meaning.specs.Holds.{is_done}
 use Rattle.ocr_meaning.specs.declared.call.Call as body
 use Rattle.ocr_meaning.specs.declared.call.Call.TheVariants as call
@@ -21,7 +22,7 @@ use Rattle.ocr_parts.specs.declared.part.Part.{Part}
 use Rattle.ocr_parts.specs.declared.part.Part.TheVariants as part
 use Rattle.ocr_parts.specs.Calls.{is_number}
 use Rattle.ocr_parts.specs.Parts.{Parts}
-use Rattle.ocr_parts.specs.Kinds.{IsBlock, work_of, is_running, holds_of, mode_on, loan_on, is_acquiring}
+use Rattle.ocr_parts.specs.Kinds.{IsBlock, work_of, is_running, holds_of, mode_on, loan_on, is_acquiring, home_on}
 use Rattle.ocr_parts.specs.Codes.{code_of, code_or, slot_most}
 use Rattle.ocr_parts.specs.Effects.{next_on, next_mode_on}
 
@@ -74,11 +75,46 @@ pub record IsLoaded (t k : ℕ) (m : Option Mode) (value : ℕ) (st : block.Stat
   pub shared : IsShared t k m st
   pub word : value ≡ slice_index st.words k
 
--- an EDT that is made: its number, and no core there before. Output events are not built
-pub record IsEdtNamed (limit : ℕ) (f : Parts) (a : Answer) (output : Bool) : Type 0 where
+-- an EDT that is made: its number, and no core there before
+pub record IsEdtNamed (limit : ℕ) (f : Parts) (a : Answer) : Type 0 where
   pub named : IsNamed limit f a
   pub no_core : is_done a.code ≡ true → f.core a.value ≡ part.Vacant
-  pub no_output : output ≡ false
+
+-- an object that is made beside another, where one is: a fresh number, drawn after the other's
+abbrev pub IsBeside : Bool → ℕ → Parts → (other g : ℕ) → Type 0
+IsBeside true limit f other g = IsFresh limit f g × (other < g)
+IsBeside false limit f other g = g ≡ 0
+
+-- the scope of an EDT that is made, where it is a finish EDT
+abbrev pub IsScoped : ℕ → Parts → body.Call → Answer → Type 0
+IsScoped limit f (call.EdtCreate from pc params dc deps flags output) a =
+    IsBeside (is_done a.code && (flags == 1)) limit f a.value a.scope
+IsScoped limit f other a = a.scope ≡ 0
+
+-- and its output event, where one was asked for, which is drawn last
+abbrev pub last_of : Answer → ℕ
+last_of a = if a.scope == 0 then a.value else a.scope
+
+abbrev pub HasOutput : ℕ → Parts → body.Call → Answer → Type 0
+HasOutput limit f (call.EdtCreate from pc params dc deps flags output) a =
+    IsBeside (is_done a.code && output) limit f (last_of a) a.output
+HasOutput limit f other a = a.output ≡ 0
+
+-- a scope that takes one member more
+abbrev pub IsJoinable : Part → Type 0
+IsJoinable (part.Scope st) = (0 < st.members) × (st.members < MOST_MEMBERS)
+IsJoinable other = ⊥
+
+-- THE HOME that the entry tells is that of the EDT, and one that is made can join it
+pub record IsAtHome (f : Parts) (t home : ℕ) (done : Bool) : Type 0 where
+  pub own : home ≡ home_on (f.core t)
+  pub joinable : done ≡ true → (home == 0) ≡ false → IsJoinable (f.face home)
+
+-- only an EDT that is made joins one
+abbrev pub IsHome : Parts → (t home : ℕ) → body.Call → Answer → Type 0
+IsHome f t home (call.EdtCreate from pc params dc deps flags output) a =
+    IsAtHome f t home (is_done a.code)
+IsHome f t home other a = home ≡ 0
 
 -- what the call answers besides its code
 abbrev pub IsAnswered : ℕ → Parts → ℕ → body.Call → Answer → Type 0
@@ -89,7 +125,7 @@ IsAnswered limit f t (call.Store d k v) a =
     IsBlock (f.face d) (IsShared t k (mode_on (f.core t) d)) × (a.value ≡ 0)
 IsAnswered limit f t (call.TemplateCreate function pc dc) a = IsNamed limit f a
 IsAnswered limit f t (call.EdtCreate from pc params dc deps flags output) a =
-    IsEdtNamed limit f a output
+    IsEdtNamed limit f a
 IsAnswered limit f t (call.DbCreate n fl) a = IsNamed limit f a
 IsAnswered limit f t (call.DbRelease d) a =
     (is_done a.code ≡ true → IsEnding f t d) × (a.value ≡ number_of a.code)
@@ -109,9 +145,9 @@ pub record IsCallOn (limit : ℕ) (f : Parts) (t home : ℕ) (c : body.Call) (a 
   pub running : is_running (f.core t) ≡ true
   pub code : a.code ≡ code_of t f.face c
   pub value : IsAnswered limit f t c a
-  pub no_scope : a.scope ≡ 0
-  pub no_output : a.output ≡ 0
-  pub no_home : home ≡ 0
+  pub scope : IsScoped limit f c a
+  pub output : HasOutput limit f c a
+  pub at_home : IsHome f t home c a
 
 -- GOING ON. The EDT does not stand at the block, and asks for it in a mode that is not NULL
 pub record IsNewcomer (t : ℕ) (m : Mode) (st : block.State) : Type 0 where
@@ -164,8 +200,7 @@ pub record IsEndOn (f : Parts) (t : ℕ) : Type 0 where
   pub running : is_running (f.core t) ≡ true
   pub nothing_held : holds_of (work_of (f.core t)) ≡ []
 
--- a delivered Set touches no part, and a delivered Satisfy is answered as its event does; members
--- of finish scopes are not built
+-- a delivered Set touches no part, and a delivered Satisfy is answered as its event does
 abbrev pub delivery_code : Part → ℕ → Code
 delivery_code (part.Event st) p = code_or (event.refusal st p)
 delivery_code other p = code.Done
@@ -175,11 +210,16 @@ abbrev pub IsSatisfiable : ℕ → Part → Type 0
 IsSatisfiable slot (part.Event st) = slot ≤ slot_most st
 IsSatisfiable slot other = ⊥
 
+-- a scope that has a member, which can leave it
+abbrev pub HasMember : Part → Type 0
+HasMember (part.Scope st) = 0 < st.members
+HasMember other = ⊥
+
 abbrev pub IsDeliverOn : Parts → What → Code → Type 0
 IsDeliverOn f (what.Set x i p) c = c ≡ code.Done
 IsDeliverOn f (what.Satisfy e slot p) c =
     IsSatisfiable slot (f.face e) × (c ≡ delivery_code (f.face e) p)
-IsDeliverOn f other c = ⊥
+IsDeliverOn f (what.Leave x) c = HasMember (f.face x) × (c ≡ code.Done)
 
 abbrev pub IsLegalOn : ℕ → Parts → Entry → Type 0
 IsLegalOn limit f (Call t home c a w) = IsCallOn limit f t home c a w

@@ -7,12 +7,16 @@ use Rattle.ocr_any_event.specs.AnyEvent as event
 use Rattle.ocr_any_event.specs.declared.AnyEvent.{AnyEvent}
 use Rattle.ocr_any_event.specs.declared.AnyEvent.TheVariants as any
 use Rattle.ocr_datablock.specs.Steps.{on_release, on_doom}
+use Rattle.ocr_edt.specs.declared.Identity.{Identity}
+use Rattle.ocr_finish.specs.declared.Leaving.{Leaving}
+use Rattle.ocr_finish.specs.declared.Leaving.TheVariants as leaving
+use Rattle.ocr_finish.specs.Scope as scope
 use Rattle.ocr_meaning.specs.Holds.{is_done}
 use Rattle.ocr_meaning.specs.declared.call.Call as body
 use Rattle.ocr_meaning.specs.declared.call.Call.TheVariants as call
 use Rattle.ocr_meaning.specs.declared.call.Answer.{Answer}
 use Rattle.ocr_history.specs.declared.entry.Entry.{Entry}
-use Rattle.ocr_history.specs.declared.entry.Entry.TheVariants.{Call, Deliver, Free}
+use Rattle.ocr_history.specs.declared.entry.Entry.TheVariants.{Call, Deliver, Free, End}
 use Rattle.ocr_history.specs.declared.entry.What.{What}
 use Rattle.ocr_history.specs.declared.entry.What.TheVariants as what
 use Rattle.ocr_history.specs.History.{History, Setting}
@@ -20,7 +24,7 @@ use Rattle.ocr_parts.specs.declared.part.Part.{Part}
 use Rattle.ocr_parts.specs.declared.part.Part.TheVariants as part
 use Rattle.ocr_parts.specs.Calls.{is_given, is_object, slot_target, target_of}
 use Rattle.ocr_parts.specs.Effects.{linked_if}
-use Rattle.ocr_parts.specs.Kinds.{is_edt_face}
+use Rattle.ocr_parts.specs.Kinds.{is_block, is_edt_face, identity_on}
 use Rattle.ocr_parts.specs.Parts.{Parts, parts_of}
 
 -- a payload to a target
@@ -63,13 +67,39 @@ sent_by (call.AddDependence from x i m) a f =
 sent_by (call.EdtCreate from pc ps dc ds fl o) a f = dep_sends a.value 0 ds f
 sent_by other a f = []
 
+-- an event is satisfied, and a scope left, where there is one
+abbrev pub satisfy_some : (event payload : ℕ) → List What
+satisfy_some e p = if e == 0 then [] else what.Satisfy e 0 p ∷ []
+
+abbrev pub leave_some : ℕ → List What
+leave_some x = if x == 0 then [] else what.Leave x ∷ []
+
+-- a scope that is done satisfies the output event of its finish EDT, and leaves its outer scope
+abbrev pub sent_if_done : Leaving → scope.State → List What
+sent_if_done leaving.Alive st = []
+sent_if_done leaving.Done st = satisfy_some st.event 0 ++ leave_some st.outer
+
+abbrev pub sent_by_leave : Part → List What
+sent_by_leave (part.Scope st) = sent_if_done (scope.on_leave st) st
+sent_by_leave other = []
+
 abbrev pub sent_by_message : What → Parts → List What
 sent_by_message (what.Satisfy e slot p) f = satisfied (f.face e) slot p
+sent_by_message (what.Leave x) f = sent_by_leave (f.face x)
 sent_by_message other f = []
+
+-- THE END of an EDT: its output event gets the block that the body returned, where no scope of its
+-- own satisfies it, and the EDT leaves its home
+abbrev pub payload_of_end : Part → ℕ → ℕ
+payload_of_end x g = if is_block x then g else 0
+
+abbrev pub sent_by_end : Identity → ℕ → List What
+sent_by_end i p = (if i.finish then [] else satisfy_some i.output p) ++ leave_some i.scope
 
 abbrev pub sends : Entry → Parts → List What
 sends (Call t home c a w) f = if is_done a.code then sent_by c a f else []
 sends (Deliver m c) f = if is_done c then sent_by_message m.what f else []
+sends (End t g) f = sent_by_end (identity_on (f.core t)) (payload_of_end (f.face g) g)
 sends other f = []
 
 -- who goes on once the EDT gives the block back

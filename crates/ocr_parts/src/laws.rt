@@ -1,5 +1,5 @@
 // The laws of runs and of the machine's parts.
-ghost use Rattle.ocr_parts.specs.Laws.{StartLaw, SetLaw, AfterLaw, EffectLaw, CodeLaw, LegalityLaw, FrameLaw, WithinLaw, RefusedLaw, HoldsLaw, SettledLaw, SettledLegalLaw, LentLaw, AllowedLaw, FreeLaw, AwaitedLaw, CountedLaw};
+ghost use Rattle.ocr_parts.specs.Laws.{StartLaw, SetLaw, AfterLaw, EffectLaw, CodeLaw, LegalityLaw, FrameLaw, WithinLaw, RefusedLaw, HoldsLaw, SettledLaw, SettledLegalLaw, LentLaw, AllowedLaw, FreeLaw, AwaitedLaw, CountedLaw, OutputLaw};
 
 /// In a run every EDT starts at most once, and only where its last slot is set.
 pub fn run_laws()
@@ -37,7 +37,9 @@ pub fn block_laws()
     ensures awaited { AwaitedLaw }
 {}
 
-/// A latch was satisfied at most once by each entry, so it counts no more than there are entries.
+/// A latch was satisfied at most once by each entry, so it counts no more than there are entries. An
+/// output event is a ONCE event that takes an argument.
 pub fn event_laws()
     ensures counted { CountedLaw }
+    ensures output { OutputLaw }
 {}

@@ -4,6 +4,7 @@ use ocr_any_event::AnyEvent;
 use ocr_base::Seq;
 use ocr_datablock::Block;
 use ocr_edt::Edt;
+use ocr_finish::Scope;
 use ocr_guid::Guid;
 use ocr_history::What;
 use ocr_slots::Slots;
@@ -29,6 +30,7 @@ pub enum Part {
     Block(Block),
     Template(Template),
     Event(AnyEvent),
+    Scope(Scope),
     /// The core of an EDT.
     Core(Core),
 }

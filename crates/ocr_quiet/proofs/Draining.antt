@@ -4,14 +4,15 @@ use Rattle.std.proofs.lemmas.Grind.{common_steps}
 use Rattle.ocr_acquire.specs.declared.Mode.{Mode}
 use Rattle.ocr_acquire.specs.Mode.{mode_in}
 use Rattle.ocr_edt.specs.declared.Edt.{Edt}
+use Rattle.ocr_edt.specs.declared.Identity.{Identity}
 use Rattle.ocr_history.specs.declared.entry.Entry.{Entry}
 use Rattle.ocr_history.specs.declared.entry.Entry.TheVariants.{Call, Deliver, Acquire, Wait, StaleAcquire, Start, Free, End, Stop}
 use Rattle.ocr_parts.specs.declared.part.Part.{Part}
 use Rattle.ocr_history.specs.History.{History, Setting, is_stopped}
 use Rattle.ocr_history.specs.Made.{is_edt, Made, MadeEdt, made, is_edt_made}
-use Rattle.ocr_parts.specs.Calls.{plan_of, open_slots, link_calls, block_calls, edt_calls, loans_of, mode_next, event_calls}
+use Rattle.ocr_parts.specs.Calls.{plan_of, open_slots, link_calls, block_calls, edt_calls, loans_of, mode_next, event_calls, scope_calls}
 use Rattle.ocr_history.specs.Edts.{is_started, is_ended, IsRunning}
-use Rattle.ocr_parts.specs.Parts.{Parts, core, parts_of}
+use Rattle.ocr_parts.specs.Parts.{Parts, identity_of, core, parts_of}
 use Rattle.ocr_parts.specs.Kinds.{on_core, progress_in, core_progress, next_in, IsBlock, is_acquiring, is_acquiring_edt}
 use Rattle.ocr_parts.specs.Effects.{with_phase, made_ready, next_on}
 use Rattle.ocr_parts.specs.LegalOn.{IsTaken}
@@ -56,10 +57,10 @@ waiting_idle members (part.Core c) z is = waiting_edt_idle members c.edt z is
 waiting_idle members other z is = cc is
 
 -- what is not made has no core
-no_core : (m : Option Made) (t : ℕ) (calls : List edt.EdtCall) (loans : List (ℕ × Kept)) (members : List (ℕ × Mode)) → is_edt_made m ≡ false
-    → (core_progress (Readied members (core m t calls loans)) ≡ None) × (is_acquiring (Readied members (core m t calls loans)) ≡ false)
-no_core (Some (MadeEdt f ps n)) t calls loans members is = cc is
-no_core other t calls loans members is = (refl, refl)
+no_core : (m : Option Made) (i : Identity) (calls : List edt.EdtCall) (loans : List (ℕ × Kept)) (members : List (ℕ × Mode)) → is_edt_made m ≡ false
+    → (core_progress (Readied members (core m i calls loans)) ≡ None) × (is_acquiring (Readied members (core m i calls loans)) ≡ false)
+no_core (Some (MadeEdt f ps n)) i calls loans members is = cc is
+no_core other i calls loans members is = (refl, refl)
 
 not_taken : (x : Part) (t : ℕ) (k m : Mode) → IsBlock x (IsTaken t k) → mode_in t (holders_on x) ≡ None → mode_in t (standing x) ≡ Some m → ⊥
 not_taken (part.Block st) t k m taken unheld stands = elim taken.fit [
@@ -116,7 +117,7 @@ idle_asleep s past t run (inr found) =
 
 asleep_if : (s : Setting) (past : History) (t : ℕ) (b : Bool) → is_edt_made (made s past t) ≡ b → IsRun s past → (is_edt past t ≡ true → IsIdle s past t) → IsAsleep s past t
 asleep_if s past t true is run idle = idle_asleep s past t run (idle (sym (edts_law s past run t) ∙ is))
-asleep_if s past t false is run idle = bare_asleep s past t (no_core (made s past t) t (edt_calls s past t) (loans_of s past t) (plan_of s past t) is)
+asleep_if s past t false is run idle = bare_asleep s past t (no_core (made s past t) (identity_of past t) (edt_calls s past t) (loans_of s past t) (plan_of s past t) is)
 
 no_waking : (s : Setting) (past : History) → ((t : ℕ) → IsAsleep s past t) → (e : Entry) → IsWaking e → IsLegal s past e → ⊥
 no_waking s past all (Acquire t d) waking legal = (all t).no_acquire d legal
@@ -130,9 +131,9 @@ no_waking s past all (End t g) waking legal = absurd waking
 no_waking s past all (Stop why) waking legal = absurd waking
 
 -- who has started has ended
-no_mark : (m : Option Made) (t : ℕ) (calls : List edt.EdtCall) (loans : List (ℕ × Kept)) → is_edt_made m ≡ false → nat_lt 1 (mark (core m t calls loans)).0 ≡ false
-no_mark (Some (MadeEdt f ps n)) t calls loans is = cc is
-no_mark other t calls loans is = refl
+no_mark : (m : Option Made) (i : Identity) (calls : List edt.EdtCall) (loans : List (ℕ × Kept)) → is_edt_made m ≡ false → nat_lt 1 (mark (core m i calls loans)).0 ≡ false
+no_mark (Some (MadeEdt f ps n)) i calls loans is = cc is
+no_mark other i calls loans is = refl
 
 waiting_mark_edt : (e : Edt) (z : ℕ × Mode) → awaits_in e ≡ Some z → nat_lt 1 (mark_in e).0 ≡ false
 waiting_mark_edt (phase.Waiting p) z is = refl
@@ -156,7 +157,7 @@ idle_ended s past t run (inr found) on =
 ended_if : (s : Setting) (past : History) (t : ℕ) (b : Bool) → is_edt_made (made s past t) ≡ b → IsRun s past → (is_edt past t ≡ true → IsIdle s past t) → is_started past t ≡ true → is_ended past t ≡ true
 ended_if s past t true is run idle on = idle_ended s past t run (idle (sym (edts_law s past run t) ∙ is)) on
 ended_if s past t false is run idle on =
-    let off : is_started past t ≡ false = (told_law s past run t).has_started ∙ no_mark (made s past t) t (edt_calls s past t) (loans_of s past t) is in
+    let off : is_started past t ≡ false = (told_law s past run t).has_started ∙ no_mark (made s past t) (identity_of past t) (edt_calls s past t) (loans_of s past t) is in
     cc (on, off)
 
 pub drain_law : DrainLaw
@@ -193,7 +194,7 @@ queued_idle s past t d m run queued = record {
   waits = queued.waits;
   not_held = not_held ((parts_of s past).face d) t m (once s past run d) queued.queued;
   not_gone = off_from (is_gone_on ((parts_of s past).face d)) (λ gone.
-      queue_in ((parts_of s past).face d) t m (gone_face (made s past d) (link_calls past d) (block_calls s past d) (event_calls s past d) gone) queued.queued);
+      queue_in ((parts_of s past).face d) t m (gone_face (made s past d) (link_calls past d) (block_calls s past d) (event_calls s past d) (scope_calls past d) gone) queued.queued);
 }
 
 set_fate : (s : Setting) (past : History) (t : ℕ) (xs : List ℕ) → open_slots s past t ≡ xs → IsRun s past → is_stopped past ≡ false → is_edt past t ≡ true → is_started past t ≡ false → Fates s past t

@@ -14,9 +14,9 @@ use Rattle.ocr_history.specs.History.{History, Setting}
 use Rattle.ocr_history.specs.Made.{Made, MadeEdt, is_new, opened}
 use Rattle.ocr_meaning.specs.Holds.{is_done}
 use Rattle.ocr_parts.specs.Calls.{plan_of, asks_of, asks_in, slots_now, depc_of, set_step, set_calls, link_calls}
-use Rattle.ocr_parts.specs.Kinds.{is_block, on_core}
-use Rattle.ocr_parts.specs.Parts.{Parts, core, parts_of}
-use Rattle.ocr_parts.specs.Effects.{with_phase, made_ready, awoken, acquired_edt, waiting_edt, started_edt, holding_edt, dropped_edt, ended_edt, new_core, creating_core, holding_core, dropping_core, acquiring_core, called, brought, changed, ready_at, readied_on, stale_edt}
+use Rattle.ocr_parts.specs.Kinds.{is_block, on_core, home_on}
+use Rattle.ocr_parts.specs.Parts.{Parts, plain_identity, new_identity, core, parts_of}
+use Rattle.ocr_parts.specs.Effects.{with_phase, made_ready, awoken, acquired_edt, waiting_edt, started_edt, holding_edt, dropped_edt, ended_edt, new_core, creating_core, holding_core, dropping_core, acquiring_core, called, joined, brought, changed, ready_at, readied_on, stale_edt}
 use Rattle.ocr_parts.specs.Legal.{IsRun}
 use Rattle.ocr_quiet.specs.Waits.{rest_in, rest_on, AreBlocks}
 use Rattle.ocr_parts.proofs.After.{after_law, linked_core, deps_core}
@@ -156,16 +156,16 @@ creating_wants : (f : Faces) (fl d n : ℕ) (x : Part) → Wants f x → Wants f
 creating_wants f fl d n (part.Core c) are = elim (fl == 0) as (λ b. Wants f (part.Core (if b then holding_core d n c else c))) [ true ↦ holding_wants f d c.edt are | false ↦ are ]
 creating_wants f fl d n other are = are
 
-new_wants : (f : Faces) (x : Part) (g : ℕ) (params : List ℕ) → Wants f (new_core x g params)
-new_wants f (part.Template t) g params = tt
-new_wants f other g params = tt
+new_wants : (f : Faces) (x : Part) (i : Identity) (params : List ℕ) → Wants f (new_core x i params)
+new_wants f (part.Template t) i params = tt
+new_wants f other i params = tt
 
 called_wants : (h : Faces) (f : Parts) (t : ℕ) (c : body.Call) (a : Answer) (w : List (ℕ × ℕ)) → ((u : ℕ) → Wants h (f.core u)) → (u : ℕ) → Wants h ((called t c a w f).core u)
 called_wants h f t (call.DbCreate n fl) a w all u = wants_if h f.core t u _ (creating_wants h fl a.value (n / 8) (f.core t)) (all t) (all u)
 called_wants h f t (call.DbRelease d) a w all u = wants_if h f.core t u _ (dropping_wants h d (f.core t)) (all t) (all u)
 called_wants h f t (call.DbDestroy d) a w all u = wants_if h f.core t u _ (dropping_wants h d (f.core t)) (all t) (all u)
 called_wants h f t (call.EdtCreate from pc ps dc ds fl o) a w all u =
-    subst (Wants h) (sym (deps_core a.value 0 ds _ u)) (wants_if h f.core a.value u _ (λ _. new_wants h (f.face from) a.value ps) (all a.value) (all u))
+    subst (Wants h) (sym (deps_core a.value 0 ds _ u)) (wants_if h f.core a.value u _ (λ _. new_wants h (f.face from) (new_identity a.value fl a (home_on (f.core t))) ps) (all a.value) (all u))
 called_wants h f t (call.AddDependence from x i m) a w all u = subst (Wants h) (sym (linked_core (not (from == 0)) from _ _ u)) (all u)
 called_wants h f t other a w all u = all u
 
@@ -174,7 +174,7 @@ brought_wants h (what.Satisfy e i p) f all u = all u
 brought_wants h other f all u = all u
 
 changed_wants : (h : Faces) (e : Entry) (f : Parts) → ((u : ℕ) → Wants h (f.core u)) → (u : ℕ) → Wants h ((changed e f).core u)
-changed_wants h (Call t home c a w) f all u = elim (is_done a.code) as (λ b. Wants h ((if b then called t c a w f else f).core u)) [ true ↦ called_wants h f t c a w all u | false ↦ all u ]
+changed_wants h (Call t home c a w) f all u = elim (is_done a.code) as (λ b. Wants h ((if b then joined c home (called t c a w f) else f).core u)) [ true ↦ called_wants h f t c a w all u | false ↦ all u ]
 changed_wants h (Deliver m c) f all u = elim (is_done c) as (λ b. Wants h ((if b then brought m.what f else f).core u)) [ true ↦ brought_wants h m.what f all u | false ↦ all u ]
 changed_wants h (Acquire t d) f all u = wants_if h f.core t u _ (acquiring_wants h d _ _ _ (f.core t)) (all t) (all u)
 changed_wants h (Wait t d) f all u = wants_if h f.core t u _ (edt_wants h waiting_edt (waiting_wants h) (f.core t)) (all t) (all u)
@@ -218,13 +218,13 @@ readied_there s past (StaleAcquire t d) run all u = ready_there s past run t all
 readied_there s past (Start t) run all u = ready_there s past run t all u
 readied_there s past other run all u = all u
 
-new_rest : (f : Faces) (m : Option Made) (t : ℕ) → AreBlocks f (rest_on (core m t [] []))
-new_rest f (Some (MadeEdt g ps n)) t = tt
-new_rest f other t = tt
+new_rest : (f : Faces) (m : Option Made) (i : Identity) → AreBlocks f (rest_on (core m i [] []))
+new_rest f (Some (MadeEdt g ps n)) i = tt
+new_rest f other i = tt
 
 -- each block that an EDT wants is there
 pub wanted_law : (s : Setting) (past : History) → IsRun s past → (t : ℕ) → AreBlocks (parts_of s past).face (rest_on ((parts_of s past).core t))
-wanted_law s [] run t = new_rest (parts_of s []).face (opened s t) t
+wanted_law s [] run t = new_rest (parts_of s []).face (opened s t) (plain_identity t)
 wanted_law s (e ∷ past) run t =
     let ready : Parts = readied_on s past e (parts_of s past) in
     blocks_kept (parts_of s past).face (parts_of s (e ∷ past)).face (lasts s past e run.1) (rest_on ((parts_of s (e ∷ past)).core t))

@@ -1,6 +1,7 @@
 pub mod Each
 pub mod Payloads
 pub mod Lasting
+pub mod Homes
 pub mod Sent
 pub mod Moving
 pub mod Standing

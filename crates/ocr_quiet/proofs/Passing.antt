@@ -43,6 +43,11 @@ use Rattle.ocr_parts.specs.Codes.{ABlock, code_of, is_of_other_kind}
 use Rattle.ocr_quiet.proofs.Choices.{or_left, not_off}
 use Rattle.ocr_parts.proofs.After.{not_stale, done_is}
 use Rattle.ocr_quiet.proofs.Choices.{done_kinds}
+use Rattle.ocr_finish.specs.Scope.{State, after_join, after_leave}
+use Rattle.ocr_parts.proofs.Beside.{named_keeps, joined_keeps, output_free, scope_free, edt_free}
+use Rattle.ocr_parts.specs.Effects.{with_face, with_named, with_beside, new_scope, new_output, joined}
+use Rattle.ocr_parts.specs.Kinds.{home_on, with_scope}
+use Rattle.ocr_parts.specs.Parts.{new_identity}
 
 -- A BLOCK IS DESTROYED: as a hold ends, but for the step of the block
 doomed_line : (t : ℕ) (w : List (ℕ × ℕ)) (loan : Option Loan) (st : block.State) → block.line (hold_ended block_steps.after_doom t w loan st) ≡ block.line_after_grants true (block.line_without t (block.line st))
@@ -185,6 +190,16 @@ deps_standing : (t k : ℕ) (ds : List ℕ) (f : Parts) → AreStanding f → Ar
 deps_standing t k [] f all = all
 deps_standing t k (d ∷ rest) f all = deps_standing t (k + 1) rest (linked_if (is_object d) d (slot_target t k) f) (linked_standing (is_object d) d (slot_target t k) f all)
 
+vacated : (f : Parts) (g : ℕ) (x : Part) → AreStanding f → f.face g ≡ part.Vacant → is_gone_on part.Vacant ≡ is_gone_on x → standing part.Vacant ≡ standing x → queue_on part.Vacant ≡ queue_on x → AreStanding (with_face f g x)
+vacated f g x all vacant gone there queue = faced f g x all (sym (ap is_gone_on vacant ∙ gone)) (sym (ap standing vacant ∙ there)) (sym (ap queue_on vacant ∙ queue))
+
+scope_same : (x : Part) (step : State → State) → (is_gone_on (with_scope x step) ≡ is_gone_on x) × (standing (with_scope x step) ≡ standing x) × (queue_on (with_scope x step) ≡ queue_on x)
+scope_same (part.Scope st) step = (refl, refl, refl)
+scope_same other step = (refl, refl, refl)
+
+scoped_standing : (f : Parts) (g : ℕ) (step : State → State) → AreStanding f → AreStanding (with_face f g (with_scope (f.face g) step))
+scoped_standing f g step all = let same = scope_same (f.face g) step in faced f g _ all same.0 same.1 same.2
+
 called_standing : (limit : ℕ) (f : Parts) (t home : ℕ) (c : body.Call) (a : Answer) (w : List (ℕ × ℕ)) → AreStanding f → IsOnce f → is_done a.code ≡ true → IsCallOn limit f t home c a w → AreStanding (called t c a w f)
 called_standing limit f t home (call.DbCreate n fl) a w all once on legal = made_standing f t _ fl a.value all legal.running (legal.value.fresh on).vacant
 called_standing limit f t home (call.DbRelease d) a w all once on legal = ended_standing f t d w all once legal.running (legal.value.0 on)
@@ -206,12 +221,18 @@ called_standing limit f t home (call.EventCreateParams k fl most sats ds) a w al
 called_standing limit f t home (call.EventDestroy x) a w all once on legal = stepped_standing f x after_destroy all
 called_standing limit f t home (call.Satisfy e p slot) a w all once on legal = stepped_standing f e (λ st. after_satisfy st slot p) all
 called_standing limit f t home (call.EdtCreate from pc params dc deps flags output) a w all once on legal =
-    deps_standing a.value 0 deps _ (edt_standing f a.value (f.face from) dc deps params all (legal.value.named.fresh on).vacant (legal.value.no_core on))
+    deps_standing a.value 0 deps _ (edt_standing (with_beside f (home_on (f.core t)) a) a.value (f.face from) dc deps (new_identity a.value flags a (home_on (f.core t))) params
+    (named_keeps AreStanding (with_named f a.output new_output) a.scope (new_scope (home_on (f.core t)) a)
+    (named_keeps AreStanding f a.output new_output all (λ some. vacated f a.output new_output all (output_free limit f t home from pc dc flags params deps output a w legal some) refl refl refl))
+    (λ some. vacated (with_named f a.output new_output) a.scope (new_scope (home_on (f.core t)) a) (named_keeps AreStanding f a.output new_output all (λ some. vacated f a.output new_output all (output_free limit f t home from pc dc flags params deps output a w legal some) refl refl refl))
+    (scope_free limit f t home from pc dc flags params deps output a w legal some) refl refl refl))
+    (edt_free limit f t home from pc dc flags params deps output a w legal (home_on (f.core t)) on) (legal.value.no_core on))
 called_standing limit f t home other a w all once on legal = all
 
 -- A MESSAGE
 brought_standing : (w : What) (f : Parts) → AreStanding f → AreStanding (brought w f)
 brought_standing (what.Satisfy e slot p) f all = stepped_standing f e (λ st. after_satisfy st slot p) all
+brought_standing (what.Leave x) f all = scoped_standing f x after_leave all
 brought_standing other f all = all
 
 -- EACH ENTRY
@@ -223,8 +244,8 @@ gone_is (part.Block st) is = is
 gone_is other is = absurd is
 
 pub entry_standing : (limit : ℕ) (e : Entry) (f : Parts) → AreStanding f → IsOnce f → IsEmptyGone f → IsLegalOn limit f e → AreStanding (changed e f)
-entry_standing limit (Call t home c a w) f all once empty legal = elim (is_done a.code) as (λ b. is_done a.code ≡ b → AreStanding (if b then called t c a w f else f)) [
-  | true ↦ λ on. called_standing limit f t home c a w all once on legal
+entry_standing limit (Call t home c a w) f all once empty legal = elim (is_done a.code) as (λ b. is_done a.code ≡ b → AreStanding (if b then joined c home (called t c a w f) else f)) [
+  | true ↦ λ on. let now : AreStanding (called t c a w f) = called_standing limit f t home c a w all once on legal in joined_keeps AreStanding c home (called t c a w f) now (λ _. scoped_standing (called t c a w f) home after_join now)
   | false ↦ λ _. all
 ] refl
 entry_standing limit (Deliver m c) f all once empty legal = elim (is_done c) as (λ b. AreStanding (if b then brought m.what f else f)) [ true ↦ brought_standing m.what f all | false ↦ all ]

@@ -24,27 +24,35 @@ use Rattle.ocr_meaning.specs.declared.call.Call as body
 use Rattle.ocr_meaning.specs.declared.call.Call.TheVariants as call
 use Rattle.ocr_meaning.specs.declared.call.Answer.{Answer}
 use Rattle.ocr_history.specs.declared.entry.Entry.{Entry}
-use Rattle.ocr_history.specs.declared.entry.Entry.TheVariants.{Call, Deliver, Acquire, Wait, Free}
+use Rattle.ocr_history.specs.declared.entry.Entry.TheVariants.{Call, Deliver, Acquire, Wait, Free, End}
 use Rattle.ocr_history.specs.declared.entry.What.{What}
 use Rattle.ocr_history.specs.declared.entry.What.TheVariants as what
 use Rattle.ocr_history.specs.History.{History, Setting}
-use Rattle.ocr_history.specs.Made.{Made, MadeEvent, opened}
+use Rattle.ocr_history.specs.Made.{Made, MadeEvent, MadeScope, made, opened}
 use Rattle.ocr_parts.specs.declared.part.Part.{Part}
 use Rattle.ocr_parts.specs.declared.part.Part.TheVariants as part
-use Rattle.ocr_parts.specs.Calls.{is_given, is_object, slot_target, target_of, link_calls, block_calls}
+use Rattle.ocr_parts.specs.Calls.{is_given, is_object, slot_target, target_of, link_calls, block_calls, event_calls, scope_calls}
 use Rattle.ocr_parts.specs.Parts.{Parts, face, parts_of}
-use Rattle.ocr_parts.specs.Kinds.{is_block, is_event, is_edt_face, with_block, with_links, with_template, with_event}
+use Rattle.ocr_parts.specs.Kinds.{is_block, is_event, is_edt_face, identity_on, home_on, with_block, with_links, with_template, with_event, with_scope}
 use Rattle.ocr_parts.specs.Codes.{Source, Target, ATemplate, AnEvent, ABlock, has_kind, is_any, is_of_other_kind, code_of, slot_most, is_unfit, dependence_code, brings_block, wanted_source, wanted_sources, wanted_payload}
-use Rattle.ocr_parts.specs.Effects.{with_face, new_face, linked_if, deps_linked, called, brought, changed, readied_on}
+use Rattle.ocr_parts.specs.Effects.{with_face, with_named, with_beside, new_scope, new_output, joined, new_face, linked_if, deps_linked, called, brought, changed, readied_on}
 use Rattle.ocr_parts.specs.LegalOn.{IsSatisfiable}
 use Rattle.ocr_parts.specs.Legal.{IsRun, IsLegal}
-use Rattle.ocr_parts.specs.Messages.{what_to, carried_by, satisfied, linked, linked_by, dep_sends, sent_by, sent_by_message, sends, delivered, pending}
+use Rattle.ocr_parts.specs.Messages.{what_to, carried_by, satisfied, linked, linked_by, dep_sends, sent_by, satisfy_some, leave_some, sent_if_done, sent_by_leave, sent_by_message, payload_of_end, sent_by_end, sends, delivered, pending}
 use Rattle.ocr_parts.proofs.After.{after_law, accepted, done_is}
 use Rattle.ocr_quiet.specs.Sent.{IsGiven, IsSoundMessage, SentLaw}
 use Rattle.ocr_quiet.proofs.Choices.{not_off, or_left, or_right, done_kinds}
 use Rattle.ocr_quiet.proofs.Each.{Each, each_from, each_joined, each_front, each_back, each_mapped, each_at}
 use Rattle.ocr_quiet.proofs.Payloads.{payloads_in, new_payloads, satisfied_payloads, linked_payloads, destroyed_payloads, IsNow, now_given}
 use Rattle.ocr_quiet.proofs.Lasting.{Faces, IsLasting, AreLasting, lasts}
+use Rattle.ocr_quiet.proofs.Homes.{NamesScope, NamesEvent, IsSoundIdentity, IsSoundScope, core_identity, scope_law}
+use Rattle.ocr_parts.proofs.Beside.{named_keeps, joined_keeps}
+use Rattle.ocr_edt.specs.declared.Identity.{Identity}
+use Rattle.ocr_finish.specs.Scope as scope
+use Rattle.ocr_finish.specs.declared.Leaving.{Leaving}
+use Rattle.ocr_finish.specs.declared.Leaving.TheVariants as leaving
+use Rattle.ocr_guid.specs.Target.{EventCall}
+use Rattle.ocr_history.specs.declared.objects.TheConstants.{OUTPUT_KIND, OUTPUT_FLAGS}
 
 -- A TARGET is a slot of an EDT, or one of an event that has it
 abbrev pub IsSlot : Bool → ℕ → Part → Type 0
@@ -78,7 +86,7 @@ part_lasts f h last other is = tt
 message_lasts : (f h : Faces) → AreLasting f h → (w : What) → IsSoundMessage f w → IsSoundMessage h w
 message_lasts f h last (what.Set x i p) is = given_lasts f h last p is
 message_lasts f h last (what.Satisfy e i p) is = (given_lasts f h last p is.0, (last e).slots i is.1)
-message_lasts f h last other is = absurd is
+message_lasts f h last (what.Leave x) is = (last x).scope is
 
 -- MESSAGES that an event sends
 to_sound : (f : Faces) (pair : ℕ × Reached) → IsGiven f pair.0 × IsAimed f pair.1 → IsSoundMessage f (what_to pair)
@@ -152,6 +160,10 @@ template_part : (f : Faces) (x : Part) (step : Template → Template) → IsSoun
 template_part f (part.Template t) step is = tt
 template_part f other step is = is
 
+scope_part : (f : Faces) (x : Part) (step : scope.State → scope.State) → IsSoundPart f x → IsSoundPart f (with_scope x step)
+scope_part f (part.Scope st) step is = tt
+scope_part f other step is = is
+
 edt_part : (f : Faces) (x : Part) (dc : ℕ) (ds : List ℕ) → IsSoundPart f (new_face x dc ds)
 edt_part f (part.Template t) dc ds = tt
 edt_part f other dc ds = tt
@@ -170,6 +182,14 @@ linked_parts f false d t h aim are = are
 deps_parts : (f : Faces) (t k : ℕ) (ds : List ℕ) (h : Parts) → AreSoundParts f h → AreSoundParts f (deps_linked t k ds h)
 deps_parts f t k [] h are = are
 deps_parts f t k (d ∷ rest) h are = deps_parts f t (k + 1) rest (linked_if (is_object d) d (slot_target t k) h) (linked_parts f (is_object d) d (slot_target t k) h tt are)
+
+beside_parts : (f : Faces) (home : ℕ) (a : Answer) (h : Parts) → AreSoundParts f h → AreSoundParts f (with_beside h home a)
+beside_parts f home a h are =
+    let one : AreSoundParts f (with_named h a.output new_output) = named_keeps (AreSoundParts f) h a.output new_output are (λ _. sound_at f h a.output new_output (new_part f OUTPUT_KIND OUTPUT_FLAGS 0) are) in
+    named_keeps (AreSoundParts f) (with_named h a.output new_output) a.scope (new_scope home a) one (λ _. sound_at f (with_named h a.output new_output) a.scope (new_scope home a) tt one)
+
+joined_parts : (f : Faces) (c : body.Call) (home : ℕ) (h : Parts) → AreSoundParts f h → AreSoundParts f (joined c home h)
+joined_parts f c home h are = joined_keeps (AreSoundParts f) c home h are (λ _. sound_at f h home _ (scope_part f (h.face home) scope.after_join (are home)) are)
 
 -- AN ACCEPTED CALL finds what it names to be of its kind
 payload_given : (f : Faces) (p : ℕ) → is_any is_of_other_kind f (wanted_payload p) ≡ false → IsGiven f p
@@ -272,16 +292,45 @@ called_parts f t (call.TemplateDestroy x) a w is are = sound_at f.face f x _ (te
 called_parts f t (call.EventCreate k fl) a w is are = sound_at f.face f a.value _ (new_part f.face k fl 0) are
 called_parts f t (call.EventCreateParams k fl most sats ds) a w is are = sound_at f.face f a.value _ (new_part f.face k fl most) are
 called_parts f t (call.EventDestroy e) a w is are = sound_at f.face f e _ (destroyed_part f.face (f.face e) (are e)) are
-called_parts f t (call.EdtCreate from pc ps dc ds fl o) a w is are = deps_parts f.face a.value 0 ds _ (sound_at f.face f a.value _ (edt_part f.face (f.face from) dc ds) are)
+called_parts f t (call.EdtCreate from pc ps dc ds fl o) a w is are = deps_parts f.face a.value 0 ds _ (sound_at f.face (with_beside f (home_on (f.core t)) a) a.value _ (edt_part f.face (f.face from) dc ds) (beside_parts f.face (home_on (f.core t)) a f are))
 called_parts f t other a w is are = are
 
+-- WHERE A SCOPE IS LEFT, and an EDT ends
+some_satisfied : (f : Faces) (e p : ℕ) → NamesEvent f e → IsGiven f p → Each (IsSoundMessage f) (satisfy_some e p)
+some_satisfied f e p (inl null) given = let none : (e == 0) ≡ true = rw null refl in rw none tt
+some_satisfied f e p (inr is) given = elim (e == 0) as (λ b. Each (IsSoundMessage f) (if b then [] else what.Satisfy e 0 p ∷ [])) [ true ↦ tt | false ↦ ((given, is), tt) ]
+
+some_left : (f : Faces) (x : ℕ) → NamesScope f x → Each (IsSoundMessage f) (leave_some x)
+some_left f x (inl null) = let none : (x == 0) ≡ true = rw null refl in rw none tt
+some_left f x (inr is) = elim (x == 0) as (λ b. Each (IsSoundMessage f) (if b then [] else what.Leave x ∷ [])) [ true ↦ tt | false ↦ (is, tt) ]
+
+done_sound : (f : Faces) (l : Leaving) (st : scope.State) → NamesScope f st.outer × NamesEvent f st.event → Each (IsSoundMessage f) (sent_if_done l st)
+done_sound f leaving.Alive st is = tt
+done_sound f leaving.Done st is = each_joined (IsSoundMessage f) (satisfy_some st.event 0) (leave_some st.outer) (some_satisfied f st.event 0 is.1 (inl refl)) (some_left f st.outer is.0)
+
+left_sound : (f : Faces) (m : Option Made) (links : List slot.SlotCall) (blocks : List block.BlockCall) (events : List EventCall) (scopes : List scope.ScopeCall) → IsSoundScope f m → Each (IsSoundMessage f) (sent_by_leave (face m links blocks events scopes))
+left_sound f (Some (MadeScope outer output)) links blocks events scopes is = done_sound f (scope.on_leave (scope.state_of outer output scopes)) (scope.state_of outer output scopes) is
+left_sound f other links blocks events scopes is = tt
+
+end_given : (f : Faces) (g : ℕ) → IsGiven f (payload_of_end (f g) g)
+end_given f g = elim (is_block (f g)) as (λ b. is_block (f g) ≡ b → IsGiven f (if b then g else 0)) [ true ↦ λ is. inr is | false ↦ λ _. inl refl ] refl
+
+end_sound : (f : Faces) (i : Identity) (p : ℕ) → IsSoundIdentity f i → IsGiven f p → Each (IsSoundMessage f) (sent_by_end i p)
+end_sound f i p is given =
+    each_joined (IsSoundMessage f) (if i.finish then [] else satisfy_some i.output p) (leave_some i.scope)
+    (elim i.finish as (λ b. Each (IsSoundMessage f) (if b then [] else satisfy_some i.output p)) [ true ↦ tt | false ↦ some_satisfied f i.output p is.output given ])
+    (some_left f i.scope is.home)
+
 -- A MESSAGE that is delivered
-brought_sound : (f : Parts) (w : What) → IsSoundMessage f.face w → AreSoundParts f.face f → Each (IsSoundMessage f.face) (sent_by_message w f)
-brought_sound f (what.Satisfy e i p) is are = satisfied_sound f.face (f.face e) i p is.0 (are e)
-brought_sound f other is are = tt
+brought_sound : (s : Setting) (past : History) (w : What) → IsRun s past → IsSoundMessage (parts_of s past).face w → AreSoundParts (parts_of s past).face (parts_of s past) → Each (IsSoundMessage (parts_of s past).face) (sent_by_message w (parts_of s past))
+brought_sound s past (what.Satisfy e i p) run is are = satisfied_sound (parts_of s past).face ((parts_of s past).face e) i p is.0 (are e)
+brought_sound s past (what.Leave x) run is are =
+    left_sound (parts_of s past).face (made s past x) (link_calls past x) (block_calls s past x) (event_calls s past x) (scope_calls past x) (scope_law s past run x)
+brought_sound s past other run is are = tt
 
 brought_parts : (f : Parts) (w : What) → IsSoundMessage f.face w → AreSoundParts f.face f → AreSoundParts f.face (brought w f)
 brought_parts f (what.Satisfy e i p) is are = sound_at f.face f e _ (satisfied_part f.face (f.face e) i p is.0 (are e)) are
+brought_parts f (what.Leave x) is are = sound_at f.face f x _ (scope_part f.face (f.face x) scope.after_leave (are x)) are
 brought_parts f other is are = are
 
 -- AFTER EACH RUN
@@ -298,9 +347,9 @@ drop_sound f name (m ∷ rest) is = elim (mail.same_name name m) as (λ b. AreSo
   | false ↦ (is.0, drop_sound f name rest is.1)
 ]
 
-left_sound : (f : Faces) (name : Option (ℕ × ℕ)) (ms : Mail) → AreSound f ms → AreSound f (mail.without name ms)
-left_sound f None ms is = is
-left_sound f (Some name) ms is = drop_sound f name ms is
+kept_sound : (f : Faces) (name : Option (ℕ × ℕ)) (ms : Mail) → AreSound f ms → AreSound f (mail.without name ms)
+kept_sound f None ms is = is
+kept_sound f (Some name) ms is = drop_sound f name ms is
 
 named_sound : (f : Faces) (n i : ℕ) (ws : List What) → Each (IsSoundMessage f) ws → AreSound f (mail.named n i ws)
 named_sound f n i [] is = tt
@@ -310,7 +359,7 @@ pub record IsSoundRun (s : Setting) (past : History) : Type 0 where
   pub parts : AreSoundParts (parts_of s past).face (parts_of s past)
   pub mail : AreSound (parts_of s past).face (pending s past)
 
-opened_part : (f : Faces) (m : Option Made) (links : List slot.SlotCall) (blocks : List block.BlockCall) → IsSoundPart f (face m links blocks [])
+opened_part : (f : Faces) (m : Option Made) (links : List slot.SlotCall) (blocks : List block.BlockCall) → IsSoundPart f (face m links blocks [] [])
 opened_part f (Some (MadeEvent k fl most)) links blocks = new_part f k fl most
 opened_part f other links blocks = tt
 
@@ -318,20 +367,22 @@ opened_part f other links blocks = tt
 said_sound : (s : Setting) (past : History) (w : What) (place index : ℕ) → IsSoundRun s past → Contains (pending s past) (place, index, w) → IsSoundMessage (parts_of s past).face w
 said_sound s past w place index was there = each_at (λ (m : ℕ × ℕ × What). IsSoundMessage (parts_of s past).face m.2) (pending s past) (place, index, w) was.mail there
 
-sends_sound : (s : Setting) (past : History) (e : Entry) → IsSoundRun s past → IsLegal s past e → Each (IsSoundMessage (parts_of s past).face) (sends e (parts_of s past))
-sends_sound s past (Call t home c a w) was legal = elim (is_done a.code) as (λ b. is_done a.code ≡ b → Each (IsSoundMessage (parts_of s past).face) (if b then sent_by c a (parts_of s past) else [])) [
+sends_sound : (s : Setting) (past : History) (e : Entry) → IsRun s past → IsSoundRun s past → IsLegal s past e → Each (IsSoundMessage (parts_of s past).face) (sends e (parts_of s past))
+sends_sound s past (Call t home c a w) run was legal = elim (is_done a.code) as (λ b. is_done a.code ≡ b → Each (IsSoundMessage (parts_of s past).face) (if b then sent_by c a (parts_of s past) else [])) [
   | true ↦ λ on. call_sound (parts_of s past) t c a (sym legal.on_parts.code ∙ done_is a.code on) was.parts
   | false ↦ λ _. tt
 ] refl
-sends_sound s past (Deliver m c) was legal = elim (is_done c) as (λ b. Each (IsSoundMessage (parts_of s past).face) (if b then sent_by_message m.what (parts_of s past) else [])) [
-  | true ↦ brought_sound (parts_of s past) m.what (said_sound s past m.what m.place m.index was legal.said) was.parts
+sends_sound s past (Deliver m c) run was legal = elim (is_done c) as (λ b. Each (IsSoundMessage (parts_of s past).face) (if b then sent_by_message m.what (parts_of s past) else [])) [
+  | true ↦ brought_sound s past m.what run (said_sound s past m.what m.place m.index was legal.said) was.parts
   | false ↦ tt
 ]
-sends_sound s past other was legal = tt
+sends_sound s past (End t g) run was legal =
+    end_sound (parts_of s past).face (identity_on ((parts_of s past).core t)) (payload_of_end ((parts_of s past).face g) g) (core_identity s past run t) (end_given (parts_of s past).face g)
+sends_sound s past other run was legal = tt
 
 changed_parts : (s : Setting) (past : History) (e : Entry) → IsSoundRun s past → IsLegal s past e → AreSoundParts (parts_of s past).face (changed e (readied_on s past e (parts_of s past)))
-changed_parts s past (Call t home c a w) was legal = elim (is_done a.code) as (λ b. is_done a.code ≡ b → AreSoundParts (parts_of s past).face (if b then called t c a w (parts_of s past) else parts_of s past)) [
-  | true ↦ λ on. called_parts (parts_of s past) t c a w (sym legal.on_parts.code ∙ done_is a.code on) was.parts
+changed_parts s past (Call t home c a w) was legal = elim (is_done a.code) as (λ b. is_done a.code ≡ b → AreSoundParts (parts_of s past).face (if b then joined c home (called t c a w (parts_of s past)) else parts_of s past)) [
+  | true ↦ λ on. joined_parts (parts_of s past).face c home (called t c a w (parts_of s past)) (called_parts (parts_of s past) t c a w (sym legal.on_parts.code ∙ done_is a.code on) was.parts)
   | false ↦ λ _. was.parts
 ] refl
 changed_parts s past (Deliver m c) was legal = elim (is_done c) as (λ b. AreSoundParts (parts_of s past).face (if b then brought m.what (parts_of s past) else parts_of s past)) [
@@ -356,7 +407,7 @@ sound_run s (e ∷ past) run =
       mail =
           each_from (λ m. IsSoundMessage f m.2) (λ m. IsSoundMessage h m.2) more (pending s (e ∷ past))
           (each_joined (λ m. IsSoundMessage f m.2) (mail.without (delivered e) (pending s past)) (mail.named (length past) 0 (sends e (parts_of s past)))
-          (left_sound f (delivered e) (pending s past) was.mail) (named_sound f (length past) 0 (sends e (parts_of s past)) (sends_sound s past e was run.1)));
+          (kept_sound f (delivered e) (pending s past) was.mail) (named_sound f (length past) 0 (sends e (parts_of s past)) (sends_sound s past e run.0 was run.1)));
     }
 
 pub sent_law : SentLaw

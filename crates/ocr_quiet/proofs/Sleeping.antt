@@ -14,7 +14,7 @@ use Rattle.ocr_history.specs.declared.entry.Entry.TheVariants.{Call, Deliver, Ac
 use Rattle.ocr_parts.specs.declared.part.Part.{Part}
 use Rattle.ocr_history.specs.History.{History, Setting, is_stopped}
 use Rattle.ocr_history.specs.Made.{Made, MadeBlock, MadeEdt, made, is_edt_made, creator_in}
-use Rattle.ocr_parts.specs.Calls.{plan_of, asks_in, slots_now, open_slots, link_calls, block_calls, edt_calls, loans_of, mode_next, next_member, with_plan, event_calls}
+use Rattle.ocr_parts.specs.Calls.{plan_of, asks_in, slots_now, open_slots, link_calls, block_calls, edt_calls, loans_of, mode_next, next_member, with_plan, event_calls, scope_calls}
 use Rattle.ocr_history.specs.Edts.{is_started, is_ended}
 use Rattle.ocr_parts.specs.Parts.{Parts, face, core, parts_of, identity_of}
 use Rattle.ocr_parts.specs.Kinds.{on_core, progress_in, core_progress, next_in, IsBlock, is_acquiring, is_acquiring_edt, is_block}
@@ -46,6 +46,8 @@ use Rattle.ocr_edt.specs.declared.Edt.TheVariants as phase
 use Rattle.ocr_edt.specs.Edt as edt
 use Rattle.ocr_parts.specs.declared.part.Part.TheVariants as part
 use Rattle.ocr_parts.proofs.Phases.{next_is}
+use Rattle.ocr_finish.specs.Scope.{ScopeCall}
+use Rattle.ocr_edt.specs.declared.Identity.{Identity}
 
 -- AN EDT THAT WAS MADE READY, and has not started, acquires or waits
 pub record IsComing (y : Part) : Type 0 where
@@ -62,18 +64,18 @@ coming_edt members c (phase.Acquiring p) below = (p, refl, refl, inl (refl, refl
 coming_edt members c (phase.Waiting p) below = (p, refl, refl, inr (refl, refl))
 coming_edt members c other below = cc below
 
-pub coming : (m : Option Made) (t : ℕ) (calls : List edt.EdtCall) (loans : List (ℕ × Kept)) (members : List (ℕ × Mode)) → is_edt_made m ≡ true
-    → nat_lt 1 (mark (on_core (core m t calls loans) (with_phase (made_ready members)))).0 ≡ false → IsComing (on_core (core m t calls loans) (with_phase (made_ready members)))
-coming (Some (MadeEdt f ps n)) t calls loans members is below =
+pub coming : (m : Option Made) (i : Identity) (calls : List edt.EdtCall) (loans : List (ℕ × Kept)) (members : List (ℕ × Mode)) → is_edt_made m ≡ true
+    → nat_lt 1 (mark (on_core (core m i calls loans) (with_phase (made_ready members)))).0 ≡ false → IsComing (on_core (core m i calls loans) (with_phase (made_ready members)))
+coming (Some (MadeEdt f ps n)) i calls loans members is below =
     let found = coming_edt members part.Vacant (edt.edt_of _ calls) below in
     record { progress = found.0; is = found.1; rest = found.2; waits = found.3 }
-coming other t calls loans members is below = cc is
+coming other i calls loans members is below = cc is
 
 -- WHAT COMES NEXT
-pub core_next : (m : Option Made) (t : ℕ) (members : List (ℕ × Mode)) (calls : List edt.EdtCall) (loans : List (ℕ × Kept)) (x : ℕ × Mode)
-    → next_in (core_progress (on_core (core m t calls loans) (with_phase (made_ready members)))) ≡ Some x → first_of (edt.undone_of (with_plan members calls)) ≡ Some x
-core_next (Some (MadeEdt f ps n)) t members calls loans x is = next_is (identity_of t) members calls x is
-core_next other t members calls loans x is = cc is
+pub core_next : (m : Option Made) (i : Identity) (members : List (ℕ × Mode)) (calls : List edt.EdtCall) (loans : List (ℕ × Kept)) (x : ℕ × Mode)
+    → next_in (core_progress (on_core (core m i calls loans) (with_phase (made_ready members)))) ≡ Some x → first_of (edt.undone_of (with_plan members calls)) ≡ Some x
+core_next (Some (MadeEdt f ps n)) i members calls loans x is = next_is i members calls x is
+core_next other i members calls loans x is = cc is
 
 pub record IsFirst (f : ℕ → Part) (held : List (ℕ × Mode)) (d : ℕ) (m : Mode) : Type 0 where
   pub there : is_block (f d) ≡ true
@@ -96,11 +98,11 @@ first_above held (one ∷ more) d m is ordered b some =
 abbrev Fate : Part → ℕ → Mode → Type 0
 Fate x t m = IsBlock x (IsTaken t m) ⊎ (IsBlock x (IsRefused t m) ⊎ ((mode_in t (queue_on x) ≡ Some m) ⊎ IsBlock x (λ st. block.is_gone st ≡ true)))
 
-fate : (md : Option Made) (links : List slot.SlotCall) (blocks : List block.BlockCall) (events : List EventCall) (t : ℕ) (m : Mode) → is_block (face md links blocks events) ≡ true → is_null m ≡ false
+fate : (md : Option Made) (links : List slot.SlotCall) (blocks : List block.BlockCall) (events : List EventCall) (scopes : List ScopeCall) (t : ℕ) (m : Mode) → is_block (face md links blocks events scopes) ≡ true → is_null m ≡ false
     → ((k : Mode) → block.can_grant (block.is_destroyed blocks) (block.line_of (creator_in md) blocks) k ≡ true → block.borrower_of blocks ≡ None)
     → (is_some (mode_in t (block.holders_of (creator_in md) blocks)) ≡ true → block.borrower_of blocks ≡ None)
-    → ((k : Mode) → mode_in t (standing (face md links blocks events)) ≡ Some k → k ≡ m) → Fate (face md links blocks events) t m
-fate (Some (MadeBlock n c)) links blocks events t m is used free awaited own =
+    → ((k : Mode) → mode_in t (standing (face md links blocks events scopes)) ≡ Some k → k ≡ m) → Fate (face md links blocks events scopes) t m
+fate (Some (MadeBlock n c)) links blocks events scopes t m is used free awaited own =
     let holders = block.holders_of c blocks in
     let queue = block.queue_of c blocks in
     elim (mode_in t holders) as (λ o. mode_in t holders ≡ o → Fate (part.Block (block.state_of n c blocks)) t m) [
@@ -120,7 +122,7 @@ fate (Some (MadeBlock n c)) links blocks events t m is used free awaited own =
         ] refl
       ] refl
     ] refl
-fate other links blocks events t m is used free awaited own = cc is
+fate other links blocks events scopes t m is used free awaited own = cc is
 
 refused_nowhere : (x : Part) (t : ℕ) (m : Mode) → IsBlock x (IsRefused t m) → (is_gone_on x ≡ false) × (mode_in t (standing x) ≡ None)
 refused_nowhere (part.Block st) t m refused = (refused.not_gone, in_back t st.holders st.queue refused.newcomer.no_holder ∙ refused.newcomer.not_waiting)
@@ -170,10 +172,10 @@ next_wakes s past t d m p ready is rest waits first =
     let facts : IsFirst f.face (held_on y) d m = first_facts f.face (held_on y) (rest_on y) d m (ap first_of rest ∙ first) (all.ordered t) there in
     let next : next_on f t ≡ Some (d, m) = ap next_in is ∙ first in
     let mode : m ≡ mode_next (next_on f t) = ap mode_next (sym next) in
-    let member : next_member s past t ≡ Some (d, m) = core_next (made s past t) t (plan_of s past t) (edt_calls s past t) (loans_of s past t) (d, m) (ap (λ (x : Part). next_in (core_progress x)) (sym (ready_core s past t)) ∙ next) in
+    let member : next_member s past t ≡ Some (d, m) = core_next (made s past t) (identity_of past t) (plan_of s past t) (edt_calls s past t) (loans_of s past t) (d, m) (ap (λ (x : Part). next_in (core_progress x)) (sym (ready_core s past t)) ∙ next) in
     let own : (k : Mode) → mode_in t (standing (f.face d)) ≡ Some k → k ≡ m = λ k stands. (holding_next y p d m k facts.above first waits (all.holds t d k stands)).1 in
     let its : Fate (f.face d) t m =
-    fate (made s past d) (link_calls past d) (block_calls s past d) (event_calls s past d) t m facts.there facts.used (free_law s past ready.run d).grantable (awaited_law s past ready.run t d m member) own in
+    fate (made s past d) (link_calls past d) (block_calls s past d) (event_calls s past d) (scope_calls past d) t m facts.there facts.used (free_law s past ready.run d).grantable (awaited_law s past ready.run t d m member) own in
     elim its [
       | inl taken ↦ inl (
         Acquire t d,
@@ -233,7 +235,7 @@ wake_law s past t run going is_one off set =
     let told : IsTold s past t (mark y) = ready_told s past t t (plan_of s past t) set (told_law s past run t) in
     let below : nat_lt 1 (mark y).0 ≡ false = sym told.has_started ∙ off in
     let core_is : y ≡ on_core ((parts_of s past).core t) (with_phase (made_ready (plan_of s past t))) = ready_core s past t in
-    let comes : IsComing y = subst IsComing (sym core_is) (coming (made s past t) t (edt_calls s past t) (loans_of s past t) (plan_of s past t) is_made (ap (λ (x : Part). nat_lt 1 (mark x).0) (sym core_is) ∙ below)) in
+    let comes : IsComing y = subst IsComing (sym core_is) (coming (made s past t) (identity_of past t) (edt_calls s past t) (loans_of s past t) (plan_of s past t) is_made (ap (λ (x : Part). nat_lt 1 (mark x).0) (sym core_is) ∙ below)) in
     elim (next_of comes.progress) as (λ o. next_of comes.progress ≡ o → GoesOn s past t) [
       | None ↦ λ none. none_wakes s past t comes.progress ready comes.is told.wants comes.waits none
       | Some x ↦ λ first. next_wakes s past t x.0 x.1 comes.progress ready comes.is comes.rest comes.waits first
@@ -256,16 +258,16 @@ holding_stage_edt (phase.Filling i) d m has = elim has [ inl is ↦ cc is | inr 
 holding_stage_edt (phase.Ended i) d m has = elim has [ inl is ↦ cc is | inr is ↦ cc is ]
 holding_stage_edt other d m has = (refl, refl)
 
-holding_stage : (md : Option Made) (t : ℕ) (calls : List edt.EdtCall) (loans : List (ℕ × Kept)) (d : ℕ) (m : Mode) → IsHolding (core md t calls loans) d m
-    → (nat_lt 0 (mark (core md t calls loans)).0 ≡ true) × (nat_lt 2 (mark (core md t calls loans)).0 ≡ false) × (is_edt_made md ≡ true)
-holding_stage (Some (MadeEdt f ps n)) t calls loans d m has = let stage = holding_stage_edt (edt.edt_of _ calls) d m has in (stage.0, stage.1, refl)
-holding_stage other t calls loans d m has = elim has [ inl is ↦ cc is | inr is ↦ cc is ]
+holding_stage : (md : Option Made) (i : Identity) (calls : List edt.EdtCall) (loans : List (ℕ × Kept)) (d : ℕ) (m : Mode) → IsHolding (core md i calls loans) d m
+    → (nat_lt 0 (mark (core md i calls loans)).0 ≡ true) × (nat_lt 2 (mark (core md i calls loans)).0 ≡ false) × (is_edt_made md ≡ true)
+holding_stage (Some (MadeEdt f ps n)) i calls loans d m has = let stage = holding_stage_edt (edt.edt_of _ calls) d m has in (stage.0, stage.1, refl)
+holding_stage other i calls loans d m has = elim has [ inl is ↦ cc is | inr is ↦ cc is ]
 
 -- who holds a block or waits for it stands in the queue of the block that it acquires next
 stuck : (s : Setting) (past : History) → IsRun s past → IsQuiet s past → (t d : ℕ) (m : Mode) → IsHolding ((parts_of s past).core t) d m → (e : ℕ) × (k : Mode) × IsQueued s past t e k
 stuck s past run quiet t d m has =
     let told = told_law s past run t in
-    let stage = holding_stage (made s past t) t (edt_calls s past t) (loans_of s past t) d m has in
+    let stage = holding_stage (made s past t) (identity_of past t) (edt_calls s past t) (loans_of s past t) d m has in
     let going : is_ended past t ≡ false = told.has_ended ∙ stage.1 in
     let off : is_started past t ≡ false = off_from (is_started past t) (λ on. let ended : is_ended past t ≡ true = quiet.ended t on in cc (ended, going)) in
     elim (wake_law s past t run quiet.open_run (sym (edts_law s past run t) ∙ stage.2) off (told.all_set stage.0)) [
@@ -296,8 +298,8 @@ first_holder : (holders queue : List (ℕ × Mode)) → block.is_empty holders �
 first_holder [] queue is = cc is
 first_holder (one ∷ rest) queue is = let same : (one.0 == one.0) ≡ true = eq-eqb one.0 one.0 refl in (one.0, one.1, rw same refl)
 
-holder_of : (md : Option Made) (links : List slot.SlotCall) (blocks : List block.BlockCall) (events : List EventCall) (one : ℕ × Mode) (rest : List (ℕ × Mode)) → block_steps.StandOnce (standing (face md links blocks events)) → queue_on (face md links blocks events) ≡ one ∷ rest → HasHolder (face md links blocks events)
-holder_of (Some (MadeBlock n c)) links blocks events one rest once is =
+holder_of : (md : Option Made) (links : List slot.SlotCall) (blocks : List block.BlockCall) (events : List EventCall) (scopes : List ScopeCall) (one : ℕ × Mode) (rest : List (ℕ × Mode)) → block_steps.StandOnce (standing (face md links blocks events scopes)) → queue_on (face md links blocks events scopes) ≡ one ∷ rest → HasHolder (face md links blocks events scopes)
+holder_of (Some (MadeBlock n c)) links blocks events scopes one rest once is =
     let found = first_holder (block.holders_of c blocks) (block.queue_of c blocks) (waiting_law c blocks one rest is).0 in
     record {
       who = found.0;
@@ -305,7 +307,7 @@ holder_of (Some (MadeBlock n c)) links blocks events one rest once is =
       stands = in_front found.0 (block.holders_of c blocks) (block.queue_of c blocks) found.1 found.2;
       not_queued = once_back found.0 (block.holders_of c blocks) (block.queue_of c blocks) once (ap (λ (o : Option Mode). is_some o) found.2);
     }
-holder_of other links blocks events one rest once is = cc is
+holder_of other links blocks events scopes one rest once is = cc is
 
 -- from the greatest block down
 nobody_from : (s : Setting) (past : History) → IsRun s past → IsQuiet s past → (k d : ℕ) → s.limit + 3 ≤ d + k → queue_on ((parts_of s past).face d) ≡ []
@@ -315,7 +317,7 @@ nobody_from s past run quiet (suc k) d above =
     elim (queue_on (f.face d)) as (λ q. queue_on (f.face d) ≡ q → q ≡ []) [
       | [] ↦ λ _. refl
       | one ∷ rest ↦ λ is. absurd (
-          let holder = holder_of (made s past d) (link_calls past d) (block_calls s past d) (event_calls s past d) one rest (once s past run d) is in
+          let holder = holder_of (made s past d) (link_calls past d) (block_calls s past d) (event_calls s past d) (scope_calls past d) one rest (once s past run d) is in
           let u : ℕ = holder.who in
           let all = standing_law s past run in
           let has : IsHolding (f.core u) d holder.mode = all.holds u d holder.mode holder.stands in

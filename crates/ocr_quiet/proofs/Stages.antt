@@ -17,11 +17,13 @@ use Rattle.ocr_parts.specs.declared.part.Part.{Part}
 use Rattle.ocr_history.specs.History.{History, Setting}
 use Rattle.ocr_history.specs.Made.{Made, MadeBlock, MadeEdt, made, is_new, opened, size_in, creator_in, depc_in}
 use Rattle.ocr_meaning.specs.Holds.{is_done}
-use Rattle.ocr_parts.specs.Calls.{plan_of, asks_in, slots_now, stores_from, argument_words, set_step, set_calls, open_slots, depc_of, link_calls, block_calls, mode_next, event_calls}
+use Rattle.ocr_parts.specs.Calls.{plan_of, asks_in, slots_now, stores_from, argument_words, set_step, set_calls, open_slots, depc_of, link_calls, block_calls, mode_next, event_calls, scope_calls}
 use Rattle.ocr_history.specs.Edts.{is_started, is_ended}
-use Rattle.ocr_parts.specs.Parts.{Parts, face, core, parts_of}
-use Rattle.ocr_parts.specs.Effects.{with_phase, made_ready, awoken, acquired_edt, waiting_edt, started_edt, holding_edt, dropped_edt, ended_edt, next_on, creating_core, holding_core, dropping_core, acquiring_core, new_core, called, changed, ready_at, readied_on, stale_edt}
-use Rattle.ocr_parts.specs.Kinds.{size_on, words_on, on_core, progress_in, core_progress, next_in, is_running, is_acquiring, is_acquiring_edt, work_in}
+use Rattle.ocr_parts.specs.Parts.{Parts, plain_identity, new_identity, identity_of, face, core, parts_of}
+use Rattle.ocr_parts.proofs.Fresh.{made_old}
+use Rattle.ocr_edt.specs.declared.Identity.{Identity}
+use Rattle.ocr_parts.specs.Effects.{with_phase, made_ready, awoken, acquired_edt, waiting_edt, started_edt, holding_edt, dropped_edt, ended_edt, next_on, creating_core, holding_core, dropping_core, acquiring_core, new_core, called, joined, changed, ready_at, readied_on, stale_edt}
+use Rattle.ocr_parts.specs.Kinds.{home_on, size_on, words_on, on_core, progress_in, core_progress, next_in, is_running, is_acquiring, is_acquiring_edt, work_in}
 use Rattle.ocr_parts.specs.LegalOn.{IsCallOn}
 use Rattle.ocr_parts.specs.Legal.{IsRun, IsLegal}
 use Rattle.ocr_quiet.specs.Waits.{stands, standing, queue_on, held_on, rest_on, awaits, IsOrdered, AreStanding, IsOnce, is_gone_on}
@@ -40,14 +42,15 @@ use Rattle.ocr_meaning.specs.declared.call.Call.TheVariants as call
 use Rattle.ocr_history.specs.declared.entry.What.TheVariants as what
 use Rattle.ocr_parts.specs.declared.part.Part.TheVariants as part
 use Rattle.ocr_history.specs.declared.objects.TheConstants.{ARGUMENTS, MAIN_EDT}
+use Rattle.ocr_finish.specs.Scope.{ScopeCall}
 
 -- NOBODY STANDS TWICE
-once_on : (m : Option Made) (links : List slot.SlotCall) (blocks : List block.BlockCall) (events : List EventCall) → block_steps.AreAllowed (size_in m) (creator_in m) blocks → block_steps.StandOnce (standing (face m links blocks events))
-once_on (Some (MadeBlock n c)) links blocks events are = once_law n c blocks are
-once_on other links blocks events are = tt
+once_on : (m : Option Made) (links : List slot.SlotCall) (blocks : List block.BlockCall) (events : List EventCall) (scopes : List ScopeCall) → block_steps.AreAllowed (size_in m) (creator_in m) blocks → block_steps.StandOnce (standing (face m links blocks events scopes))
+once_on (Some (MadeBlock n c)) links blocks events scopes are = once_law n c blocks are
+once_on other links blocks events scopes are = tt
 
 pub once : (s : Setting) (past : History) → IsRun s past → IsOnce (parts_of s past)
-once s past run d = once_on (made s past d) (link_calls past d) (block_calls s past d) (event_calls s past d) (allowed_law s past run d)
+once s past run d = once_on (made s past d) (link_calls past d) (block_calls s past d) (event_calls s past d) (scope_calls past d) (allowed_law s past run d)
 
 -- AT A BLOCK THAT IS GONE nobody stands
 nobody_empty : (b : Bool) (xs : List (ℕ × Mode)) → (b && block.is_empty xs) ≡ true → xs ≡ []
@@ -55,36 +58,36 @@ nobody_empty b [] is = refl
 nobody_empty true (one ∷ rest) is = cc is
 nobody_empty false (one ∷ rest) is = cc is
 
-pub gone_face : (md : Option Made) (links : List slot.SlotCall) (blocks : List block.BlockCall) (events : List EventCall) → is_gone_on (face md links blocks events) ≡ true → standing (face md links blocks events) ≡ []
-gone_face (Some (MadeBlock n c)) links blocks events is =
+pub gone_face : (md : Option Made) (links : List slot.SlotCall) (blocks : List block.BlockCall) (events : List EventCall) (scopes : List ScopeCall) → is_gone_on (face md links blocks events scopes) ≡ true → standing (face md links blocks events scopes) ≡ []
+gone_face (Some (MadeBlock n c)) links blocks events scopes is =
     let holders : block.holders_of c blocks ≡ [] = nobody_empty (block.is_destroyed blocks) (block.holders_of c blocks) is in
     let queue : block.queue_of c blocks ≡ [] = (gone_law c blocks is).0 in
     ap (λ (h : List (ℕ × Mode)). h ++ block.queue_of c blocks) holders ∙ queue
-gone_face other links blocks events is = cc is
+gone_face other links blocks events scopes is = cc is
 
 pub readied_gone : (s : Setting) (past : History) (e : Entry) → IsEmptyGone (readied_on s past e (parts_of s past))
-readied_gone s past (Acquire t b) d = gone_face (made s past d) (link_calls past d) (block_calls s past d) (event_calls s past d)
-readied_gone s past (Wait t b) d = gone_face (made s past d) (link_calls past d) (block_calls s past d) (event_calls s past d)
-readied_gone s past (StaleAcquire t b) d = gone_face (made s past d) (link_calls past d) (block_calls s past d) (event_calls s past d)
-readied_gone s past (Start t) d = gone_face (made s past d) (link_calls past d) (block_calls s past d) (event_calls s past d)
-readied_gone s past other d = gone_face (made s past d) (link_calls past d) (block_calls s past d) (event_calls s past d)
+readied_gone s past (Acquire t b) d = gone_face (made s past d) (link_calls past d) (block_calls s past d) (event_calls s past d) (scope_calls past d)
+readied_gone s past (Wait t b) d = gone_face (made s past d) (link_calls past d) (block_calls s past d) (event_calls s past d) (scope_calls past d)
+readied_gone s past (StaleAcquire t b) d = gone_face (made s past d) (link_calls past d) (block_calls s past d) (event_calls s past d) (scope_calls past d)
+readied_gone s past (Start t) d = gone_face (made s past d) (link_calls past d) (block_calls s past d) (event_calls s past d) (scope_calls past d)
+readied_gone s past other d = gone_face (made s past d) (link_calls past d) (block_calls s past d) (event_calls s past d) (scope_calls past d)
 
 -- AT THE OPENING nobody holds and nobody waits
 stored_line : (xs : List ℕ) (k : ℕ) (ys : List block.BlockCall) → block.line_of 0 (stores_from k xs ++ ys) ≡ block.line_of 0 ys
 stored_line [] k ys = refl
 stored_line (v ∷ rest) k ys = ap (block.line_of 0) (append_assoc (stores_from (k + 1) rest) (block.Store k v ∷ []) ys) ∙ stored_line rest (k + 1) (block.Store k v ∷ ys)
 
-opened_standing : (s : Setting) (n : ℕ) (b : Bool) (other : Option Made) (links : List slot.SlotCall) → (standing (face other links [] []) ≡ []) → standing (face (if b then Some (MadeBlock n 0) else other) links (if b then stores_from 0 (argument_words s) else []) []) ≡ []
+opened_standing : (s : Setting) (n : ℕ) (b : Bool) (other : Option Made) (links : List slot.SlotCall) → (standing (face other links [] [] []) ≡ []) → standing (face (if b then Some (MadeBlock n 0) else other) links (if b then stores_from 0 (argument_words s) else []) [] []) ≡ []
 opened_standing s n true other links none = ap stands (ap (block.line_of 0) (sym (append-nil (stores_from 0 (argument_words s)))) ∙ stored_line (argument_words s) 0 [])
 opened_standing s n false other links none = none
 
-first_standing : (b : Bool) (f n : ℕ) (links : List slot.SlotCall) → standing (face (if b then Some (MadeEdt f [] n) else None) links [] []) ≡ []
+first_standing : (b : Bool) (f n : ℕ) (links : List slot.SlotCall) → standing (face (if b then Some (MadeEdt f [] n) else None) links [] [] []) ≡ []
 first_standing true f n links = refl
 first_standing false f n links = refl
 
-new_awaits : (m : Option Made) (t : ℕ) → (awaits (core m t [] []) ≡ None) × (held_on (core m t [] []) ≡ []) × (rest_on (core m t [] []) ≡ [])
-new_awaits (Some (MadeEdt f ps n)) t = (refl, refl, refl)
-new_awaits other t = (refl, refl, refl)
+new_awaits : (m : Option Made) (i : Identity) → (awaits (core m i [] []) ≡ None) × (held_on (core m i [] []) ≡ []) × (rest_on (core m i [] []) ≡ [])
+new_awaits (Some (MadeEdt f ps n)) i = (refl, refl, refl)
+new_awaits other i = (refl, refl, refl)
 
 pub queue_in : (x : Part) (t : ℕ) (m : Mode) → standing x ≡ [] → mode_in t (queue_on x) ≡ Some m → ⊥
 queue_in (part.Block st) t m none is =
@@ -94,13 +97,13 @@ queue_in other t m none is = cc is
 
 open_standing : (s : Setting) → AreStanding (parts_of s [])
 open_standing s = record {
-  waits = λ t d m is live. let none = (new_awaits (opened s t) t).0 in cc (none, is);
+  waits = λ t d m is live. let none = (new_awaits (opened s t) (plain_identity t)).0 in cc (none, is);
   holds = λ t d m is.
       let none : standing ((parts_of s []).face d) ≡ [] = opened_standing s (length s.args + 1) (d == ARGUMENTS) _ (link_calls [] d) (first_standing (d == MAIN_EDT) _ 1 (link_calls [] d)) in
       absurd (let nobody : mode_in t (standing ((parts_of s []).face d)) ≡ None = ap (mode_in t) none in cc (nobody, is));
   queued = λ t d m is. absurd (queue_in ((parts_of s []).face d) t m (opened_standing s (length s.args + 1) (d == ARGUMENTS) _ (link_calls [] d) (first_standing (d == MAIN_EDT) _ 1 (link_calls [] d))) is);
   ordered = λ t.
-      let new = new_awaits (opened s t) t in
+      let new = new_awaits (opened s t) (plain_identity t) in
       subst (λ (r : List (ℕ × Mode)). IsOrdered (held_on ((parts_of s []).core t)) r) (sym new.2) (nothing_wanted (held_on ((parts_of s []).core t)));
 }
 
@@ -148,15 +151,15 @@ creating_mark : (fl d n : ℕ) (c : Part) → mark (on_core c (creating_core fl 
 creating_mark fl d n (part.Core c) = elim (fl == 0) as (λ b. mark (part.Core (if b then holding_core d n c else c)) ≡ mark (part.Core c)) [ true ↦ holding_mark d c.edt | false ↦ refl ]
 creating_mark fl d n other = refl
 
-new_mark : (x : Part) (g : ℕ) (params : List ℕ) → mark (new_core x g params) ≡ (0, false)
-new_mark (part.Template t) g params = refl
-new_mark other g params = refl
+new_mark : (x : Part) (i : Identity) (params : List ℕ) → mark (new_core x i params) ≡ (0, false)
+new_mark (part.Template t) i params = refl
+new_mark other i params = refl
 
 called_mark : (limit : ℕ) (f : Parts) (t home : ℕ) (c : body.Call) (a : Answer) (w : List (ℕ × ℕ)) → is_done a.code ≡ true → IsCallOn limit f t home c a w → (u : ℕ) → mark ((called t c a w f).core u) ≡ mark (f.core u)
 called_mark limit f t home (call.DbCreate n fl) a w on legal u = mark_if f.core t u _ (creating_mark fl a.value (n / 8) (f.core t))
 called_mark limit f t home (call.DbRelease d) a w on legal u = mark_if f.core t u _ (dropping_mark d (f.core t))
 called_mark limit f t home (call.DbDestroy d) a w on legal u = mark_if f.core t u _ (dropping_mark d (f.core t))
-called_mark limit f t home (call.EdtCreate from pc params dc deps flags output) a w on legal u = ap mark (deps_core a.value 0 deps _ u) ∙ mark_if f.core a.value u _ (new_mark (f.face from) a.value params ∙ ap mark (sym (legal.value.no_core on)))
+called_mark limit f t home (call.EdtCreate from pc params dc deps flags output) a w on legal u = ap mark (deps_core a.value 0 deps _ u) ∙ mark_if f.core a.value u _ (new_mark (f.face from) (new_identity a.value flags a (home_on (f.core t))) params ∙ ap mark (sym (legal.value.no_core on)))
 called_mark limit f t home (call.AddDependence from x i m) a w on legal u = ap mark (linked_core (not (from == 0)) from _ _ u)
 called_mark limit f t home other a w on legal u = refl
 
@@ -225,26 +228,18 @@ step_set (what.Set x i p) t n calls is = elim (x == t) as (λ b. slot.open_slots
 step_set other t n calls is = is
 
 -- WHAT IS TOLD stays told
-pub made_kept : (s : Setting) (past : History) (t home : ℕ) (c : body.Call) (a : Answer) (w : List (ℕ × ℕ)) (u : ℕ) → is_new c a u ≡ false → made s (Call t home c a w ∷ past) u ≡ made s past u
-made_kept s past t home (call.DbCreate n fl) a w u off = rw off refl
-made_kept s past t home (call.TemplateCreate f pc dc) a w u off = rw off refl
-made_kept s past t home (call.EventCreate k fl) a w u off = rw off refl
-made_kept s past t home (call.EventCreateParams k fl most sats ds) a w u off = rw off refl
-made_kept s past t home (call.EdtCreate from pc ps dc ds fl o) a w u off = rw off refl
-made_kept s past t home other a w u off = refl
-
-fresh_mark : (m : Option Made) (u : ℕ) → mark (core m u [] []) ≡ (0, false)
-fresh_mark (Some (MadeEdt f ps n)) u = refl
-fresh_mark other u = refl
+fresh_mark : (m : Option Made) (i : Identity) → mark (core m i [] []) ≡ (0, false)
+fresh_mark (Some (MadeEdt f ps n)) i = refl
+fresh_mark other i = refl
 
 new_told : (s : Setting) (past : History) (t home : ℕ) (c : body.Call) (a : Answer) (w : List (ℕ × ℕ)) (u : ℕ) (b : Bool) → is_new c a u ≡ b
     → IsTold s past u (mark ((parts_of s past).core u)) → mark ((parts_of s (Call t home c a w ∷ past)).core u) ≡ mark ((parts_of s past).core u) → IsTold s (Call t home c a w ∷ past) u (mark ((parts_of s (Call t home c a w ∷ past)).core u))
 new_told s past t home c a w u true is told same =
-    let new : mark ((parts_of s (Call t home c a w ∷ past)).core u) ≡ (0, false) = rw is (fresh_mark (made s (Call t home c a w ∷ past) u) u) in
+    let new : mark ((parts_of s (Call t home c a w ∷ past)).core u) ≡ (0, false) = rw is (fresh_mark (made s (Call t home c a w ∷ past) u) (identity_of (Call t home c a w ∷ past) u)) in
     let was : IsTold s past u (0, false) = subst (IsTold s past u) (sym same ∙ new) told in
     subst (IsTold s (Call t home c a w ∷ past) u) (sym new) (record { has_started = was.has_started; has_ended = was.has_ended; all_set = λ on. cc on; wants = refl })
 new_told s past t home c a w u false is told same =
-    let here : made s (Call t home c a w ∷ past) u ≡ made s past u = made_kept s past t home c a w u is in
+    let here : made s (Call t home c a w ∷ past) u ≡ made s past u = made_old s past t home c a w u is in
     let sets : set_calls (Call t home c a w ∷ past) u ≡ set_calls past u = rw is refl in
     let slots : open_slots s (Call t home c a w ∷ past) u ≡ open_slots s past u =
     ap (λ (m : Option Made). slot.open_slots (depc_in m) (set_calls (Call t home c a w ∷ past) u)) here ∙ ap (slot.open_slots (depc_of s past u)) sets in
@@ -295,14 +290,14 @@ end_told s past t g u f running told =
 after_mark : (s : Setting) (past : History) (e : Entry) → IsRun s past → IsLegal s past e → (u : ℕ) → mark ((changed e (readied_on s past e (parts_of s past))).core u) ≡ mark ((parts_of s (e ∷ past)).core u)
 after_mark s past e run legal u = ap (λ (f : Parts). mark (f.core u)) (sym (after_law s past e run legal))
 
-if_mark : (limit : ℕ) (f : Parts) (t home : ℕ) (c : body.Call) (a : Answer) (w : List (ℕ × ℕ)) → IsCallOn limit f t home c a w → (u : ℕ) → mark ((if is_done a.code then called t c a w f else f).core u) ≡ mark (f.core u)
-if_mark limit f t home c a w legal u = elim (is_done a.code) as (λ b. is_done a.code ≡ b → mark ((if b then called t c a w f else f).core u) ≡ mark (f.core u)) [
+if_mark : (limit : ℕ) (f : Parts) (t home : ℕ) (c : body.Call) (a : Answer) (w : List (ℕ × ℕ)) → IsCallOn limit f t home c a w → (u : ℕ) → mark ((if is_done a.code then joined c home (called t c a w f) else f).core u) ≡ mark (f.core u)
+if_mark limit f t home c a w legal u = elim (is_done a.code) as (λ b. is_done a.code ≡ b → mark ((if b then joined c home (called t c a w f) else f).core u) ≡ mark (f.core u)) [
   | true ↦ λ on. called_mark limit f t home c a w on legal u
   | false ↦ λ _. refl
 ] refl
 
 open_told : (s : Setting) (u : ℕ) → IsTold s [] u (mark ((parts_of s []).core u))
-open_told s u = subst (IsTold s [] u) (sym (fresh_mark (opened s u) u)) (record { has_started = refl; has_ended = refl; all_set = λ on. cc on; wants = refl })
+open_told s u = subst (IsTold s [] u) (sym (fresh_mark (opened s u) (plain_identity u))) (record { has_started = refl; has_ended = refl; all_set = λ on. cc on; wants = refl })
 
 pub told_law : (s : Setting) (past : History) → IsRun s past → (u : ℕ) → IsTold s past u (mark ((parts_of s past).core u))
 told_law s [] run u = open_told s u

@@ -28,6 +28,7 @@ use Rattle.ocr_datablock.specs.Block as block
 use Rattle.ocr_datablock.specs.Steps as block_steps
 use Rattle.ocr_edt.specs.declared.Edt.TheVariants as phase
 use Rattle.ocr_parts.specs.declared.part.Part.TheVariants as part
+use Rattle.ocr_edt.specs.declared.Identity.{Identity}
 
 flip : (d e : ℕ) → (d == e) ≡ false → (e == d) ≡ false
 flip d e apart = ne_eqb e d (λ z. absurd (let is : (d == e) ≡ true = eq-eqb d e (sym z) in cc (is, apart)))
@@ -325,16 +326,16 @@ new_keeps : (g : ℕ) (x : Part) (dc : ℕ) (deps : List ℕ) → Keeps g part.V
 new_keeps g (part.Template t) dc deps = record { gone = λ live. refl; stays = λ u m apart live is. cc is; comes = λ u m apart is. cc is; queued = λ u m apart is. cc is }
 new_keeps g other dc deps = record { gone = λ live. refl; stays = λ u m apart live is. cc is; comes = λ u m apart is. cc is; queued = λ u m apart is. cc is }
 
-new_own : (g : ℕ) (x : Part) (dc : ℕ) (deps params : List ℕ) → IsOwn g (new_face x dc deps) g part.Vacant (new_core x g params)
-new_own g (part.Template t) dc deps params = record { wait = λ e m is. cc is; here = λ m is. cc is; there = λ e m apart has. elim has [ inl is ↦ cc is | inr is ↦ cc is ]; queued = λ m is. cc is; away = λ e m apart is. cc is; ordered = nothing_wanted [] }
-new_own g other dc deps params = record { wait = λ e m is. cc is; here = λ m is. cc is; there = λ e m apart has. elim has [ inl is ↦ cc is | inr is ↦ cc is ]; queued = λ m is. cc is; away = λ e m apart is. cc is; ordered = nothing_wanted [] }
+new_own : (g : ℕ) (x : Part) (dc : ℕ) (deps : List ℕ) (i : Identity) (params : List ℕ) → IsOwn g (new_face x dc deps) g part.Vacant (new_core x i params)
+new_own g (part.Template t) dc deps i params = record { wait = λ e m is. cc is; here = λ m is. cc is; there = λ e m apart has. elim has [ inl is ↦ cc is | inr is ↦ cc is ]; queued = λ m is. cc is; away = λ e m apart is. cc is; ordered = nothing_wanted [] }
+new_own g other dc deps i params = record { wait = λ e m is. cc is; here = λ m is. cc is; there = λ e m apart has. elim has [ inl is ↦ cc is | inr is ↦ cc is ]; queued = λ m is. cc is; away = λ e m apart is. cc is; ordered = nothing_wanted [] }
 
-pub edt_standing : (f : Parts) (g : ℕ) (x : Part) (dc : ℕ) (deps params : List ℕ) → AreStanding f → f.face g ≡ part.Vacant → f.core g ≡ part.Vacant
-    → AreStanding (with_core (with_face f g (new_face x dc deps)) g (new_core x g params))
-edt_standing f g x dc deps params all face core =
-    moved f g (new_face x dc deps) g (new_core x g params) all
+pub edt_standing : (f : Parts) (g : ℕ) (x : Part) (dc : ℕ) (deps : List ℕ) (i : Identity) (params : List ℕ) → AreStanding f → f.face g ≡ part.Vacant → f.core g ≡ part.Vacant
+    → AreStanding (with_core (with_face f g (new_face x dc deps)) g (new_core x i params))
+edt_standing f g x dc deps i params all face core =
+    moved f g (new_face x dc deps) g (new_core x i params) all
     (subst (λ (y : Part). Keeps g y (new_face x dc deps)) (sym face) (new_keeps g x dc deps))
-    (subst (λ (y : Part). IsOwn g (new_face x dc deps) g y (new_core x g params)) (sym core) (new_own g x dc deps params))
+    (subst (λ (y : Part). IsOwn g (new_face x dc deps) g y (new_core x i params)) (sym core) (new_own g x dc deps i params))
 
 -- FACES that keep who stands there
 pub stored_same : (x : Part) (k v : ℕ) → (is_gone_on (with_block x (λ st. block_steps.after_store st k v)) ≡ is_gone_on x) × (standing (with_block x (λ st. block_steps.after_store st k v)) ≡ standing x) × (queue_on (with_block x (λ st. block_steps.after_store st k v)) ≡ queue_on x)

@@ -5,7 +5,7 @@ use Rattle.ocr_history.specs.declared.entry.What.{What}
 use Rattle.ocr_history.specs.declared.entry.What.TheVariants as what
 use Rattle.ocr_history.specs.History.{History, Setting}
 use Rattle.ocr_parts.specs.declared.part.Part.{Part}
-use Rattle.ocr_parts.specs.Kinds.{is_block}
+use Rattle.ocr_parts.specs.Kinds.{is_block, is_scope}
 use Rattle.ocr_parts.specs.Parts.{parts_of}
 use Rattle.ocr_parts.specs.Messages.{pending}
 use Rattle.ocr_parts.specs.LegalOn.{IsSatisfiable}
@@ -15,12 +15,12 @@ use Rattle.ocr_parts.specs.Legal.{IsRun}
 abbrev pub IsGiven : (ℕ → Part) → ℕ → Type 0
 IsGiven face p = (p ≡ 0) ⊎ (is_block (face p) ≡ true)
 
--- a message carries such a payload, and satisfies a slot of an event that was made
+-- a message carries such a payload, and satisfies a slot of an event that was made; or a member
+-- leaves a finish scope that was made
 abbrev pub IsSoundMessage : (ℕ → Part) → What → Type 0
 IsSoundMessage face (what.Set x i p) = IsGiven face p
 IsSoundMessage face (what.Satisfy e slot p) = IsGiven face p × IsSatisfiable slot (face e)
--- no other message is sent
-IsSoundMessage face other = ⊥
+IsSoundMessage face (what.Leave x) = is_scope (face x) ≡ true
 
 abbrev pub SentLaw : Type 0
 SentLaw = (s : Setting) (past : History) → IsRun s past → (m : ℕ × ℕ × What)

@@ -25,7 +25,7 @@ pub fn quiet_laws()
 {}
 
 /// Each message that is to be delivered is sound: it carries NULL_GUID or a block that was made,
-/// and satisfies a slot that its event has.
+/// and satisfies a slot that its event has; or it leaves a finish scope that was made.
 pub fn sent_laws()
     ensures { SentLaw }
 {}

@@ -31,16 +31,18 @@ use Rattle.ocr_parts.specs.declared.part.Part.{Part}
 use Rattle.ocr_parts.specs.declared.part.Part.TheVariants as part
 use Rattle.ocr_parts.specs.Loans.{kept_in, without_kept, kept_of, kept_created}
 use Rattle.ocr_parts.specs.Calls.{is_number, is_object, slot_target}
-use Rattle.ocr_parts.specs.Parts.{Parts}
-use Rattle.ocr_parts.specs.Kinds.{IsBlock, with_block, with_event, size_on, words_on, on_core, progress_in, core_progress, next_in, work_in, work_of, is_running, holds_of, kept_on, loan_on}
-use Rattle.ocr_parts.specs.Effects.{with_face, with_core, with_phase, made_ready, awoken, acquired_edt, waiting_edt, started_edt, holding_edt, dropped_edt, ended_edt, holding_core, creating_core, dropping_core, acquiring_core, next_on, next_mode_on, asked_if, granted, returned, hold_ended, new_face, new_core, ended, linked_if, deps_linked, called, brought, acquired, waited, changed, ready_at, stale_edt}
+use Rattle.ocr_parts.specs.Parts.{Parts, new_identity}
+use Rattle.ocr_finish.specs.Scope as scope
+use Rattle.ocr_parts.proofs.Beside.{joined_keeps, beside_keeps, edt_free}
+use Rattle.ocr_parts.specs.Kinds.{IsBlock, home_on, with_scope, with_block, with_event, size_on, words_on, on_core, progress_in, core_progress, next_in, work_in, work_of, is_running, holds_of, kept_on, loan_on}
+use Rattle.ocr_parts.specs.Effects.{with_beside, new_scope, new_output, joined, with_face, with_core, with_phase, made_ready, awoken, acquired_edt, waiting_edt, started_edt, holding_edt, dropped_edt, ended_edt, holding_core, creating_core, dropping_core, acquiring_core, next_on, next_mode_on, asked_if, granted, returned, hold_ended, new_face, new_core, ended, linked_if, deps_linked, called, brought, acquired, waited, changed, ready_at, stale_edt}
 use Rattle.ocr_parts.specs.LegalOn.{IsLoanBack, IsEnding, IsGranted, IsTaken, IsCallOn, IsLegalOn, IsDooming}
 use Rattle.ocr_parts.proofs.Lent.{loan_kept}
 use Rattle.ocr_quiet.proofs.Standing.{in_front, push_own}
 use Rattle.ocr_quiet.proofs.Waiting.{advances}
 use Rattle.ocr_quiet.specs.Waits.{held_in, rest_in, held_on, rest_on, IsOrdered, AreStanding}
 use Rattle.ocr_standing.specs.Held.{IsLoanKept, IsKeptWith, IsHeldSo, loans_on, AreKeptOnce, AreHeld}
-use Rattle.ocr_standing.proofs.Holding.{if_block, if_any, HoldsElse, IsKeeping, moved_held, faced_held, cored_held, step_stays, linked_stays, vacant_stays, vacant_none, none_kept, doomed_stays, evented_stays}
+use Rattle.ocr_standing.proofs.Holding.{if_block, if_any, HoldsElse, IsKeeping, moved_held, faced_held, cored_held, step_stays, linked_stays, vacant_stays, vacant_none, none_kept, doomed_stays, evented_stays, scoped_stays}
 use Rattle.ocr_edt.specs.declared.Identity.{Identity}
 use Rattle.ocr_edt.specs.Steps.{with_next}
 
@@ -398,16 +400,16 @@ block_made_held f t n fl g all running some vacant =
     subst (λ (y : Part). AreHeld (with_core (with_face f g (part.Block (block.state_of n (creator_of t fl) []))) t y)) (sym (creating_if fl g n (fl == 0) refl (f.core t)))
     (made_held f t n fl g (fl == 0) refl all running some vacant)
 
-new_core_held : (x : Part) (g : ℕ) (params : List ℕ) → ((e : ℕ) → (mode_in e (held_on (new_core x g params)) ≡ None) × (kept_on (new_core x g params) e ≡ None)) × AreKeptOnce (loans_on (new_core x g params))
-new_core_held (part.Template t) g params = (λ e. (refl, refl), tt)
-new_core_held other g params = (λ e. (refl, refl), tt)
+new_core_held : (x : Part) (i : Identity) (params : List ℕ) → ((e : ℕ) → (mode_in e (held_on (new_core x i params)) ≡ None) × (kept_on (new_core x i params) e ≡ None)) × AreKeptOnce (loans_on (new_core x i params))
+new_core_held (part.Template t) i params = (λ e. (refl, refl), tt)
+new_core_held other i params = (λ e. (refl, refl), tt)
 
 vacant_core : (y : Part) (e : ℕ) → y ≡ part.Vacant → (mode_in e (held_on y) ≡ None) × (kept_on y e ≡ None)
 vacant_core y e is = (ap (λ (z : Part). mode_in e (held_on z)) is, ap (λ (z : Part). kept_on z e) is)
 
-edt_made_held : (f : Parts) (g : ℕ) (x : Part) (dc : ℕ) (deps params : List ℕ) → AreHeld f → f.face g ≡ part.Vacant → f.core g ≡ part.Vacant → AreHeld (with_core (with_face f g (new_face x dc deps)) g (new_core x g params))
-edt_made_held f g x dc deps params all face core =
-    let new = new_core_held x g params in
+edt_made_held : (f : Parts) (g : ℕ) (x : Part) (dc : ℕ) (i : Identity) (deps params : List ℕ) → AreHeld f → f.face g ≡ part.Vacant → f.core g ≡ part.Vacant → AreHeld (with_core (with_face f g (new_face x dc deps)) g (new_core x i params))
+edt_made_held f g x dc i deps params all face core =
+    let new = new_core_held x i params in
     moved_held f g _ g _ all (λ u m k apart so. vacant_stays u (f.face g) _ m k face so)
     (nothing_so g _ _ _ (new.0 g).0 (new.0 g).1)
     (λ e apart. let old = vacant_core (f.core g) e core in ((new.0 e).0 ∙ sym old.0, (new.0 e).1 ∙ sym old.1)) new.1
@@ -427,8 +429,17 @@ deps_held : (t k : ℕ) (deps : List ℕ) (f : Parts) → AreHeld f → AreHeld 
 deps_held t k [] f all = all
 deps_held t k (d ∷ rest) f all = deps_held t (k + 1) rest _ (linked_held (is_object d) d (slot_target t k) f all)
 
+-- A SCOPE is joined, or left
+scoped_held : (f : Parts) (x : ℕ) (step : scope.State → scope.State) → AreHeld f → AreHeld (with_face f x (with_scope (f.face x) step))
+scoped_held f x step all = faced_held f x _ all (λ u n l is. scoped_stays u (f.face x) step n l is)
+
+-- what stands beside a new EDT
+vacated_held : (f : Parts) (g : ℕ) (x : Part) → AreHeld f → f.face g ≡ part.Vacant → AreHeld (with_face f g x)
+vacated_held f g x all vacant = faced_held f g x all (λ u m l is. vacant_stays u (f.face g) x m l vacant is)
+
 brought_held : (w : What) (f : Parts) → AreHeld f → AreHeld (brought w f)
 brought_held (what.Satisfy e slot p) f all = evented_held f e (λ st. event.after_satisfy st slot p) all
+brought_held (what.Leave x) f all = scoped_held f x scope.after_leave all
 brought_held other f all = all
 
 -- EACH ENTRY
@@ -450,12 +461,16 @@ called_held limit f t home (call.EventCreateParams k fl most sats nd) a w all ne
     faced_held f a.value x all (λ u m l is. vacant_stays u (f.face a.value) x m l (legal.value.fresh on).vacant is)
 called_held limit f t home (call.EventDestroy x) a w all never on legal = evented_held f x event.after_destroy all
 called_held limit f t home (call.Satisfy e p slot) a w all never on legal = evented_held f e (λ st. event.after_satisfy st slot p) all
-called_held limit f t home (call.EdtCreate from pc params dc deps flags output) a w all never on legal = deps_held a.value 0 deps _ (edt_made_held f a.value (f.face from) dc deps params all (legal.value.named.fresh on).vacant (legal.value.no_core on))
+called_held limit f t home (call.EdtCreate from pc params dc deps flags output) a w all never on legal =
+    let home_is : ℕ = home_on (f.core t) in
+    let beside : AreHeld (with_beside f home_is a) = beside_keeps limit f t home from pc dc flags params deps output a w legal AreHeld home_is all (λ k held vacant. vacated_held k a.output new_output held vacant) (λ k held vacant. vacated_held k a.scope (new_scope home_is a) held vacant) in
+    deps_held a.value 0 deps _
+    (edt_made_held (with_beside f home_is a) a.value (f.face from) dc (new_identity a.value flags a home_is) deps params beside (edt_free limit f t home from pc dc flags params deps output a w legal home_is on) (legal.value.no_core on))
 called_held limit f t home other a w all never on legal = all
 
 pub entry_held : (limit : ℕ) (e : Entry) (f : Parts) → AreHeld f → AreStanding f → ((d : ℕ) → IsWhole (f.face d)) → is_running (f.core 0) ≡ false → IsLegalOn limit f e → AreHeld (changed e f)
-entry_held limit (Call t home c a w) f all standing whole never legal = elim (is_done a.code) as (λ b. is_done a.code ≡ b → AreHeld (if b then called t c a w f else f)) [
-  | true ↦ λ on. called_held limit f t home c a w all never on legal
+entry_held limit (Call t home c a w) f all standing whole never legal = elim (is_done a.code) as (λ b. is_done a.code ≡ b → AreHeld (if b then joined c home (called t c a w f) else f)) [
+  | true ↦ λ on. let held = called_held limit f t home c a w all never on legal in joined_keeps AreHeld c home (called t c a w f) held (λ _. scoped_held (called t c a w f) home scope.after_join held)
   | false ↦ λ _. all
 ] refl
 entry_held limit (Deliver m c) f all standing whole never legal = elim (is_done c) as (λ b. AreHeld (if b then brought m.what f else f)) [ true ↦ brought_held m.what f all | false ↦ all ]

@@ -8,24 +8,26 @@ use Rattle.ocr_slots.specs.declared.Slot.{Slot}
 use Rattle.ocr_slots.specs.Slots as slot
 use Rattle.ocr_datablock.specs.Block as block
 use Rattle.ocr_history.specs.History.{History}
-use Rattle.ocr_history.specs.Made.{Made, MadeBlock, MadeTemplate, MadeEdt, MadeEvent, made, depc_in}
+use Rattle.ocr_history.specs.Made.{Made, MadeBlock, MadeTemplate, MadeEdt, MadeEvent, MadeScope, made, depc_in}
 use Rattle.ocr_parts.specs.declared.part.Part.{Part}
 use Rattle.ocr_parts.specs.declared.part.Part.TheVariants as part
-use Rattle.ocr_parts.specs.Calls.{event_calls, set_calls, link_calls, block_calls, payload_or_null, asks_in}
+use Rattle.ocr_parts.specs.Calls.{event_calls, set_calls, link_calls, block_calls, payload_or_null, asks_in, scope_calls}
 use Rattle.ocr_parts.specs.Parts.{face}
 use Rattle.ocr_standing.specs.Kept.{FilledLaw, AreSet, filled}
+use Rattle.ocr_finish.specs.Scope.{ScopeCall}
 
 abbrev slots_on : Part → List Slot
 slots_on (part.Edt slots) = slots
 slots_on other = []
 
 -- the face of an EDT has its slots as they are linked
-face_slots : (m : Option Made) (links : List slot.SlotCall) (blocks : List block.BlockCall) (events : List EventCall) (slots : List Slot) → face m links blocks events ≡ part.Edt slots → slot.state_of (depc_in m) links ≡ slots
-face_slots None links blocks events slots is = cc is
-face_slots (Some (MadeBlock n c)) links blocks events slots is = cc is
-face_slots (Some (MadeTemplate f pc dc)) links blocks events slots is = cc is
-face_slots (Some (MadeEdt f ps n)) links blocks events slots is = ap slots_on is
-face_slots (Some (MadeEvent k fl most)) links blocks events slots is = cc is
+face_slots : (m : Option Made) (links : List slot.SlotCall) (blocks : List block.BlockCall) (events : List EventCall) (scopes : List ScopeCall) (slots : List Slot) → face m links blocks events scopes ≡ part.Edt slots → slot.state_of (depc_in m) links ≡ slots
+face_slots None links blocks events scopes slots is = cc is
+face_slots (Some (MadeBlock n c)) links blocks events scopes slots is = cc is
+face_slots (Some (MadeTemplate f pc dc)) links blocks events scopes slots is = cc is
+face_slots (Some (MadeEdt f ps n)) links blocks events scopes slots is = ap slots_on is
+face_slots (Some (MadeEvent k fl most)) links blocks events scopes slots is = cc is
+face_slots (Some (MadeScope outer output)) links blocks events scopes slots is = cc is
 
 module _ (links sets : List slot.SlotCall) where
   -- over the slots from a first one on
@@ -77,7 +79,7 @@ pub filled_law : FilledLaw
 filled_law s past t slots depv is len set =
     let n = depc_in (made s past t) in
     let links = link_calls past t in let sets = set_calls past t in
-    let state = face_slots (made s past t) links (block_calls s past t) (event_calls s past t) slots is in
+    let state = face_slots (made s past t) links (block_calls s past t) (event_calls s past t) (scope_calls past t) slots is in
     let count : length depv ≡ n = len ∙ (ap (λ (l : List Slot). length l) (sym state) ∙ many links sets n 0) in
     let from = set_from past t depv set in
     record {

@@ -18,23 +18,23 @@ use Rattle.ocr_meaning.specs.declared.call.Answer.{Answer}
 use Rattle.ocr_history.specs.declared.entry.Entry.{Entry}
 use Rattle.ocr_history.specs.declared.entry.Entry.TheVariants.{Call, Acquire, Wait, Free}
 use Rattle.ocr_history.specs.History.{History, Setting}
-use Rattle.ocr_history.specs.Made.{Made, MadeBlock, MadeEdt, made, makes, is_new, size_in, creator_in}
+use Rattle.ocr_history.specs.Made.{Made, MadeBlock, MadeEdt, made, is_new, size_in, creator_in}
 use Rattle.ocr_parts.specs.declared.loans.Kept.{Kept}
 use Rattle.ocr_parts.specs.declared.part.Part.{Part}
 use Rattle.ocr_parts.specs.declared.part.Part.TheVariants as part
 use Rattle.ocr_parts.specs.Loans.{kept_in, without_kept, loan_in, given_loan, kept_created}
-use Rattle.ocr_parts.specs.Calls.{is_holding, is_number, next_mode, ask_calls, lend_calls, grant_calls, return_calls, end_calls, doom_calls, block_step, block_calls, contents_of, kept_now, loan_step, loans_of, edt_calls, link_calls, event_calls}
-use Rattle.ocr_parts.specs.Parts.{face, core, parts_of}
+use Rattle.ocr_parts.specs.Calls.{is_holding, is_number, next_mode, ask_calls, lend_calls, grant_calls, return_calls, end_calls, doom_calls, block_step, block_calls, contents_of, kept_now, loan_step, loans_of, edt_calls, link_calls, event_calls, scope_calls}
+use Rattle.ocr_parts.specs.Parts.{face, core, parts_of, identity_of}
 use Rattle.ocr_parts.specs.Kinds.{IsBlock, is_running, mode_on, kept_on}
-use Rattle.ocr_parts.specs.LegalOn.{IsAnswered, IsShared}
+use Rattle.ocr_parts.specs.LegalOn.{IsShared}
 use Rattle.ocr_parts.specs.Legal.{IsRun, IsLegal}
 use Rattle.ocr_parts.proofs.Allowed.{allowed_law}
 use Rattle.ocr_parts.proofs.Blocks.{borrower_is, asked_contents}
 use Rattle.ocr_parts.proofs.Lent.{loan_kept}
 use Rattle.ocr_quiet.specs.Waits.{held_on}
 use Rattle.ocr_quiet.proofs.Choices.{off_from, both_true}
-use Rattle.ocr_quiet.proofs.Stages.{made_kept}
-use Rattle.ocr_quiet.proofs.Edts.{new_free}
+use Rattle.ocr_parts.proofs.Fresh.{made_old}
+use Rattle.ocr_standing.proofs.Lasting.{not_new}
 use Rattle.ocr_standing.specs.Held.{IsLoanKept, IsKeptWith, IsHeldSo, loans_on, AreKeptOnce}
 use Rattle.ocr_standing.specs.Lasting.{is_own}
 use Rattle.ocr_standing.specs.Found.{found, FoundLaw, UnchangedLaw}
@@ -42,6 +42,8 @@ use Rattle.ocr_standing.proofs.Entries.{without_once}
 use Rattle.ocr_standing.proofs.Held.{holding_law}
 use Rattle.ocr_standing.proofs.Said.{stores_in_rw}
 use Rattle.ocr_standing.proofs.Working.{so_held}
+use Rattle.ocr_finish.specs.Scope.{ScopeCall}
+use Rattle.ocr_edt.specs.declared.Identity.{Identity}
 
 -- A LOAN began with these words, where there is one
 abbrev BeganWith : List ℕ → Option Loan → Type 0
@@ -55,14 +57,14 @@ IsFoundIn words (Some kept) = BeganWith words kept.loan
 given_began : (m : Mode) (words : List ℕ) → BeganWith words (given_loan m words)
 given_began m words = elim (is_isolated m) as (λ b. BeganWith words (if b then Some (loan_of m words []) else None)) [ true ↦ refl | false ↦ tt ]
 
-running_loans : (m : Option Made) (t : ℕ) (calls : List edt.EdtCall) (loans : List (ℕ × Kept)) → is_running (core m t calls loans) ≡ true → AreKeptOnce (loans_on (core m t calls loans)) → AreKeptOnce loans
-running_loans (Some (MadeEdt f ps n)) t calls loans is once = once
-running_loans other t calls loans is once = cc is
+running_loans : (m : Option Made) (i : Identity) (calls : List edt.EdtCall) (loans : List (ℕ × Kept)) → is_running (core m i calls loans) ≡ true → AreKeptOnce (loans_on (core m i calls loans)) → AreKeptOnce loans
+running_loans (Some (MadeEdt f ps n)) i calls loans is once = once
+running_loans other i calls loans is once = cc is
 
 once_at : (s : Setting) (past : History) (u t : ℕ) → IsRun s past → is_running ((parts_of s past).core u) ≡ true → (u == t) ≡ true → AreKeptOnce (loans_of s past t)
 once_at s past u t run running here =
     let is : is_running ((parts_of s past).core t) ≡ true = subst (λ (n : ℕ). is_running ((parts_of s past).core n) ≡ true) (eqb-true u t here) running in
-    running_loans (made s past t) t (edt_calls s past t) (loans_of s past t) is ((holding_law s past run).once t)
+    running_loans (made s past t) (identity_of past t) (edt_calls s past t) (loans_of s past t) is ((holding_law s past run).once t)
 
 -- a block that is given back
 dropped_found : (words : List ℕ) (e d : ℕ) (loans : List (ℕ × Kept)) → AreKeptOnce loans → IsFoundIn words (kept_in d loans) → IsFoundIn words (kept_in d (without_kept e loans))
@@ -108,9 +110,9 @@ began s (Free u b w ∷ past) t d run = dropped_if (found s past t d) (u == t) b
 began s (other ∷ past) t d run = began s past t d run.0
 
 -- WHAT THE CORE KEEPS
-kept_there : (m : Option Made) (t d : ℕ) (calls : List edt.EdtCall) (loans : List (ℕ × Kept)) (k : Kept) → kept_on (core m t calls loans) d ≡ Some k → kept_in d loans ≡ Some k
-kept_there (Some (MadeEdt f ps n)) t d calls loans k is = is
-kept_there other t d calls loans k is = cc is
+kept_there : (m : Option Made) (i : Identity) (d : ℕ) (calls : List edt.EdtCall) (loans : List (ℕ × Kept)) (k : Kept) → kept_on (core m i calls loans) d ≡ Some k → kept_in d loans ≡ Some k
+kept_there (Some (MadeEdt f ps n)) i d calls loans k is = is
+kept_there other i d calls loans k is = cc is
 
 loan_found : (t : ℕ) (m : Mode) (words : List ℕ) (o : Option Loan) (st : block.State) → IsLoanKept t m o st → is_isolated m ≡ true → BeganWith words o → o ≡ Some (loan_of m words [])
 loan_found t m words None st unlent isolated is = absurd (let off = unlent.shared in cc (isolated, off))
@@ -130,7 +132,7 @@ kept_with s past t d m run is =
 pub found_law : FoundLaw
 found_law s past t d m run held isolated =
     let with_it = kept_with s past t d m run held in
-    let here : kept_in d (loans_of s past t) ≡ Some with_it.0 = kept_there (made s past t) t d (edt_calls s past t) (loans_of s past t) with_it.0 with_it.1 in
+    let here : kept_in d (loans_of s past t) ≡ Some with_it.0 = kept_there (made s past t) (identity_of past t) d (edt_calls s past t) (loans_of s past t) with_it.0 with_it.1 in
     let is : BeganWith (found s past t d) with_it.0.loan = subst (IsFoundIn (found s past t d)) here (began s past t d run) in
     ap loan_in with_it.1 ∙ block_found t m (found s past t d) with_it.0 ((parts_of s past).face d) with_it.2 isolated is
 
@@ -139,14 +141,14 @@ record IsHeldIn (md : Option Made) (blocks : List block.BlockCall) (t : ℕ) (m 
   there : md ≡ None → ⊥
   holder : mode_in t (block.holders_of (creator_in md) blocks) ≡ Some m
 
-held_block : (md : Option Made) (links : List slot.SlotCall) (blocks : List block.BlockCall) (events : List EventCall) (t : ℕ) (m : Mode) (kept : Kept) → IsBlock (face md links blocks events) (IsKeptWith t m kept) → IsHeldIn md blocks t m
-held_block (Some (MadeBlock n c)) links blocks events t m kept is = record { there = λ none. cc none; holder = is.holder }
-held_block other links blocks events t m kept is = absurd is
+held_block : (md : Option Made) (links : List slot.SlotCall) (blocks : List block.BlockCall) (events : List EventCall) (scopes : List ScopeCall) (t : ℕ) (m : Mode) (kept : Kept) → IsBlock (face md links blocks events scopes) (IsKeptWith t m kept) → IsHeldIn md blocks t m
+held_block (Some (MadeBlock n c)) links blocks events scopes t m kept is = record { there = λ none. cc none; holder = is.holder }
+held_block other links blocks events scopes t m kept is = absurd is
 
-shared_holder : (md : Option Made) (links : List slot.SlotCall) (blocks : List block.BlockCall) (events : List EventCall) (t k : ℕ) (m : Mode) (o : Option Mode) → o ≡ Some m → IsBlock (face md links blocks events) (IsShared t k o)
+shared_holder : (md : Option Made) (links : List slot.SlotCall) (blocks : List block.BlockCall) (events : List EventCall) (scopes : List ScopeCall) (t k : ℕ) (m : Mode) (o : Option Mode) → o ≡ Some m → IsBlock (face md links blocks events scopes) (IsShared t k o)
     → mode_in t (block.holders_of (creator_in md) blocks) ≡ Some m
-shared_holder (Some (MadeBlock n c)) links blocks events t k m o held is = sym is.same ∙ held
-shared_holder other links blocks events t k m o held is = absurd is
+shared_holder (Some (MadeBlock n c)) links blocks events scopes t k m o held is = sym is.same ∙ held
+shared_holder other links blocks events scopes t k m o held is = absurd is
 
 alone_other : (by t : ℕ) (m : Mode) → (by == t) ≡ false → mode_in t ((by, mode.Ew) ∷ []) ≡ Some m → ⊥
 alone_other by t m apart held = elim (by == t) as (λ b. b ≡ false → ◌≡◌ {A = Option Mode} (if b then Some mode.Ew else None) (Some m) → ⊥) [ true ↦ λ off _. cc off | false ↦ λ _ is. cc is ] apart held
@@ -167,20 +169,12 @@ no_store : (s : Setting) (past : History) (by home b k v : ℕ) (a : Answer) (w 
     → (b == d) ≡ true → ⊥
 no_store s past by home b k v a w t d m run legal held isolated apart here =
     let writes : mode_in by (block.holders_of (creator_in (made s past b)) (block_calls s past b)) ≡ Some mode.Rw =
-    shared_holder (made s past b) (link_calls past b) (block_calls s past b) (event_calls s past b) by k mode.Rw (mode_on ((parts_of s past).core by) b) (stores_in_rw s past by home b k v a w run legal) legal.on_parts.value.0 in
+    shared_holder (made s past b) (link_calls past b) (block_calls s past b) (event_calls s past b) (scope_calls past b) by k mode.Rw (mode_on ((parts_of s past).core by) b) (stores_in_rw s past by home b k v a w run legal) legal.on_parts.value.0 in
     let at : mode_in by (block.holders_of (creator_in (made s past d)) (block_calls s past d)) ≡ Some mode.Rw =
     subst (λ (g : ℕ). mode_in by (block.holders_of (creator_in (made s past g)) (block_calls s past g)) ≡ Some mode.Rw) (eqb-true b d here) writes in
     let on : together mode.Rw m ≡ true = holders_together by t mode.Rw m (block.holders_of (creator_in (made s past d)) (block_calls s past d)) (holders_law (creator_in (made s past d)) (block_calls s past d)) apart at held.holder in
     let off : together mode.Rw m ≡ false = writes_beside m isolated in
     cc (on, off)
-
-made_there : (s : Setting) (past : History) (t : ℕ) (c : body.Call) (a : Answer) (u : ℕ) → IsAnswered s.limit (parts_of s past) t c a → (made s past u ≡ None → ⊥) → is_new c a u ≡ false
-made_there s past t (call.DbCreate n fl) a u legal there = off_from (makes a u) (λ on. there (new_free s past a u legal on))
-made_there s past t (call.TemplateCreate f pc dc) a u legal there = off_from (makes a u) (λ on. there (new_free s past a u legal on))
-made_there s past t (call.EventCreate kind fl) a u legal there = off_from (makes a u) (λ on. there (new_free s past a u legal on))
-made_there s past t (call.EventCreateParams kind fl most sats nd) a u legal there = off_from (makes a u) (λ on. there (new_free s past a u legal on))
-made_there s past t (call.EdtCreate from pc ps dc ds fl o) a u legal there = off_from (makes a u) (λ on. there (new_free s past a u legal.named on))
-made_there s past t other a u legal there = refl
 
 returned_same : (n by : ℕ) (w : List (ℕ × ℕ)) (calls : List block.BlockCall) → is_number by (block.borrower_of calls) ≡ false → block.contents n (return_calls by w calls) ≡ block.contents n calls
 returned_same n by w calls off = rw off refl
@@ -217,12 +211,12 @@ asked_same n t m calls false = refl
 pub unchanged_law : UnchangedLaw
 unchanged_law s past e t d m run legal held isolated apart =
     let with_it = kept_with s past t d m run held in
-    by_entry e legal apart (held_block (made s past d) (link_calls past d) (block_calls s past d) (event_calls s past d) t m with_it.0 with_it.2)
+    by_entry e legal apart (held_block (made s past d) (link_calls past d) (block_calls s past d) (event_calls s past d) (scope_calls past d) t m with_it.0 with_it.2)
   where
     by_entry : (e : Entry) → IsLegal s past e → is_own e t ≡ false → IsHeldIn (made s past d) (block_calls s past d) t m → contents_of s (e ∷ past) d ≡ contents_of s past d
     by_entry (Call by home c a w) legal apart held =
-        let off : is_new c a d ≡ false = made_there s past by c a d legal.on_parts.value held.there in
-        let size : size_in (made s (Call by home c a w ∷ past) d) ≡ size_in (made s past d) = ap size_in (made_kept s past by home c a w d off) in
+        let off : is_new c a d ≡ false = not_new s past by home c a w d legal.on_parts held.there in
+        let size : size_in (made s (Call by home c a w ∷ past) d) ≡ size_in (made s past d) = ap size_in (made_old s past by home c a w d off) in
         let calls : block_calls s (Call by home c a w ∷ past) d ≡ block_step by c a w d (block_calls s past d) = rw off refl in
         ap (λ (n : ℕ). block.contents n (block_calls s (Call by home c a w ∷ past) d)) size
         ∙ ap (block.contents (size_in (made s past d))) calls

@@ -1,5 +1,5 @@
 -- What the EDTs of a run hold, and that a running EDT may give back what it holds.
-use Rattle.std.proofs.Common.{◌≡◌, inl, inr, ℕ, List, [], ◌∷◌, true, false, Option, Some, None, ◌==◌, ◌&&◌, if◌then◌else◌, refl, sym, ◌∙◌, ap, subst, is_some, length, arith}
+use Rattle.std.proofs.Common.{◌≡◌, inl, inr, ℕ, List, [], ◌∷◌, true, false, Option, Some, None, ◌==◌, if◌then◌else◌, refl, sym, ◌∙◌, ap, subst, is_some, length, arith}
 use Rattle.std.proofs.lemmas.Bool.{eqb-true}
 use Rattle.ocr_guid.specs.Target.{EventCall}
 use Rattle.ocr_acquire.specs.declared.Mode.{Mode}
@@ -10,47 +10,38 @@ use Rattle.ocr_datablock.specs.Lent.{Loan}
 use Rattle.ocr_datablock.proofs.Laws.{words_law}
 use Rattle.ocr_edt.specs.declared.Edt.{Edt}
 use Rattle.ocr_edt.specs.declared.Edt.TheVariants as phase
-use Rattle.ocr_meaning.specs.Holds.{is_done, is_isolated}
-use Rattle.ocr_meaning.specs.declared.call.Call.TheVariants as call
-use Rattle.ocr_meaning.specs.declared.call.Answer.{Answer}
+use Rattle.ocr_meaning.specs.Holds.{is_isolated}
 use Rattle.ocr_history.specs.declared.entry.Entry.{Entry}
 use Rattle.ocr_history.specs.declared.entry.Entry.TheVariants.{Call, Acquire, Wait, Start, StaleAcquire}
 use Rattle.ocr_history.specs.History.{History, Setting}
-use Rattle.ocr_history.specs.Made.{Made, MadeBlock, MadeEdt, made, opened}
+use Rattle.ocr_history.specs.Made.{Made, MadeBlock, MadeEdt, is_new, made, opened}
 use Rattle.ocr_parts.specs.declared.loans.Kept.{Kept}
 use Rattle.ocr_parts.specs.declared.part.Part.{Part}
 use Rattle.ocr_parts.specs.declared.part.Part.TheVariants as part
-use Rattle.ocr_parts.specs.Calls.{plan_of, link_calls, block_calls, edt_calls, loans_of, event_calls}
-use Rattle.ocr_parts.specs.Parts.{Parts, face, core, parts_of}
+use Rattle.ocr_parts.specs.Calls.{plan_of, link_calls, block_calls, edt_calls, loans_of, event_calls, scope_calls}
+use Rattle.ocr_parts.specs.Parts.{Parts, plain_identity, identity_of, face, core, parts_of}
 use Rattle.ocr_parts.specs.Kinds.{IsBlock, is_held_by, on_core, work_in, work_of, is_running, holds_of, mode_on, kept_on, loan_on}
 use Rattle.ocr_parts.specs.Effects.{with_phase, made_ready, ready_at, readied_on}
-use Rattle.ocr_parts.specs.LegalOn.{IsNamed, IsLoanBack, IsHeld}
+use Rattle.ocr_parts.specs.LegalOn.{IsLoanBack, IsHeld}
 use Rattle.ocr_parts.specs.Legal.{IsRun}
+use Rattle.ocr_edt.specs.declared.Identity.{Identity}
 use Rattle.ocr_parts.proofs.After.{after_law}
+use Rattle.ocr_parts.proofs.Fresh.{new_fresh, made_old}
 use Rattle.ocr_quiet.specs.Waits.{standing, held_in, awaits_in, held_on, awaits, IsHolding}
 use Rattle.ocr_quiet.proofs.Standing.{in_front}
 use Rattle.ocr_quiet.proofs.Stages.{readied_standing, standing_law}
 use Rattle.ocr_standing.specs.Held.{IsLoanKept, IsHeldSo, loans_on, AreKeptOnce, AreHeld, HoldingLaw, HeldLaw, IsFitting, KeepsFor, KeptFitsLaw, IsKeptWith}
 use Rattle.ocr_standing.proofs.Entries.{IsWhole, nothing_so, entry_held, ready_held}
 use Rattle.ocr_parts.specs.Loans.{loan_in}
+use Rattle.ocr_finish.specs.Scope.{ScopeCall}
 
 -- NOTHING has the number 0
-zero_if : (limit : ℕ) (f : Parts) (a : Answer) (m n : Option Made) → IsNamed limit f a → n ≡ None → (if is_done a.code && (a.value == 0) then m else n) ≡ None
-zero_if limit f a m n named none = elim (is_done a.code) as (λ b. is_done a.code ≡ b → (if b && (a.value == 0) then m else n) ≡ None) [
-  | true ↦ λ on. elim (a.value == 0) as (λ b. (a.value == 0) ≡ b → (if b then m else n) ≡ None) [
-    | true ↦ λ here. absurd (let is : a.value ≡ 0 = eqb-true a.value 0 here in let some = (named.fresh on).some in omega (arith, is, some))
-    | false ↦ λ _. none
-  ] refl
-  | false ↦ λ _. none
-] refl
-
 pub zero_law : (s : Setting) (past : History) → IsRun s past → made s past 0 ≡ None
 zero_law s [] run = refl
-zero_law s (Call t home (call.DbCreate n fl) a w ∷ past) run = zero_if s.limit (parts_of s past) a _ (made s past 0) run.1.on_parts.value (zero_law s past run.0)
-zero_law s (Call t home (call.TemplateCreate f pc dc) a w ∷ past) run = zero_if s.limit (parts_of s past) a _ (made s past 0) run.1.on_parts.value (zero_law s past run.0)
-zero_law s (Call t home (call.EventCreate kind fl) a w ∷ past) run = zero_if s.limit (parts_of s past) a _ (made s past 0) run.1.on_parts.value (zero_law s past run.0)
-zero_law s (Call t home (call.EventCreateParams kind fl most sats nd) a w ∷ past) run = zero_if s.limit (parts_of s past) a _ (made s past 0) run.1.on_parts.value (zero_law s past run.0)
-zero_law s (Call t home (call.EdtCreate from pc ps dc ds fl o) a w ∷ past) run = zero_if s.limit (parts_of s past) a _ (made s past 0) run.1.on_parts.value.named (zero_law s past run.0)
+zero_law s (Call t home c a w ∷ past) run = elim (is_new c a 0) as (λ b. is_new c a 0 ≡ b → made s (Call t home c a w ∷ past) 0 ≡ None) [
+  | true ↦ λ is. absurd (let some = (new_fresh s.limit (parts_of s past) t home c a w 0 run.1.on_parts is).some in omega (arith, some))
+  | false ↦ λ off. made_old s past t home c a w 0 off ∙ zero_law s past run.0
+] refl
 zero_law s (e ∷ past) run = zero_law s past run.0
 
 ready_zero : (f : Parts) (t : ℕ) (members : List (ℕ × Mode)) → f.core 0 ≡ part.Vacant → (ready_at t members f).core 0 ≡ part.Vacant
@@ -67,28 +58,28 @@ readied_zero s past (Start t) is = ready_zero (parts_of s past) t (plan_of s pas
 readied_zero s past other is = is
 
 never_runs : (s : Setting) (past : History) (e : Entry) → IsRun s past → is_running ((readied_on s past e (parts_of s past)).core 0) ≡ false
-never_runs s past e run = ap is_running (readied_zero s past e (ap (λ (m : Option Made). core m 0 (edt_calls s past 0) (loans_of s past 0)) (zero_law s past run)))
+never_runs s past e run = ap is_running (readied_zero s past e (ap (λ (m : Option Made). core m (identity_of past 0) (edt_calls s past 0) (loans_of s past 0)) (zero_law s past run)))
 
 -- THE WORDS of a block are there
-whole_face : (m : Option Made) (links : List slot.SlotCall) (blocks : List block.BlockCall) (events : List EventCall) → IsWhole (face m links blocks events)
-whole_face (Some (MadeBlock n c)) links blocks events = λ none. let words = words_law n c blocks in ap (λ (l : List ℕ). length l) (words.0 none) ∙ words.1
-whole_face other links blocks events = tt
+whole_face : (m : Option Made) (links : List slot.SlotCall) (blocks : List block.BlockCall) (events : List EventCall) (scopes : List ScopeCall) → IsWhole (face m links blocks events scopes)
+whole_face (Some (MadeBlock n c)) links blocks events scopes = λ none. let words = words_law n c blocks in ap (λ (l : List ℕ). length l) (words.0 none) ∙ words.1
+whole_face other links blocks events scopes = tt
 
 readied_whole : (s : Setting) (past : History) (e : Entry) (d : ℕ) → IsWhole ((readied_on s past e (parts_of s past)).face d)
-readied_whole s past (Acquire t b) d = whole_face (made s past d) (link_calls past d) (block_calls s past d) (event_calls s past d)
-readied_whole s past (Wait t b) d = whole_face (made s past d) (link_calls past d) (block_calls s past d) (event_calls s past d)
-readied_whole s past (StaleAcquire t b) d = whole_face (made s past d) (link_calls past d) (block_calls s past d) (event_calls s past d)
-readied_whole s past (Start t) d = whole_face (made s past d) (link_calls past d) (block_calls s past d) (event_calls s past d)
-readied_whole s past other d = whole_face (made s past d) (link_calls past d) (block_calls s past d) (event_calls s past d)
+readied_whole s past (Acquire t b) d = whole_face (made s past d) (link_calls past d) (block_calls s past d) (event_calls s past d) (scope_calls past d)
+readied_whole s past (Wait t b) d = whole_face (made s past d) (link_calls past d) (block_calls s past d) (event_calls s past d) (scope_calls past d)
+readied_whole s past (StaleAcquire t b) d = whole_face (made s past d) (link_calls past d) (block_calls s past d) (event_calls s past d) (scope_calls past d)
+readied_whole s past (Start t) d = whole_face (made s past d) (link_calls past d) (block_calls s past d) (event_calls s past d) (scope_calls past d)
+readied_whole s past other d = whole_face (made s past d) (link_calls past d) (block_calls s past d) (event_calls s past d) (scope_calls past d)
 
 -- AFTER EACH RUN
-new_held : (m : Option Made) (t e : ℕ) → (mode_in e (held_on (core m t [] [])) ≡ None) × (kept_on (core m t [] []) e ≡ None)
-new_held (Some (MadeEdt f ps n)) t e = (refl, refl)
-new_held other t e = (refl, refl)
+new_held : (m : Option Made) (i : Identity) (e : ℕ) → (mode_in e (held_on (core m i [] [])) ≡ None) × (kept_on (core m i [] []) e ≡ None)
+new_held (Some (MadeEdt f ps n)) i e = (refl, refl)
+new_held other i e = (refl, refl)
 
-new_once : (m : Option Made) (t : ℕ) → AreKeptOnce (loans_on (core m t [] []))
-new_once (Some (MadeEdt f ps n)) t = tt
-new_once other t = tt
+new_once : (m : Option Made) (i : Identity) → AreKeptOnce (loans_on (core m i [] []))
+new_once (Some (MadeEdt f ps n)) i = tt
+new_once other i = tt
 
 readied_held : (s : Setting) (past : History) (e : Entry) → AreHeld (parts_of s past) → AreHeld (readied_on s past e (parts_of s past))
 readied_held s past (Acquire t d) all = ready_held (parts_of s past) t (plan_of s past t) all
@@ -99,8 +90,8 @@ readied_held s past other all = all
 
 pub holding_law : HoldingLaw
 holding_law s [] run = record {
-  so = λ t d. let new = new_held (opened s t) t d in nothing_so t ((parts_of s []).face d) (mode_in d (held_on ((parts_of s []).core t))) (kept_on ((parts_of s []).core t) d) new.0 new.1;
-  once = λ t. new_once (opened s t) t;
+  so = λ t d. let new = new_held (opened s t) (plain_identity t) d in nothing_so t ((parts_of s []).face d) (mode_in d (held_on ((parts_of s []).core t))) (kept_on ((parts_of s []).core t) d) new.0 new.1;
+  once = λ t. new_once (opened s t) (plain_identity t);
 }
 holding_law s (e ∷ past) run =
     subst AreHeld (sym (after_law s past e run.0 run.1))

@@ -12,7 +12,8 @@ use Rattle.ocr_parts.specs.declared.part.Part.{Part}
 use Rattle.ocr_parts.specs.declared.part.Part.TheVariants as part
 use Rattle.ocr_parts.specs.Calls.{is_number}
 use Rattle.ocr_parts.specs.Parts.{Parts}
-use Rattle.ocr_parts.specs.Kinds.{IsBlock, with_block, with_links, kept_on, with_template, with_event}
+use Rattle.ocr_finish.specs.Scope as scope
+use Rattle.ocr_parts.specs.Kinds.{IsBlock, with_block, with_links, kept_on, with_template, with_event, with_scope}
 use Rattle.ocr_any_event.specs.declared.AnyEvent.{AnyEvent}
 use Rattle.ocr_parts.specs.Effects.{with_face, with_core, doomed_template}
 use Rattle.ocr_quiet.specs.Waits.{held_on}
@@ -125,6 +126,13 @@ event_stays u other step m k is = absurd is
 
 pub evented_stays : (u : ℕ) (x : Part) (step : AnyEvent → AnyEvent) (m : Option Mode) (k : Option Kept) → IsHeldSo u x m k → IsHeldSo u (with_event x step) m k
 evented_stays u x step m k is = so_stays u x (with_event x step) m k (event_stays u x step) is
+
+scope_stays : (u : ℕ) (x : Part) (step : scope.State → scope.State) (m : Mode) (k : Kept) → IsBlock x (IsKeptWith u m k) → IsBlock (with_scope x step) (IsKeptWith u m k)
+scope_stays u (part.Block st) step m k is = is
+scope_stays u other step m k is = absurd is
+
+pub scoped_stays : (u : ℕ) (x : Part) (step : scope.State → scope.State) (m : Option Mode) (k : Option Kept) → IsHeldSo u x m k → IsHeldSo u (with_scope x step) m k
+scoped_stays u x step m k is = so_stays u x (with_scope x step) m k (scope_stays u x step) is
 
 -- of what is not there nobody holds anything
 pub vacant_stays : (u : ℕ) (x y : Part) (m : Option Mode) (k : Option Kept) → x ≡ part.Vacant → IsHeldSo u x m k → IsHeldSo u y m k

@@ -2,11 +2,9 @@
 use Rattle.std.proofs.Common.{◌≡◌, ◌≢◌, ℕ, zero, suc, ◌+◌, ◌<◌, ◌≤◌, List, [], ◌∷◌, map, cond, Bool, true, false, Option, Some, None, ◌==◌, ◌&&◌, not, if◌then◌else◌, refl, sym, ◌∙◌, ap, subst, is_some, arith}
 use Rattle.std.proofs.lemmas.Bool.{eqb-true, eqb-false, ltb-true}
 use Rattle.std.specs.List.{filter, range_with_len}
-use Rattle.ocr_guid.specs.Target.{EventCall}
 use Rattle.ocr_guid.specs.declared.Code.{Code}
 use Rattle.ocr_slots.specs.declared.Slot.{Slot}
 use Rattle.ocr_slots.specs.Slots as slot
-use Rattle.ocr_datablock.specs.Block as block
 use Rattle.ocr_meaning.specs.Holds.{is_done}
 use Rattle.ocr_meaning.specs.declared.call.Call as body
 use Rattle.ocr_meaning.specs.declared.call.Call.TheVariants as call
@@ -16,29 +14,26 @@ use Rattle.ocr_history.specs.declared.entry.Message.{Message}
 use Rattle.ocr_history.specs.declared.entry.What.{What}
 use Rattle.ocr_history.specs.declared.entry.What.TheVariants as what
 use Rattle.ocr_history.specs.History.{History, Setting}
-use Rattle.ocr_history.specs.Made.{Made, MadeEdt, made, makes, is_new, depc_in, is_edt_made}
-use Rattle.ocr_parts.specs.Calls.{mode_named, link_step, link_calls, block_calls, event_calls, set_step, set_calls, depc_of, open_slots, slots_now}
-use Rattle.ocr_parts.specs.Parts.{face, parts_of}
+use Rattle.ocr_history.specs.Made.{Made, made, is_new, depc_in, is_edt_made}
+use Rattle.ocr_parts.specs.Calls.{mode_named, link_step, link_calls, block_calls, event_calls, set_step, set_calls, depc_of, open_slots, slots_now, scope_calls}
+use Rattle.ocr_parts.specs.Parts.{parts_of}
 use Rattle.ocr_parts.specs.Kinds.{is_edt_face}
-use Rattle.ocr_parts.specs.LegalOn.{IsAnswered, IsCallOn}
+use Rattle.ocr_parts.specs.LegalOn.{IsCallOn}
 use Rattle.ocr_parts.specs.Legal.{IsRun, IsLegal}
 use Rattle.ocr_quiet.proofs.Choices.{off_from, not_off, both_true}
-use Rattle.ocr_quiet.proofs.Edts.{new_free, edts_law}
-use Rattle.ocr_quiet.proofs.Stages.{made_kept}
+use Rattle.ocr_quiet.proofs.Edts.{edts_law}
+use Rattle.ocr_parts.proofs.After.{edt_told}
+use Rattle.ocr_parts.proofs.Fresh.{new_fresh, made_old}
+use Rattle.ocr_parts.proofs.Within.{made_none}
 use Rattle.ocr_standing.specs.Lasting.{MadeLaw, StaysLaw}
 use Rattle.ocr_standing.proofs.Once.{dependence_slot, set_once_law, set_linked}
 
--- WHAT IS MADE lasts
-keeps_made : (b : Bool) (x y : Option Made) (m : Made) → (b ≡ true → y ≡ None) → y ≡ Some m → (if b then x else y) ≡ Some m
-keeps_made true x y m free is = let wrong : None ≡ Some m = sym (free refl) ∙ is in cc wrong
-keeps_made false x y m free is = is
+-- WHAT IS MADE lasts, since it is not made anew
+pub not_new : (s : Setting) (past : History) (t home : ℕ) (c : body.Call) (a : Answer) (w : List (ℕ × ℕ)) (u : ℕ) → IsCallOn s.limit (parts_of s past) t home c a w → (made s past u ≡ None → ⊥) → is_new c a u ≡ false
+not_new s past t home c a w u legal there = off_from (is_new c a u) (λ on. there (made_none s past u (new_fresh s.limit (parts_of s past) t home c a w u legal on).vacant))
 
 pub made_law : MadeLaw
-made_law s past (Call t home (call.DbCreate n fl) a w) g m legal is = keeps_made (makes a g) _ (made s past g) m (new_free s past a g legal.on_parts.value) is
-made_law s past (Call t home (call.TemplateCreate f pc dc) a w) g m legal is = keeps_made (makes a g) _ (made s past g) m (new_free s past a g legal.on_parts.value) is
-made_law s past (Call t home (call.EventCreate kind fl) a w) g m legal is = keeps_made (makes a g) _ (made s past g) m (new_free s past a g legal.on_parts.value) is
-made_law s past (Call t home (call.EventCreateParams kind fl most sats nd) a w) g m legal is = keeps_made (makes a g) _ (made s past g) m (new_free s past a g legal.on_parts.value) is
-made_law s past (Call t home (call.EdtCreate from pc ps dc ds fl o) a w) g m legal is = keeps_made (makes a g) _ (made s past g) m (new_free s past a g legal.on_parts.value.named) is
+made_law s past (Call t home c a w) g m legal is = made_old s past t home c a w g (not_new s past t home c a w g legal.on_parts (λ none. cc (none, is))) ∙ is
 made_law s past other g m legal is = is
 
 -- an EDT is not made anew
@@ -46,13 +41,8 @@ edt_some : (m : Option Made) → m ≡ None → is_edt_made m ≡ true → ⊥
 edt_some None none is = cc is
 edt_some (Some m) none is = cc none
 
-pub made_old : (s : Setting) (past : History) (t : ℕ) (c : body.Call) (a : Answer) (u : ℕ) → IsAnswered s.limit (parts_of s past) t c a → is_edt_made (made s past u) ≡ true → is_new c a u ≡ false
-made_old s past t (call.DbCreate n fl) a u legal is = off_from (makes a u) (λ on. edt_some (made s past u) (new_free s past a u legal on) is)
-made_old s past t (call.TemplateCreate f pc dc) a u legal is = off_from (makes a u) (λ on. edt_some (made s past u) (new_free s past a u legal on) is)
-made_old s past t (call.EventCreate kind fl) a u legal is = off_from (makes a u) (λ on. edt_some (made s past u) (new_free s past a u legal on) is)
-made_old s past t (call.EventCreateParams kind fl most sats nd) a u legal is = off_from (makes a u) (λ on. edt_some (made s past u) (new_free s past a u legal on) is)
-made_old s past t (call.EdtCreate from pc ps dc ds fl o) a u legal is = off_from (makes a u) (λ on. edt_some (made s past u) (new_free s past a u legal.named on) is)
-made_old s past t other a u legal is = refl
+pub edt_not_new : (s : Setting) (past : History) (t home : ℕ) (c : body.Call) (a : Answer) (w : List (ℕ × ℕ)) (u : ℕ) → IsCallOn s.limit (parts_of s past) t home c a w → is_edt_made (made s past u) ≡ true → is_new c a u ≡ false
+edt_not_new s past t home c a w u legal is = not_new s past t home c a w u legal (λ none. edt_some (made s past u) none is)
 
 -- WHERE ALL SLOTS ARE SET
 above : (a k : ℕ) → a ≤ k → (a == k) ≡ false → a + 1 ≤ k
@@ -71,17 +61,13 @@ range_off p a (suc n) k none low high = elim (p a) as (λ b. p a ≡ b → cond 
 pub all_set : (s : Setting) (past : History) (t k : ℕ) → open_slots s past t ≡ [] → k < depc_of s past t → slot.is_set (set_calls past t) k ≡ true
 all_set s past t k none below = not_off _ (range_off (λ j. not (slot.is_set (set_calls past t) j)) 0 (depc_of s past t) k none (omega arith) (omega (arith, below)))
 
-edt_face : (m : Option Made) (links : List slot.SlotCall) (blocks : List block.BlockCall) (events : List EventCall) → is_edt_made m ≡ true → is_edt_face (face m links blocks events) ≡ true
-edt_face (Some (MadeEdt f ps n)) links blocks events is = refl
-edt_face other links blocks events is = cc is
-
 -- no accepted dependence links one of them
 links_stay : (s : Setting) (past : History) (t home : ℕ) (c : body.Call) (a : Answer) (w : List (ℕ × ℕ)) (u : ℕ) → IsRun s past → IsCallOn s.limit (parts_of s past) t home c a w → is_edt_made (made s past u) ≡ true → open_slots s past u ≡ [] → link_step c a u (link_calls past u) ≡ link_calls past u
 links_stay s past t home (call.AddDependence from x i m) a w u run legal is_made set = elim (is_done a.code && (x == u)) as (λ b. (is_done a.code && (x == u)) ≡ b → (if b then slot.Linking i (mode_named m) ∷ link_calls past u else link_calls past u) ≡ link_calls past u) [
   | true ↦ λ is. absurd (
       let both = both_true (is_done a.code) (x == u) is in
       let here : u ≡ x = sym (eqb-true x u both.1) in
-      let there : is_edt_face ((parts_of s past).face x) ≡ true = edt_face (made s past x) (link_calls past x) (block_calls s past x) (event_calls s past x) (subst (λ (n : ℕ). is_edt_made (made s past n) ≡ true) here is_made) in
+      let there : is_edt_face ((parts_of s past).face x) ≡ true = sym (edt_told (made s past x) (link_calls past x) (block_calls s past x) (event_calls s past x) (scope_calls past x)) ∙ subst (λ (n : ℕ). is_edt_made (made s past n) ≡ true) here is_made in
       let slot_is = dependence_slot s past t home from x i m a w both.0 legal there in
       let filled = all_set s past x i (subst (λ (n : ℕ). open_slots s past n ≡ []) here set) (ltb-true i (depc_of s past x) slot_is.0) in
       let linked = set_linked s past x i run filled in
@@ -108,12 +94,12 @@ slots_by n links sets = map (λ k. record { mode = slot.mode_of links k; payload
 
 call_stays : (s : Setting) (past : History) (t home : ℕ) (c : body.Call) (a : Answer) (w : List (ℕ × ℕ)) (u : ℕ) → IsRun s past → IsCallOn s.limit (parts_of s past) t home c a w → is_edt_made (made s past u) ≡ true → is_new c a u ≡ false → open_slots s past u ≡ [] → slots_now s (Call t home c a w ∷ past) u ≡ slots_now s past u
 call_stays s past t home c a w u run legal is_made off set =
-    let depc : depc_of s (Call t home c a w ∷ past) u ≡ depc_of s past u = ap depc_in (made_kept s past t home c a w u off) in
+    let depc : depc_of s (Call t home c a w ∷ past) u ≡ depc_of s past u = ap depc_in (made_old s past t home c a w u off) in
     let links : link_calls (Call t home c a w ∷ past) u ≡ link_calls past u = rw off (links_stay s past t home c a w u run legal is_made set) in
     let sets : set_calls (Call t home c a w ∷ past) u ≡ set_calls past u = rw off refl in
     λ i. slots_by (depc i) (links i) (sets i)
 
 pub stays_law : StaysLaw
-stays_law s past (Call t home c a w) u run legal is_one set = let is_made : is_edt_made (made s past u) ≡ true = edts_law s past run u ∙ is_one in call_stays s past t home c a w u run legal.on_parts is_made (made_old s past t c a u legal.on_parts.value is_made) set
+stays_law s past (Call t home c a w) u run legal is_one set = let is_made : is_edt_made (made s past u) ≡ true = edts_law s past run u ∙ is_one in call_stays s past t home c a w u run legal.on_parts is_made (edt_not_new s past t home c a w u legal.on_parts is_made) set
 stays_law s past (Deliver m c) u run legal is_one set = ap (slots_by (depc_of s past u) (link_calls past u)) (sets_stay s past m c m.what u refl run legal set)
 stays_law s past other u run legal is_one set = refl

@@ -13,3 +13,9 @@ pub mod Plain
 pub mod Working
 pub mod Said
 pub mod Found
+pub mod Counting
+pub mod Weighed
+pub mod Scopes
+pub mod Members
+pub mod Room
+pub mod Finished

@@ -19,6 +19,7 @@ use Rattle.ocr_slots.proofs.Laws.{answer_law}
 use Rattle.ocr_slots.specs.Slots as slot
 use Rattle.ocr_datablock.specs.Block as block
 use Rattle.ocr_meaning.specs.Holds.{is_done}
+use Rattle.ocr_meaning.specs.declared.call.Call as body
 use Rattle.ocr_meaning.specs.declared.call.Call.TheVariants as call
 use Rattle.ocr_meaning.specs.declared.call.Answer.{Answer}
 use Rattle.ocr_history.specs.declared.entry.Entry.{Entry}
@@ -28,21 +29,24 @@ use Rattle.ocr_history.specs.declared.entry.What.{What}
 use Rattle.ocr_history.specs.declared.entry.What.TheVariants as what
 use Rattle.ocr_history.specs.declared.objects.TheConstants.{ARGUMENTS, MAIN_EDT}
 use Rattle.ocr_history.specs.History.{History, Setting}
-use Rattle.ocr_history.specs.Made.{Made, MadeTemplate, MadeEdt, made, makes, is_new, opened, edt_from, depc_in}
-use Rattle.ocr_parts.specs.Calls.{mode_named, is_given, target_of, with_dep, dep_links, link_calls, set_step, set_calls, block_calls, depc_of, event_calls}
+use Rattle.ocr_history.specs.Made.{Made, MadeTemplate, MadeEdt, made, makes, is_beside, is_new, opened, edt_from, depc_in}
+use Rattle.ocr_parts.specs.Calls.{mode_named, is_given, target_of, with_dep, dep_links, link_calls, set_step, set_calls, block_calls, depc_of, event_calls, scope_calls}
 use Rattle.ocr_parts.specs.Codes.{brings_block, link_code, counted_code, creation_code}
 use Rattle.ocr_parts.specs.Kinds.{is_edt_face}
 use Rattle.ocr_parts.specs.Messages.{what_to, sends, delivered, pending}
 use Rattle.ocr_parts.specs.Parts.{parts_of, face}
 use Rattle.ocr_parts.specs.LegalOn.{IsCallOn}
 use Rattle.ocr_parts.specs.Legal.{IsRun, IsLegal}
-use Rattle.ocr_parts.proofs.Within.{done_is}
+use Rattle.ocr_parts.proofs.Within.{done_is, made_none, new_free}
 use Rattle.ocr_parts.proofs.After.{linkable, accepted}
 use Rattle.ocr_standing.specs.Lasting.{SetOnceLaw, DeliveredLaw, delivery_count}
 use Rattle.ocr_quiet.proofs.Choices.{both_true}
-use Rattle.ocr_quiet.proofs.Edts.{new_free}
-use Rattle.ocr_standing.proofs.Named.{one, tally_append, drop_less, named_once, named_other, once_named, carried, weight, carried_append, carried_named, dropped, at_of}
+use Rattle.ocr_parts.proofs.Choices.{or_right}
+use Rattle.ocr_parts.proofs.Fresh.{new_fresh, made_new}
+use Rattle.ocr_standing.proofs.Named.{one, tally_append, drop_less, named_once, named_other, at_of}
+use Rattle.ocr_standing.proofs.Weighed.{waiting, undelivered, sent_more, going}
 use Rattle.ocr_standing.proofs.Targets.{given, entry_links, kept_now, kept_opened, run_keeps}
+use Rattle.ocr_finish.specs.Scope.{ScopeCall}
 
 -- THE MESSAGES that set a slot, whether it is set, and whether it is there and linked
 abbrev bit : Bool → ℕ
@@ -163,17 +167,17 @@ if_eperm : (b : Bool) → (if b then code.Eperm else code.Done) ≡ code.Done �
 if_eperm true is = cc is
 if_eperm false is = refl
 
-linkable_slot : (m : Option Made) (links : List slot.SlotCall) (blocks : List block.BlockCall) (events : List EventCall) (i : ℕ) → link_code (face m links blocks events) i ≡ code.Done → (nat_lt i (depc_in m) ≡ true) × (slot.is_linked links i ≡ false)
-linkable_slot (Some (MadeEdt f ps n)) links blocks events i is =
+linkable_slot : (m : Option Made) (links : List slot.SlotCall) (blocks : List block.BlockCall) (events : List EventCall) (scopes : List ScopeCall) (i : ℕ) → link_code (face m links blocks events scopes) i ≡ code.Done → (nat_lt i (depc_in m) ≡ true) × (slot.is_linked links i ≡ false)
+linkable_slot (Some (MadeEdt f ps n)) links blocks events scopes i is =
     let found = if_einval (nat_lt i n) _ (sym (answer_law n links i) ∙ is) in
     (found.0, if_eperm (slot.is_linked links i) found.1)
-linkable_slot other links blocks events i is = cc is
+linkable_slot other links blocks events scopes i is = cc is
 
 -- the slot that an accepted dependence of an EDT links
 pub dependence_slot : (s : Setting) (past : History) (u home from x i m : ℕ) (a : Answer) (w : List (ℕ × ℕ)) → is_done a.code ≡ true → IsCallOn s.limit (parts_of s past) u home (call.AddDependence from x i m) a w
     → is_edt_face ((parts_of s past).face x) ≡ true → (nat_lt i (depc_of s past x) ≡ true) × (slot.is_linked (link_calls past x) i ≡ false)
 dependence_slot s past u home from x i m a w on legal there =
-    linkable_slot (made s past x) (link_calls past x) (block_calls s past x) (event_calls s past x) i
+    linkable_slot (made s past x) (link_calls past x) (block_calls s past x) (event_calls s past x) (scope_calls past x) i
     (linkable (brings_block (parts_of s past).face from) ((parts_of s past).face x) i m (accepted u (parts_of s past).face (call.AddDependence from x i m) (sym legal.code ∙ done_is a.code on)) there)
 
 length_fits : (k n : ℕ) → ((k == 0) || (k == n)) ≡ true → k ≤ n
@@ -191,15 +195,15 @@ counted_fits t pc dc params deps flags is = elim (is_refused t.paramc pc _ || is
       length_fits (length deps) (count_meant t.depc dc) second.0
 ] is
 
-template_fits : (m : Option Made) (links : List slot.SlotCall) (blocks : List block.BlockCall) (events : List EventCall) (pc dc : ℕ) (params deps : List ℕ) (flags : ℕ) → creation_code (face m links blocks events) pc params dc deps flags ≡ code.Done → length deps ≤ depc_in (edt_from m params dc)
-template_fits (Some (MadeTemplate f own_pc own)) links blocks events pc dc params deps flags is = counted_fits (record { function = f; paramc = own_pc; depc = own; destroyed = was_destroyed events }) pc dc params deps flags is
-template_fits other links blocks events pc dc params deps flags is = cc is
+template_fits : (m : Option Made) (links : List slot.SlotCall) (blocks : List block.BlockCall) (events : List EventCall) (scopes : List ScopeCall) (pc dc : ℕ) (params deps : List ℕ) (flags : ℕ) → creation_code (face m links blocks events scopes) pc params dc deps flags ≡ code.Done → length deps ≤ depc_in (edt_from m params dc)
+template_fits (Some (MadeTemplate f own_pc own)) links blocks events scopes pc dc params deps flags is = counted_fits (record { function = f; paramc = own_pc; depc = own; destroyed = was_destroyed events }) pc dc params deps flags is
+template_fits other links blocks events scopes pc dc params deps flags is = cc is
 
 -- the dependences of an accepted creation are no more than its slots
 created_fits : (s : Setting) (past : History) (u home from pc dc fl : ℕ) (ps ds : List ℕ) (o : Bool) (a : Answer) (w : List (ℕ × ℕ)) → is_done a.code ≡ true → IsCallOn s.limit (parts_of s past) u home (call.EdtCreate from pc ps dc ds fl o) a w
     → length ds ≤ depc_in (edt_from (made s past from) ps dc)
 created_fits s past u home from pc dc fl ps ds o a w on legal =
-    template_fits (made s past from) (link_calls past from) (block_calls s past from) (event_calls s past from) pc dc ps ds fl
+    template_fits (made s past from) (link_calls past from) (block_calls s past from) (event_calls s past from) (scope_calls past from) pc dc ps ds fl
     (accepted u (parts_of s past).face (call.EdtCreate from pc ps dc ds fl o) (sym legal.code ∙ done_is a.code on))
 
 -- EACH ENTRY links a slot as often as the slot is linked then and was not before
@@ -217,18 +221,25 @@ other_links : (b done : Bool) (new old : Option Made) (links : List slot.SlotCal
 other_links true done new old links k free = let z = no_slot old links k (free refl) in let n = if_zero done 0 refl in omega (arith, z, n)
 other_links false done new old links k free = let n = if_zero done 0 refl in omega (arith, n)
 
--- an EDT is made
-edt_links : (t x k : ℕ) (done : Bool) (ds : List ℕ) (new old : Option Made) (links : List slot.SlotCall) → ((done && (x == t)) ≡ true → old ≡ None) → (done ≡ true → length ds ≤ depc_in new)
-    → slot_num (depc_in old) links k + (if done then given (to_slot t k) x 0 ds else 0) ≤ slot_num (depc_in (if done && (x == t) then new else old)) (if done && (x == t) then dep_links 0 ds [] else links) k
-edt_links t x k true ds new old links free fits = elim (x == t) as (λ b. (x == t) ≡ b → (b ≡ true → old ≡ None) → slot_num (depc_in old) links k + given (to_slot t k) x 0 ds ≤ slot_num (depc_in (if b then new else old)) (if b then dep_links 0 ds [] else links) k) [
+-- an EDT is made, and what stands beside it
+edt_links : (t x k : ℕ) (done beside : Bool) (ds : List ℕ) (new other old : Option Made) (links : List slot.SlotCall) → ((beside || (done && (x == t))) ≡ true → old ≡ None) → (done ≡ true → length ds ≤ depc_in new)
+    → slot_num (depc_in old) links k + (if done then given (to_slot t k) x 0 ds else 0)
+    ≤ slot_num (depc_in (if beside || (done && (x == t)) then (if x == t then new else other) else old)) (if beside || (done && (x == t)) then (if done && (x == t) then dep_links 0 ds [] else []) else links) k
+edt_links t x k true beside ds new other old links free fits = elim (x == t) as (λ b. (x == t) ≡ b → ((beside || b) ≡ true → old ≡ None) → slot_num (depc_in old) links k + given (to_slot t k) x 0 ds ≤ slot_num (depc_in (if beside || b then (if b then new else other) else old)) (if beside || b then (if b then dep_links 0 ds [] else []) else links) k) [
   | true ↦ λ is free.
-      let z = no_slot old links k (free refl) in
+      let z = no_slot old links k (free (or_right beside)) in
       let same : given (to_slot t k) x 0 ds ≡ given (to_slot t k) t 0 ds = ap (λ (n : ℕ). given (to_slot t k) n 0 ds) (eqb-true x t is) in
       let g = given_slots t k (depc_in new) ds (fits refl) in
-      omega (arith, z, same, g)
-  | false ↦ λ off _. let z = given_other t x k 0 ds off in omega (arith, z)
+      rw (or_right beside) (omega (arith, z, same, g))
+  | false ↦ λ off free.
+      let z = given_other t x k 0 ds off in
+      elim beside as (λ b. ((b || false) ≡ true → old ≡ None) → slot_num (depc_in old) links k + given (to_slot t k) x 0 ds ≤ slot_num (depc_in (if b || false then other else old)) (if b || false then [] else links) k) [
+        | true ↦ λ free. let n = no_slot old links k (free refl) in omega (arith, z, n)
+        | false ↦ λ _. omega (arith, z)
+      ] free
 ] refl free
-edt_links t x k false ds new old links free fits = omega arith
+edt_links t x k false true ds new other old links free fits = let n = no_slot old links k (free refl) in omega (arith, n)
+edt_links t x k false false ds new other old links free fits = omega arith
 
 -- a dependence is added
 added_links : (there : Bool) (t x i k n : ℕ) (m : Mode) (links : List slot.SlotCall) → (there ≡ true → (x == t) ≡ true → (nat_lt i n ≡ true) × (slot.is_linked links i ≡ false))
@@ -251,13 +262,16 @@ added_links true t x i k n m links free = elim (x == t) as (λ b. (b ≡ true �
 ] (free refl)
 
 entry_slots : (s : Setting) (past : History) (e : Entry) (t k : ℕ) → IsRun s past → IsLegal s past e → slot_now s past t k + entry_links (to_slot t k) e (parts_of s past) ≤ slot_now s (e ∷ past) t k
-entry_slots s past (Call u home (call.DbCreate n fl) a w) t k run legal = other_links (makes a t) (is_done a.code) _ (made s past t) (link_calls past t) k (new_free s past a t legal.on_parts.value)
-entry_slots s past (Call u home (call.TemplateCreate f pc dc) a w) t k run legal = other_links (makes a t) (is_done a.code) _ (made s past t) (link_calls past t) k (new_free s past a t legal.on_parts.value)
-entry_slots s past (Call u home (call.EventCreate kind fl) a w) t k run legal = other_links (makes a t) (is_done a.code) _ (made s past t) (link_calls past t) k (new_free s past a t legal.on_parts.value)
-entry_slots s past (Call u home (call.EventCreateParams kind fl most sats nd) a w) t k run legal = other_links (makes a t) (is_done a.code) _ (made s past t) (link_calls past t) k (new_free s past a t legal.on_parts.value)
+entry_slots s past (Call u home (call.DbCreate n fl) a w) t k run legal = other_links (makes a t) (is_done a.code) _ (made s past t) (link_calls past t) k (λ on. (new_free s past a t legal.on_parts.value on).0)
+entry_slots s past (Call u home (call.TemplateCreate f pc dc) a w) t k run legal = other_links (makes a t) (is_done a.code) _ (made s past t) (link_calls past t) k (λ on. (new_free s past a t legal.on_parts.value on).0)
+entry_slots s past (Call u home (call.EventCreate kind fl) a w) t k run legal = other_links (makes a t) (is_done a.code) _ (made s past t) (link_calls past t) k (λ on. (new_free s past a t legal.on_parts.value on).0)
+entry_slots s past (Call u home (call.EventCreateParams kind fl most sats nd) a w) t k run legal = other_links (makes a t) (is_done a.code) _ (made s past t) (link_calls past t) k (λ on. (new_free s past a t legal.on_parts.value on).0)
 entry_slots s past (Call u home (call.EdtCreate from pc ps dc ds fl o) a w) t k run legal =
-    edt_links t a.value k (is_done a.code) ds (edt_from (made s past from) ps dc) (made s past t) (link_calls past t) (new_free s past a t legal.on_parts.value.named)
-    (λ on. created_fits s past u home from pc dc fl ps ds o a w on legal.on_parts)
+    let c : body.Call = call.EdtCreate from pc ps dc ds fl o in
+    subst (λ (m : Option Made). slot_now s past t k + (if is_done a.code then given (to_slot t k) a.value 0 ds else 0) ≤ slot_num (depc_in m) (link_calls (Call u home c a w ∷ past) t) k) (sym (made_new s past u home from pc ps dc ds fl o a w t))
+    (edt_links t a.value k (is_done a.code) (is_beside c a t) ds (edt_from (made s past from) ps dc) _ (made s past t) (link_calls past t)
+    (λ on. made_none s past t (new_fresh s.limit (parts_of s past) u home c a w t legal.on_parts on).vacant)
+    (λ on. created_fits s past u home from pc dc fl ps ds o a w on legal.on_parts))
 entry_slots s past (Call u home (call.AddDependence from x i m) a w) t k run legal = elim (is_done a.code) as (λ b. is_done a.code ≡ b → slot_now s past t k + (if b then to_slot t k (target_of (is_edt_face ((parts_of s past).face x)) x i) else 0)
     ≤ slot_num (depc_of s past t) (if b && (x == t) then slot.Linking i (mode_named m) ∷ link_calls past t else link_calls past t) k) [
       | true ↦ λ on. added_links (is_edt_face ((parts_of s past).face x)) t x i k (depc_of s past t) (mode_named m) (link_calls past t) (λ there same.
@@ -268,38 +282,18 @@ entry_slots s past (Call u home other a w) t k run legal = let n = if_zero (is_d
 entry_slots s past other t k run legal = omega arith
 
 -- EACH SLOT: at most as many messages that set it, settings, and events that keep it, as links
-abbrev waiting : Setting → History → ℕ → ℕ → ℕ
-waiting s past t k = carried (sets_at t k) (pending s past)
-
-abbrev undelivered : Setting → History → Entry → ℕ → ℕ → ℕ
-undelivered s past e t k = carried (sets_at t k) (without (delivered e) (pending s past))
-
 abbrev IsOnce : Setting → History → ℕ → ℕ → Type 0
-IsOnce s past t k = (waiting s past t k + kept_now (to_slot t k) s past) + set_num (set_calls past t) k ≤ slot_now s past t k
-
--- what an entry sends is pending then
-sent_more : (s : Setting) (past : History) (e : Entry) (t k : ℕ) → waiting s (e ∷ past) t k ≡ undelivered s past e t k + weight (sets_at t k) (sends e (parts_of s past))
-sent_more s past e t k =
-    carried_append (sets_at t k) (without (delivered e) (pending s past)) (named (length past) 0 (sends e (parts_of s past)))
-    ∙ ap (λ (n : ℕ). undelivered s past e t k + n) (carried_named (sets_at t k) (length past) 0 (sends e (parts_of s past)))
-
--- what a delivery takes from those that are pending
-going : (s : Setting) (past : History) (m : Message) (c : Code) (t k : ℕ) → IsLegal s past (Deliver m c) → undelivered s past (Deliver m c) t k + sets_at t k m.what ≡ waiting s past t k
-going s past m c t k legal =
-    let here = legal.said in
-    let at = at_of (pending s past) here.0 (m.place, m.index, m.what) (m.place, m.index, m.what) here.1 here.2 in
-    let unique = once_named (λ (q : History) (e : Entry). sends e (parts_of s q)) delivered past (m.place, m.index) in
-    dropped (sets_at t k) m.place m.index m.what (pending s past) here.0 at unique
+IsOnce s past t k = (waiting (sets_at t k) s past + kept_now (to_slot t k) s past) + set_num (set_calls past t) k ≤ slot_now s past t k
 
 -- a delivery sets a slot in place of its message
 sets_new : (b : Bool) (sets : List slot.SlotCall) (k : ℕ) → set_num (if b then [] else sets) k ≤ set_num sets k
 sets_new true sets k = omega arith
 sets_new false sets k = omega arith
 
-set_for : (s : Setting) (past : History) (e : Entry) (t k : ℕ) → IsLegal s past e → undelivered s past e t k + set_num (set_calls (e ∷ past) t) k ≤ waiting s past t k + set_num (set_calls past t) k
+set_for : (s : Setting) (past : History) (e : Entry) (t k : ℕ) → IsLegal s past e → undelivered (sets_at t k) s past e + set_num (set_calls (e ∷ past) t) k ≤ waiting (sets_at t k) s past + set_num (set_calls past t) k
 set_for s past (Call u home c a w) t k legal = let n = sets_new (is_new c a t) (set_calls past t) k in omega (arith, n)
 set_for s past (Deliver m c) t k legal =
-    let gone = going s past m c t k legal in
+    let gone = going (sets_at t k) s past m c legal in
     let more = set_more m.what t k (set_calls past t) in
     omega (arith, gone, more)
 set_for s past other t k legal = omega arith
@@ -320,9 +314,9 @@ is_once : (s : Setting) (past : History) (t k : ℕ) → IsRun s past → IsOnce
 is_once s [] t k run = let kept = kept_opened (to_slot t k) s in let o = opened_once s t k in omega (arith, kept, o)
 is_once s (e ∷ past) t k run =
     let before = is_once s past t k run.0 in
-    let sent = sent_more s past e t k in
+    let sent = sent_more (sets_at t k) s past e in
     let set = set_for s past e t k run.1 in
-    let keeps = run_keeps (sets_at t k) (to_slot t k) (sets_blind t k) s past e run.0 run.1 in
+    let keeps = run_keeps (sets_at t k) (to_slot t k) (sets_blind t k) (λ e i p. refl) (λ x. refl) s past e run.0 run.1 in
     let links = entry_slots s past e t k run.0 run.1 in
     omega (arith, before, sent, set, keeps, links)
 
@@ -336,7 +330,7 @@ own_slot t k = rw (same t, same k) refl
 pub set_once_law : SetOnceLaw
 set_once_law s past m c t k p run legal is =
     let before = is_once s past t k run in
-    let gone = going s past m c t k legal in
+    let gone = going (sets_at t k) s past m c legal in
     let w : sets_at t k m.what ≡ 1 = ap (sets_at t k) is ∙ own_slot t k in
     let there : (nat_lt k (depc_of s past t) && slot.is_linked (link_calls past t) k) ≡ true = some_bit (nat_lt k (depc_of s past t) && slot.is_linked (link_calls past t) k) (omega (arith, before, gone, w)) in
     let l = bit_most (nat_lt k (depc_of s past t) && slot.is_linked (link_calls past t) k) in

@@ -22,26 +22,26 @@ use Rattle.ocr_parts.specs.Kinds.{work_in, is_running, is_acquiring_edt, is_acqu
 use Rattle.ocr_parts.specs.Bodies.{first_holds, body_with, holds_on}
 use Rattle.ocr_parts.specs.Effects.{ready_at, next_on}
 use Rattle.ocr_parts.specs.Legal.{IsRun, IsLegal}
-use Rattle.ocr_quiet.specs.Marks.{mark_in, mark}
+use Rattle.ocr_quiet.specs.Marks.{stage_in, mark_in, mark}
 use Rattle.ocr_quiet.proofs.Choices.{off_from, or_right}
 use Rattle.ocr_quiet.proofs.Stages.{told_law, ready_told}
 use Rattle.ocr_quiet.proofs.Edts.{edts_law}
 use Rattle.ocr_standing.specs.Lasting.{is_own, has_own, NoOwnLaw, FreshLaw, BodyLaw}
-use Rattle.ocr_standing.proofs.Lasting.{made_law, stays_law, made_old}
+use Rattle.ocr_standing.proofs.Lasting.{made_law, stays_law, edt_not_new}
 use Rattle.ocr_acquire.specs.declared.Mode.{Mode}
 use Rattle.ocr_meaning.specs.declared.call.Answer.{Answer}
 
 -- WHO RUNS has started
-running_edt : (e : Edt) → is_some (work_in e) ≡ true → nat_lt 1 (mark_in e).0 ≡ true
-running_edt (phase.Running w) is = refl
-running_edt other is = cc is
+running_stage : (e : Edt) → is_some (work_in e) ≡ true → stage_in e ≡ 2
+running_stage (phase.Running w) is = refl
+running_stage other is = cc is
 
-running_mark : (x : Part) → is_running x ≡ true → nat_lt 1 (mark x).0 ≡ true
-running_mark (part.Core c) is = running_edt c.edt is
+pub running_mark : (x : Part) → is_running x ≡ true → (mark x).0 ≡ 2
+running_mark (part.Core c) is = running_stage c.edt is
 running_mark other is = cc is
 
 pub started_by : (s : Setting) (past : History) (t : ℕ) → IsRun s past → is_running ((parts_of s past).core t) ≡ true → is_started past t ≡ true
-started_by s past t run running = (told_law s past run t).has_started ∙ running_mark ((parts_of s past).core t) running
+started_by s past t run running = (told_law s past run t).has_started ∙ ap (λ (n : ℕ). nat_lt 1 n) (running_mark ((parts_of s past).core t) running)
 
 -- WHO MAY START has not started
 acquiring_edt : (e : Edt) → is_acquiring_edt e ≡ true → nat_lt 1 (mark_in e).0 ≡ false
@@ -141,7 +141,7 @@ not_going past u t on off here = let none : is_started past t ≡ false = subst 
 
 stale_stays : (s : Setting) (past : History) (e : Entry) (t : ℕ) → IsRun s past → IsLegal s past e → is_edt_made (made s past t) ≡ true → is_started past t ≡ true → edt.stale_of (edt_calls s (e ∷ past) t) ≡ edt.stale_of (edt_calls s past t)
 stale_stays s past (Call by home c a w) t run legal is_made on =
-    stale_new (is_new c a t) (edt_step by c a t (edt_calls s past t)) (edt_calls s past t) (made_old s past by c a t legal.on_parts.value is_made) (stale_step by c a t (edt_calls s past t))
+    stale_new (is_new c a t) (edt_step by c a t (edt_calls s past t)) (edt_calls s past t) (edt_not_new s past by home c a w t legal.on_parts is_made) (stale_step by c a t (edt_calls s past t))
 stale_stays s past (Acquire u d) t run legal is_made on = elim (u == t) as (λ b. (u == t) ≡ b → edt.stale_of (if b then edt.Acquired d ∷ awake (with_plan (plan_of s past t) (edt_calls s past t)) else edt_calls s past t) ≡ edt.stale_of (edt_calls s past t)) [
   | true ↦ λ here. absurd (not_going past u t on (goes_on s past u _ run legal.on_facts legal.on_parts.next) here)
   | false ↦ λ _. refl

@@ -17,7 +17,7 @@ use Rattle.ocr_history.specs.Made.{Made, MadeBlock, MadeEdt, made, creator_in, i
 use Rattle.ocr_parts.specs.declared.loans.Kept.{Kept}
 use Rattle.ocr_parts.specs.declared.part.Part.{Part}
 use Rattle.ocr_parts.specs.declared.part.Part.TheVariants as part
-use Rattle.ocr_parts.specs.Calls.{asks_in, slots_now, plan_of, with_plan, edt_calls, loans_of, link_calls, block_calls, event_calls, mode_next, next_member, open_slots}
+use Rattle.ocr_parts.specs.Calls.{asks_in, slots_now, plan_of, with_plan, edt_calls, loans_of, link_calls, block_calls, event_calls, mode_next, next_member, open_slots, scope_calls}
 use Rattle.ocr_parts.specs.Parts.{Parts, face, core, identity_of, parts_of}
 use Rattle.ocr_parts.specs.Kinds.{IsBlock, is_block, on_core, progress_in, core_progress, next_in, is_acquiring, is_acquiring_edt}
 use Rattle.ocr_parts.specs.Effects.{with_phase, made_ready, ready_at, next_on, next_mode_on}
@@ -41,6 +41,7 @@ use Rattle.ocr_standing.proofs.Own.{goes_on, not_started}
 use Rattle.ocr_standing.proofs.Planned.{planned_law, ready_is}
 use Rattle.std.specs.List.{filter}
 use Rattle.ocr_guid.specs.Target.{EventCall}
+use Rattle.ocr_finish.specs.Scope.{ScopeCall}
 
 -- WHAT COMES NEXT, by the calls of the EDT and by its core
 phase_rest : (i : Identity) (one : edt.EdtCall) (rest : List edt.EdtCall) (p : Progress) → progress_in (edt.edt_of i (one ∷ rest)) ≡ Some p → p.rest ≡ edt.undone_of (one ∷ rest)
@@ -54,13 +55,13 @@ progress_rest i (one ∷ rest) p is = phase_rest i one rest p is
 next_by : (o : Option Progress) (p : Progress) (rest : List (ℕ × Mode)) → o ≡ Some p → p.rest ≡ rest → next_in o ≡ first_of rest
 next_by o p rest is same = ap next_in is ∙ ap first_of same
 
-next_core : (m : Option Made) (t : ℕ) (members : List (ℕ × Mode)) (calls : List edt.EdtCall) (loans : List (ℕ × Kept)) (p : Progress)
-    → core_progress (on_core (core m t calls loans) (with_phase (made_ready members))) ≡ Some p
-    → next_in (core_progress (on_core (core m t calls loans) (with_phase (made_ready members)))) ≡ first_of (edt.undone_of (with_plan members calls))
-next_core (Some (MadeEdt f ps n)) t members calls loans p is =
-    next_by (progress_in (made_ready members (edt.edt_of (identity_of t) calls))) p (edt.undone_of (with_plan members calls)) is
-    (progress_rest (identity_of t) (with_plan members calls) p (ap progress_in (ready_calls (identity_of t) members calls) ∙ is))
-next_core other t members calls loans p is = cc is
+next_core : (m : Option Made) (i : Identity) (members : List (ℕ × Mode)) (calls : List edt.EdtCall) (loans : List (ℕ × Kept)) (p : Progress)
+    → core_progress (on_core (core m i calls loans) (with_phase (made_ready members))) ≡ Some p
+    → next_in (core_progress (on_core (core m i calls loans) (with_phase (made_ready members)))) ≡ first_of (edt.undone_of (with_plan members calls))
+next_core (Some (MadeEdt f ps n)) i members calls loans p is =
+    next_by (progress_in (made_ready members (edt.edt_of i calls))) p (edt.undone_of (with_plan members calls)) is
+    (progress_rest i (with_plan members calls) p (ap progress_in (ready_calls i members calls) ∙ is))
+next_core other i members calls loans p is = cc is
 
 undone_ready : (members : List (ℕ × Mode)) (calls : List edt.EdtCall) → edt.undone_of (with_plan members calls) ≡ filter (λ (member : ℕ × Mode). is_undone calls member) (edt.plan_given (with_plan members calls))
 undone_ready members [] = refl
@@ -88,10 +89,10 @@ awake : (s : Setting) (past : History) (t : ℕ) → IsRun s past → is_edt pas
 awake s past t run is_one off =
     let members : List (ℕ × Mode) = plan_of s past t in
     let below : nat_lt 1 (mark ((parts_of s past).core t)).0 ≡ false = sym (told_law s past run t).has_started ∙ off in
-    let comes = coming (made s past t) t (edt_calls s past t) (loans_of s past t) members (edts_law s past run t ∙ is_one) (below_ready members ((parts_of s past).core t) below) in
+    let comes = coming (made s past t) (identity_of past t) (edt_calls s past t) (loans_of s past t) members (edts_law s past run t ∙ is_one) (below_ready members ((parts_of s past).core t) below) in
     subst (IsAwake s past t) (sym (ready_core s past t)) (record {
       comes = comes;
-      next = next_core (made s past t) t members (edt_calls s past t) (loans_of s past t) comes.progress comes.is;
+      next = next_core (made s past t) (identity_of past t) members (edt_calls s past t) (loans_of s past t) comes.progress comes.is;
     })
 
 pub next_law : NextLaw
@@ -107,16 +108,16 @@ empty_queue d t [] x is = refl
 empty_queue true t (one ∷ rest) x is = cc is
 empty_queue false t (one ∷ rest) x is = cc is
 
-available : (md : Option Made) (links : List slot.SlotCall) (blocks : List block.BlockCall) (events : List EventCall) (t : ℕ) (m : Mode) → is_null m ≡ false
+available : (md : Option Made) (links : List slot.SlotCall) (blocks : List block.BlockCall) (events : List EventCall) (scopes : List ScopeCall) (t : ℕ) (m : Mode) → is_null m ≡ false
     → ((k : Mode) → block.can_grant (block.is_destroyed blocks) (block.line_of (creator_in md) blocks) k ≡ true → block.borrower_of blocks ≡ None)
     → (is_some (mode_in t (block.holders_of (creator_in md) blocks)) ≡ true → block.borrower_of blocks ≡ None)
-    → ((k : Mode) → mode_in t (standing (face md links blocks events)) ≡ Some k → k ≡ m)
-    → IsAvailable (face md links blocks events) t m → IsBlock (face md links blocks events) (IsTaken t m)
-available (Some (MadeBlock n c)) links blocks events t m used free awaited own (inl held) =
+    → ((k : Mode) → mode_in t (standing (face md links blocks events scopes)) ≡ Some k → k ≡ m)
+    → IsAvailable (face md links blocks events scopes) t m → IsBlock (face md links blocks events scopes) (IsTaken t m)
+available (Some (MadeBlock n c)) links blocks events scopes t m used free awaited own (inl held) =
     let found = some_mode (mode_in t (block.holders_of c blocks)) held in
     let same : found.0 ≡ m = own found.0 (in_front t (block.holders_of c blocks) (block.queue_of c blocks) found.0 found.1) in
     record { fit = inl (found.1 ∙ ap (λ (j : Mode). Some j) same); not_lent = awaited held }
-available (Some (MadeBlock n c)) links blocks events t m used free awaited own (inr can) = elim (mode_in t (block.holders_of c blocks)) as (λ o. mode_in t (block.holders_of c blocks) ≡ o → IsTaken t m (block.state_of n c blocks)) [
+available (Some (MadeBlock n c)) links blocks events scopes t m used free awaited own (inr can) = elim (mode_in t (block.holders_of c blocks)) as (λ o. mode_in t (block.holders_of c blocks) ≡ o → IsTaken t m (block.state_of n c blocks)) [
   | Some k ↦ λ held.
       let same : k ≡ m = own k (in_front t (block.holders_of c blocks) (block.queue_of c blocks) k held) in
       record { fit = inl (held ∙ ap (λ (j : Mode). Some j) same); not_lent = free m can }
@@ -125,7 +126,7 @@ available (Some (MadeBlock n c)) links blocks events t m used free awaited own (
     not_lent = free m can;
   }
 ] refl
-available other links blocks events t m used free awaited own avail = elim avail [ inl is ↦ cc is | inr is ↦ cc is ]
+available other links blocks events scopes t m used free awaited own avail = elim avail [ inl is ↦ cc is | inr is ↦ cc is ]
 
 none_front : (t : ℕ) (xs ys : List (ℕ × Mode)) → mode_in t (xs ++ ys) ≡ None → mode_in t xs ≡ None
 none_front t xs ys is = elim (mode_in t xs) as (λ o. mode_in t xs ≡ o → o ≡ None) [
@@ -146,13 +147,13 @@ gone_block (part.Block st) is = is
 gone_block other is = cc is
 
 -- WHO GOES ON was made
-made_going : (m : Option Made) (t : ℕ) (members : List (ℕ × Mode)) (calls : List edt.EdtCall) (loans : List (ℕ × Kept)) (y : ℕ × Mode) → next_in (core_progress (on_core (core m t calls loans) (with_phase (made_ready members)))) ≡ Some y → is_edt_made m ≡ true
-made_going (Some (MadeEdt f ps n)) t members calls loans y is = refl
-made_going other t members calls loans y is = cc is
+made_going : (m : Option Made) (i : Identity) (members : List (ℕ × Mode)) (calls : List edt.EdtCall) (loans : List (ℕ × Kept)) (y : ℕ × Mode) → next_in (core_progress (on_core (core m i calls loans) (with_phase (made_ready members)))) ≡ Some y → is_edt_made m ≡ true
+made_going (Some (MadeEdt f ps n)) i members calls loans y is = refl
+made_going other i members calls loans y is = cc is
 
-made_acquiring : (m : Option Made) (t : ℕ) (members : List (ℕ × Mode)) (calls : List edt.EdtCall) (loans : List (ℕ × Kept)) → is_acquiring (on_core (core m t calls loans) (with_phase (made_ready members))) ≡ true → is_edt_made m ≡ true
-made_acquiring (Some (MadeEdt f ps n)) t members calls loans is = refl
-made_acquiring other t members calls loans is = cc is
+made_acquiring : (m : Option Made) (i : Identity) (members : List (ℕ × Mode)) (calls : List edt.EdtCall) (loans : List (ℕ × Kept)) → is_acquiring (on_core (core m i calls loans) (with_phase (made_ready members))) ≡ true → is_edt_made m ≡ true
+made_acquiring (Some (MadeEdt f ps n)) i members calls loans is = refl
+made_acquiring other i members calls loans is = cc is
 
 -- FROM THE PLAIN WORDS
 pub record IsNow (s : Setting) (past : History) (t d : ℕ) (m : Mode) (f : Parts) : Type 0 where
@@ -191,7 +192,7 @@ now s past t d m run ready = now_by s past t d m run ready.ready.made ready.read
 -- BY TESTS of the parts
 pub now_next : (s : Setting) (past : History) (t d : ℕ) (m : Mode) → IsRun s past → open_slots s past t ≡ [] → next_on (ready_at t (plan_of s past t) (parts_of s past)) t ≡ Some (d, m) → IsNow s past t d m (ready_at t (plan_of s past t) (parts_of s past))
 now_next s past t d m run set next =
-    let is_made : is_edt_made (made s past t) ≡ true = made_going (made s past t) t (plan_of s past t) (edt_calls s past t) (loans_of s past t) _ (ap (λ (x : Part). next_in (core_progress x)) (sym (ready_core s past t)) ∙ next) in
+    let is_made : is_edt_made (made s past t) ≡ true = made_going (made s past t) (identity_of past t) (plan_of s past t) (edt_calls s past t) (loans_of s past t) _ (ap (λ (x : Part). next_in (core_progress x)) (sym (ready_core s past t)) ∙ next) in
     let is_one : is_edt past t ≡ true = sym (edts_law s past run t) ∙ is_made in
     let off : is_started past t ≡ false = goes_on s past t _ run set next in
     now_by s past t d m run is_one off (sym (awake s past t run is_one off).next ∙ next)
@@ -207,7 +208,7 @@ acquiring_idle other is = cc is
 pub acquire_on : (s : Setting) (past : History) (t d : ℕ) (m : Mode) → IsRun s past → IsNow s past t d m (ready_at t (plan_of s past t) (parts_of s past)) → IsAvailable ((parts_of s past).face d) t m → IsOnParts s past (Acquire t d)
 acquire_on s past t d m run is avail =
     let f : Parts = ready_at t (plan_of s past t) (parts_of s past) in
-    let taken : IsBlock (f.face d) (IsTaken t m) = available (made s past d) (link_calls past d) (block_calls s past d) (event_calls s past d) t m is.facts.used (free_law s past run d).grantable (awaited_law s past run t d m is.member) is.own avail in
+    let taken : IsBlock (f.face d) (IsTaken t m) = available (made s past d) (link_calls past d) (block_calls s past d) (event_calls s past d) (scope_calls past d) t m is.facts.used (free_law s past run d).grantable (awaited_law s past run t d m is.member) is.own avail in
     record { next = is.next ∙ ap (λ (k : Mode). Some (d, k)) is.mode; taken = subst (λ (k : Mode). IsBlock (f.face d) (IsTaken t k)) is.mode taken }
 
 pub wait_on : (s : Setting) (past : History) (t d : ℕ) (m : Mode) → IsRun s past → IsNow s past t d m (ready_at t (plan_of s past t) (parts_of s past)) → is_acquiring ((ready_at t (plan_of s past t) (parts_of s past)).core t) ≡ true
@@ -231,7 +232,7 @@ acquire_from : (s : Setting) (past : History) (t d : ℕ) (m : Mode) → IsRun s
 acquire_from s past t d m run ready avail =
     let f : Parts = ready_at t (plan_of s past t) (parts_of s past) in
     let is = now s past t d m run ready in
-    let taken : IsBlock (f.face d) (IsTaken t m) = available (made s past d) (link_calls past d) (block_calls s past d) (event_calls s past d) t m is.facts.used (free_law s past run d).grantable (awaited_law s past run t d m is.member) is.own avail in
+    let taken : IsBlock (f.face d) (IsTaken t m) = available (made s past d) (link_calls past d) (block_calls s past d) (event_calls s past d) (scope_calls past d) t m is.facts.used (free_law s past run d).grantable (awaited_law s past run t d m is.member) is.own avail in
     record {
       open_run = ready.ready.open_run;
       on_parts = record { next = is.next ∙ ap (λ (k : Mode). Some (d, k)) is.mode; taken = subst (λ (k : Mode). IsBlock (f.face d) (IsTaken t k)) is.mode taken };
@@ -286,7 +287,7 @@ begin_from s past t run ready none =
 ready_for : (s : Setting) (past : History) (t d : ℕ) → IsRun s past → is_stopped past ≡ false → open_slots s past t ≡ [] → next_on (ready_at t (plan_of s past t) (parts_of s past)) t ≡ Some (d, next_mode_on (ready_at t (plan_of s past t) (parts_of s past)) t)
     → IsReadyFor s past t d (next_mode_on (ready_at t (plan_of s past t) (parts_of s past)) t)
 ready_for s past t d run going set next =
-    let is_made : is_edt_made (made s past t) ≡ true = made_going (made s past t) t (plan_of s past t) (edt_calls s past t) (loans_of s past t) _ (ap (λ (x : Part). next_in (core_progress x)) (sym (ready_core s past t)) ∙ next) in
+    let is_made : is_edt_made (made s past t) ≡ true = made_going (made s past t) (identity_of past t) (plan_of s past t) (edt_calls s past t) (loans_of s past t) _ (ap (λ (x : Part). next_in (core_progress x)) (sym (ready_core s past t)) ∙ next) in
     let is_one : is_edt past t ≡ true = sym (edts_law s past run t) ∙ is_made in
     let off : is_started past t ≡ false = goes_on s past t _ run set next in
     record { ready = record { open_run = going; made = is_one; not_started = off; all_set = set }; next = sym (next_law s past t run is_one off) ∙ next }
@@ -326,7 +327,7 @@ stale_law s past t d run = (
 
 begin_ready : (s : Setting) (past : History) (t : ℕ) → IsRun s past → IsLegal s past (Start t) → IsReady s past t
 begin_ready s past t run legal =
-    let is_made : is_edt_made (made s past t) ≡ true = made_acquiring (made s past t) t (plan_of s past t) (edt_calls s past t) (loans_of s past t) (ap is_acquiring (sym (ready_core s past t)) ∙ legal.on_parts.acquiring) in
+    let is_made : is_edt_made (made s past t) ≡ true = made_acquiring (made s past t) (identity_of past t) (plan_of s past t) (edt_calls s past t) (loans_of s past t) (ap is_acquiring (sym (ready_core s past t)) ∙ legal.on_parts.acquiring) in
     record { open_run = legal.open_run; made = sym (edts_law s past run t) ∙ is_made; not_started = not_started s past t run legal; all_set = legal.on_facts }
 
 pub begin_law : BeginLaw

@@ -16,11 +16,12 @@ use Rattle.ocr_history.specs.History.{History, Setting}
 use Rattle.ocr_history.specs.Made.{Made, MadeEdt, made, is_new, is_edt_made}
 use Rattle.ocr_parts.specs.declared.loans.Kept.{Kept}
 use Rattle.ocr_parts.specs.Calls.{open_slots, asks_in, plan_of, with_plan, awake, edt_step, edt_calls, loans_of}
-use Rattle.ocr_parts.specs.Parts.{core, parts_of}
+use Rattle.ocr_parts.specs.Parts.{core, parts_of, identity_of}
 use Rattle.ocr_parts.specs.Kinds.{is_running}
 use Rattle.ocr_parts.specs.Legal.{IsRun, IsLegal}
 use Rattle.ocr_quiet.specs.Marks.{mark_in, mark}
-use Rattle.ocr_quiet.proofs.Stages.{made_kept, told_law}
+use Rattle.ocr_quiet.proofs.Stages.{told_law}
+use Rattle.ocr_parts.proofs.Fresh.{made_old}
 use Rattle.ocr_quiet.proofs.Edts.{edts_law}
 use Rattle.ocr_standing.specs.Lasting.{IsGivenPlan, PlannedLaw}
 use Rattle.ocr_standing.proofs.Lasting.{stays_law}
@@ -44,21 +45,21 @@ ready_mark i (edt.Ready members) rest = refl
 ready_mark i (edt.Wait) rest = refl
 ready_mark i other rest = refl
 
-ready_core_mark : (m : Option Made) (t : ℕ) (one : edt.EdtCall) (rest : List edt.EdtCall) (loans : List (ℕ × Kept)) → is_edt_made m ≡ true → nat_lt 0 (mark (core m t (one ∷ rest) loans)).0 ≡ true
-ready_core_mark (Some (MadeEdt f ps n)) t one rest loans is = ready_mark _ one rest
-ready_core_mark other t one rest loans is = cc is
+ready_core_mark : (m : Option Made) (i : Identity) (one : edt.EdtCall) (rest : List edt.EdtCall) (loans : List (ℕ × Kept)) → is_edt_made m ≡ true → nat_lt 0 (mark (core m i (one ∷ rest) loans)).0 ≡ true
+ready_core_mark (Some (MadeEdt f ps n)) i one rest loans is = ready_mark _ one rest
+ready_core_mark other i one rest loans is = cc is
 
 set_ready : (s : Setting) (past : History) (t : ℕ) (one : edt.EdtCall) (rest : List edt.EdtCall) → IsRun s past → is_edt_made (made s past t) ≡ true → edt_calls s past t ≡ one ∷ rest → open_slots s past t ≡ []
 set_ready s past t one rest run is_made is =
-    (told_law s past run t).all_set (ap (λ (c : List edt.EdtCall). nat_lt 0 (mark (core (made s past t) t c (loans_of s past t))).0) is ∙ ready_core_mark (made s past t) t one rest (loans_of s past t) is_made)
+    (told_law s past run t).all_set (ap (λ (c : List edt.EdtCall). nat_lt 0 (mark (core (made s past t) (identity_of past t) c (loans_of s past t))).0) is ∙ ready_core_mark (made s past t) (identity_of past t) one rest (loans_of s past t) is_made)
 
 plan_stays : (s : Setting) (past : History) (e : Entry) (t : ℕ) → IsRun s past → IsLegal s past e → is_edt_made (made s past t) ≡ true → open_slots s past t ≡ [] → plan_of s past t ≡ plan_of s (e ∷ past) t
 plan_stays s past e t run legal is_made set = ap (λ (slots : List Slot). plan.plan_of (asks_in slots)) (sym (stays_law s past e t run legal (sym (edts_law s past run t) ∙ is_made) set))
 
 -- who calls was made ready
-bare_core : (m : Option Made) (t : ℕ) (loans : List (ℕ × Kept)) → is_running (core m t [] loans) ≡ false
-bare_core (Some (MadeEdt f ps n)) t loans = refl
-bare_core other t loans = refl
+bare_core : (m : Option Made) (i : Identity) (loans : List (ℕ × Kept)) → is_running (core m i [] loans) ≡ false
+bare_core (Some (MadeEdt f ps n)) i loans = refl
+bare_core other i loans = refl
 
 first_on : (a b : Bool) → (a && b) ≡ true → a ≡ true
 first_on true b is = refl
@@ -93,7 +94,7 @@ call_planned : (s : Setting) (past : History) (by home : ℕ) (c : body.Call) (a
     → IsGivenPlan (plan_of s past t) calls → IsGivenPlan (plan_of s (Call by home c a w ∷ past) t) (edt_step by c a t calls)
 call_planned s past by home c a w t [] is run legal is_made planned = step_empty by c a t _ (λ own.
     let running : is_running ((parts_of s past).core t) ≡ true = subst (λ (n : ℕ). is_running ((parts_of s past).core n) ≡ true) (eqb-true by t own) legal.on_parts.running in
-    let off : is_running ((parts_of s past).core t) ≡ false = ap (λ (l : List edt.EdtCall). is_running (core (made s past t) t l (loans_of s past t))) is ∙ bare_core (made s past t) t (loans_of s past t) in
+    let off : is_running ((parts_of s past).core t) ≡ false = ap (λ (l : List edt.EdtCall). is_running (core (made s past t) (identity_of past t) l (loans_of s past t))) is ∙ bare_core (made s past t) (identity_of past t) (loans_of s past t) in
     cc (running, off))
 call_planned s past by home c a w t (one ∷ rest) is run legal is_made planned =
     step_some by c a t _ one rest (planned ∙ plan_stays s past (Call by home c a w) t run legal is_made (set_ready s past t one rest run is_made is))
@@ -107,13 +108,13 @@ new_planned : (s : Setting) (past : History) (by home : ℕ) (c : body.Call) (a 
     → is_edt_made (made s (Call by home c a w ∷ past) t) ≡ true → IsGivenPlan (plan_of s (Call by home c a w ∷ past) t) (if b then [] else edt_step by c a t (edt_calls s past t))
 new_planned s past by home c a w t true is before run legal is_made = tt
 new_planned s past by home c a w t false is before run legal is_made =
-    let was : is_edt_made (made s past t) ≡ true = ap is_edt_made (sym (made_kept s past by home c a w t is)) ∙ is_made in
+    let was : is_edt_made (made s past t) ≡ true = ap is_edt_made (sym (made_old s past by home c a w t is)) ∙ is_made in
     call_planned s past by home c a w t (edt_calls s past t) refl run legal was (before was)
 
 not_bare : (s : Setting) (past : History) (u t : ℕ) → edt_calls s past t ≡ [] → is_running ((parts_of s past).core u) ≡ true → (u == t) ≡ true → ⊥
 not_bare s past u t is on own =
     let running : is_running ((parts_of s past).core t) ≡ true = subst (λ (n : ℕ). is_running ((parts_of s past).core n) ≡ true) (eqb-true u t own) on in
-    let off : is_running ((parts_of s past).core t) ≡ false = ap (λ (l : List edt.EdtCall). is_running (core (made s past t) t l (loans_of s past t))) is ∙ bare_core (made s past t) t (loans_of s past t) in
+    let off : is_running ((parts_of s past).core t) ≡ false = ap (λ (l : List edt.EdtCall). is_running (core (made s past t) (identity_of past t) l (loans_of s past t))) is ∙ bare_core (made s past t) (identity_of past t) (loans_of s past t) in
     cc (running, off)
 
 last_planned : (b : Bool) (one : edt.EdtCall) (members : List (ℕ × Mode)) (calls : List edt.EdtCall) → (calls ≡ [] → b ≡ true → ⊥) → edt.plan_given (one ∷ calls) ≡ edt.plan_given calls → IsGivenPlan members calls → IsGivenPlan members (if b then one ∷ calls else calls)

@@ -17,7 +17,7 @@ use Rattle.ocr_history.specs.declared.entry.Entry.{Entry}
 use Rattle.ocr_history.specs.declared.entry.Entry.TheVariants.{Call, Acquire, Wait, StaleAcquire, Start, Free, End}
 use Rattle.ocr_history.specs.Edts.{is_started}
 use Rattle.ocr_history.specs.History.{History, Setting, own}
-use Rattle.ocr_history.specs.Made.{Made, MadeEdt, made, is_edt_made, is_new}
+use Rattle.ocr_history.specs.Made.{makes, Made, MadeEdt, made, is_edt_made, is_new}
 use Rattle.ocr_parts.specs.declared.loans.Kept.{Kept}
 use Rattle.ocr_parts.specs.declared.part.Part.{Part}
 use Rattle.ocr_parts.specs.Bodies.{hold_of, holds_on, first_holds, body_of, says_next}
@@ -25,16 +25,18 @@ use Rattle.ocr_parts.specs.Calls.{is_holding, edt_step, edt_calls, loan_step, lo
 use Rattle.ocr_parts.specs.Kinds.{mode_on, kept_on}
 use Rattle.ocr_parts.specs.Legal.{IsRun, IsLegal}
 use Rattle.ocr_parts.specs.Loans.{without_kept, kept_created}
-use Rattle.ocr_parts.specs.Parts.{Parts, core, parts_of}
+use Rattle.ocr_parts.specs.Parts.{Parts, identity_of, core, parts_of}
 use Rattle.ocr_parts.proofs.After.{after_law}
-use Rattle.ocr_parts.proofs.Choices.{same}
+use Rattle.ocr_parts.proofs.Choices.{same, or_rest}
 use Rattle.ocr_parts.proofs.Held.{holds_law}
 use Rattle.ocr_quiet.specs.Marks.{mark}
 use Rattle.ocr_quiet.proofs.Choices.{off_from}
 use Rattle.ocr_quiet.proofs.Edts.{edts_law}
-use Rattle.ocr_quiet.proofs.Stages.{made_kept, told_law}
-use Rattle.ocr_standing.proofs.Lasting.{made_old}
+use Rattle.ocr_quiet.proofs.Stages.{told_law}
+use Rattle.ocr_standing.proofs.Lasting.{edt_not_new}
+use Rattle.ocr_parts.proofs.Fresh.{made_old}
 use Rattle.ocr_standing.proofs.Own.{started_by, not_started, not_going, goes_on, fresh_law, body_law}
+use Rattle.ocr_edt.specs.declared.Identity.{Identity}
 
 -- THE CORE of another EDT stays
 if_off : {A : Type 0} (b : Bool) (x y : A) → b ≡ false → (if b then x else y) ≡ y
@@ -56,13 +58,19 @@ loan_other by (call.DbRelease d) a t loans off = if_off _ (without_kept d loans)
 loan_other by (call.DbDestroy d) a t loans off = if_off _ (without_kept d loans) loans (and_right (is_done a.code) (by == t) off)
 loan_other by other a t loans off = refl
 
+-- who is not made anew is who it was
+identity_old : (past : History) (by home : ℕ) (c : body.Call) (a : Answer) (w : List (ℕ × ℕ)) (t : ℕ) → is_new c a t ≡ false → identity_of (Call by home c a w ∷ past) t ≡ identity_of past t
+identity_old past by home (call.EdtCreate from pc ps dc ds fl o) a w t off = if_off (makes a t) _ (identity_of past t) (or_rest _ (makes a t) off)
+identity_old past by home other a w t off = refl
+
 other_call : (s : Setting) (past : History) (by home : ℕ) (c : body.Call) (a : Answer) (w : List (ℕ × ℕ)) (t : ℕ) → IsLegal s past (Call by home c a w) → is_edt_made (made s past t) ≡ true → (by == t) ≡ false
     → (parts_of s (Call by home c a w ∷ past)).core t ≡ (parts_of s past).core t
 other_call s past by home c a w t legal is_made off =
-    let old : is_new c a t ≡ false = made_old s past by c a t legal.on_parts.value is_made in
+    let old : is_new c a t ≡ false = edt_not_new s past by home c a w t legal.on_parts is_made in
     let calls : edt_calls s (Call by home c a w ∷ past) t ≡ edt_calls s past t = if_off (is_new c a t) [] _ old ∙ edt_other by c a t (edt_calls s past t) off in
     let loans : loans_of s (Call by home c a w ∷ past) t ≡ loans_of s past t = if_off (is_new c a t) [] _ old ∙ loan_other by c a t (loans_of s past t) off in
-    λ i. core (made_kept s past by home c a w t old i) t (calls i) (loans i)
+    let named : identity_of (Call by home c a w ∷ past) t ≡ identity_of past t = identity_old past by home c a w t old in
+    λ i. core (made_old s past by home c a w t old i) (named i) (calls i) (loans i)
 
 -- WHAT A BODY HOLDS: its calls came from it, and as long as it goes on it holds, but for what it stored there, what its core does
 record IsTied (b : Body) (log : List Asked) (held : Holds) : Type 0 where
@@ -105,9 +113,9 @@ own_call s past t home c a w run legal bodies tied =
     (asked_tied (body_of s past t) (own past t) (holds_on (parts_of s past) t) c a next tied)
 
 -- THROUGH EACH ENTRY
-started_made : (m : Option Made) (t : ℕ) (calls : List edt.EdtCall) (loans : List (ℕ × Kept)) → nat_lt 1 (mark (core m t calls loans)).0 ≡ true → is_edt_made m ≡ true
-started_made (Some (MadeEdt f ps n)) t calls loans is = refl
-started_made other t calls loans is = cc is
+started_made : (m : Option Made) (i : Identity) (calls : List edt.EdtCall) (loans : List (ℕ × Kept)) → nat_lt 1 (mark (core m i calls loans)).0 ≡ true → is_edt_made m ≡ true
+started_made (Some (MadeEdt f ps n)) i calls loans is = refl
+started_made other i calls loans is = cc is
 
 apart : (past : History) (u t : ℕ) → is_started past t ≡ true → is_started past u ≡ false → (u == t) ≡ false
 apart past u t on off = off_from (u == t) (not_going past u t on off)
@@ -161,7 +169,7 @@ tied : (s : Setting) (past : History) (t : ℕ) → IsRun s past → is_started 
 tied s [] t run on = cc on
 tied s (e ∷ past) t run on = elim (is_started past t) as (λ b. is_started past t ≡ b → TiedAt s (e ∷ past) t) [
   | true ↦ λ was.
-      let is_made : is_edt_made (made s past t) ≡ true = started_made (made s past t) t (edt_calls s past t) (loans_of s past t) (sym (told_law s past run.0 t).has_started ∙ was) in
+      let is_made : is_edt_made (made s past t) ≡ true = started_made (made s past t) (identity_of past t) (edt_calls s past t) (loans_of s past t) (sym (told_law s past run.0 t).has_started ∙ was) in
       goes s past e t run.0 run.1 was is_made (body_law s past e t run.0 run.1 (sym (edts_law s past run.0 t) ∙ is_made) was) (tied s past t run.0 was)
   | false ↦ λ was. begins s past e t run.0 run.1 was on
 ] refl

@@ -1,6 +1,6 @@
 -- How often all events keep a target: an entry takes what it sends from what is kept, or from a
 -- link that it makes.
-use Rattle.std.proofs.Common.{◌≡◌, ℕ, zero, suc, ◌+◌, ◌<◌, ◌≤◌, nat_lt, List, [], ◌∷◌, ◌++◌, map, Bool, true, false, ◌==◌, ◌&&◌, not, if◌then◌else◌, Option, Some, None, refl, sym, ◌∙◌, ap, subst, arith, length}
+use Rattle.std.proofs.Common.{◌≡◌, ℕ, zero, suc, ◌+◌, ◌<◌, ◌≤◌, nat_lt, List, [], ◌∷◌, ◌++◌, map, Bool, true, false, ◌==◌, ◌||◌, ◌&&◌, not, if◌then◌else◌, Option, Some, None, refl, sym, ◌∙◌, ap, subst, arith, length}
 use Rattle.std.proofs.lemmas.Bool.{eqb-true, eqb-false, ltb-true, ltb-false, ne_eqb}
 use Rattle.ocr_guid.specs.declared.target.Target.{Target}
 use Rattle.ocr_guid.specs.declared.target.Satisfied.{Satisfied}
@@ -20,23 +20,31 @@ use Rattle.ocr_meaning.specs.declared.call.Call as body
 use Rattle.ocr_meaning.specs.declared.call.Call.TheVariants as call
 use Rattle.ocr_meaning.specs.declared.call.Answer.{Answer}
 use Rattle.ocr_history.specs.declared.entry.Entry.{Entry}
-use Rattle.ocr_history.specs.declared.entry.Entry.TheVariants.{Call, Deliver, Acquire, Wait, StaleAcquire, Start, Free}
+use Rattle.ocr_history.specs.declared.entry.Entry.TheVariants.{Call, Deliver, Acquire, Wait, StaleAcquire, Start, Free, End}
 use Rattle.ocr_history.specs.declared.entry.What.{What}
 use Rattle.ocr_history.specs.declared.entry.What.TheVariants as what
 use Rattle.ocr_history.specs.History.{History, Setting}
-use Rattle.ocr_history.specs.declared.objects.TheConstants.{ARGUMENTS, MAIN_EDT}
+use Rattle.ocr_history.specs.declared.objects.TheConstants.{ARGUMENTS, MAIN_EDT, OUTPUT_KIND, OUTPUT_FLAGS}
 use Rattle.ocr_tree.specs.Functions.{number_of_main}
-use Rattle.ocr_history.specs.Made.{Made, MadeBlock, MadeEdt}
+use Rattle.ocr_history.specs.Made.{Made, MadeBlock, MadeEdt, names_new, is_new}
 use Rattle.ocr_parts.specs.declared.part.Part.{Part}
 use Rattle.ocr_parts.specs.declared.part.Part.TheVariants as part
-use Rattle.ocr_parts.specs.Calls.{mode_named, is_given, is_object, slot_target, target_of, link_calls, block_calls, event_calls}
-use Rattle.ocr_parts.specs.Parts.{Parts, face, parts_of}
-use Rattle.ocr_parts.specs.Kinds.{with_block, with_links, with_template, with_event, is_event, is_edt_face}
-use Rattle.ocr_parts.specs.Effects.{with_face, with_core, linked_if, deps_linked, called, brought, changed, readied_on, new_face, new_core}
-use Rattle.ocr_parts.specs.Messages.{what_to, carried_by, satisfied, linked, linked_by, dep_sends, sent_by, sent_by_message, sends}
-use Rattle.ocr_parts.specs.LegalOn.{IsCallOn, IsLegalOn}
+use Rattle.ocr_parts.specs.Calls.{mode_named, is_given, is_object, slot_target, target_of, link_calls, block_calls, event_calls, scope_calls}
+use Rattle.ocr_parts.specs.Parts.{Parts, new_identity, face, parts_of}
+use Rattle.ocr_parts.specs.Kinds.{with_block, with_links, with_template, with_event, with_scope, is_event, is_edt_face, identity_on, home_on}
+use Rattle.ocr_parts.specs.Effects.{with_face, with_core, with_named, with_beside, new_scope, new_output, joins, joined, linked_if, deps_linked, called, brought, changed, readied_on, new_face, new_core}
+use Rattle.ocr_parts.specs.Messages.{what_to, carried_by, satisfied, linked, linked_by, dep_sends, sent_by, satisfy_some, leave_some, sent_if_done, sent_by_leave, sent_by_message, payload_of_end, sent_by_end, sends}
+use Rattle.ocr_parts.specs.LegalOn.{IsCallOn, IsLegalOn, last_of}
 use Rattle.ocr_parts.specs.Legal.{IsRun, IsLegal, IsOnParts}
-use Rattle.ocr_parts.proofs.After.{after_law}
+use Rattle.ocr_parts.specs.Codes.{ATemplate, wanted_sources, is_missing, is_any}
+use Rattle.ocr_parts.proofs.After.{after_law, done_is, not_missing, named_dep, unnamed_there, old_part}
+use Rattle.ocr_parts.proofs.Beside.{named_keeps, beside_is}
+use Rattle.ocr_parts.proofs.Choices.{same, or_right, or_rest}
+use Rattle.ocr_parts.proofs.Fresh.{new_fresh}
+use Rattle.ocr_edt.specs.declared.Identity.{Identity}
+use Rattle.ocr_finish.specs.Scope as scope
+use Rattle.ocr_finish.specs.declared.Leaving.{Leaving}
+use Rattle.ocr_finish.specs.declared.Leaving.TheVariants as leaving
 use Rattle.ocr_quiet.proofs.Lasting.{above_law}
 use Rattle.ocr_standing.proofs.Named.{weight, weight_append}
 
@@ -61,6 +69,10 @@ template_event : (x : Part) (step : Template → Template) → event_on (with_te
 template_event (part.Template t) step = refl
 template_event other step = refl
 
+scope_event : (x : Part) (step : scope.State → scope.State) → event_on (with_scope x step) ≡ event_on x
+scope_event (part.Scope st) step = refl
+scope_event other step = refl
+
 abbrev stepped : (AnyEvent → AnyEvent) → Option AnyEvent → Option AnyEvent
 stepped step None = None
 stepped step (Some st) = Some (step st)
@@ -83,6 +95,12 @@ faced_alike f d x same i = elim (d == i) as (λ b. (d == i) ≡ b → event_on (
   | false ↦ λ _. refl
 ] refl
 
+put_below : (n d : ℕ) (x : Part) (h : Parts) → (n ≤ d → event_on x ≡ None) → AreBelow n h → AreBelow n (with_face h d x)
+put_below n d x h none below i le = elim (d == i) as (λ b. (d == i) ≡ b → event_on (if b then x else h.face i) ≡ None) [
+  | true ↦ λ is. let e : d ≡ i = eqb-true d i is in none (omega (arith, le, e))
+  | false ↦ λ _. below i le
+] refl
+
 still_below : (n : ℕ) (f h : Parts) → AreAlike f h → AreBelow n f → AreBelow n h
 still_below n f h alike below d le = sym (alike d) ∙ below d le
 
@@ -90,12 +108,12 @@ new_event : (x : Part) (dc : ℕ) (deps : List ℕ) → event_on (new_face x dc 
 new_event (part.Template t) dc deps = refl
 new_event other dc deps = refl
 
-linked_alike : (b : Bool) (d : ℕ) (t : Target) (f h : Parts) → AreAlike f h → AreAlike (linked_if b d t f) (linked_if b d t h)
-linked_alike true d t f h alike i =
+linked_alike : (b : Bool) (d : ℕ) (t : Target) (f h : Parts) (i : ℕ) → (b ≡ true → event_on (f.face d) ≡ event_on (h.face d)) → event_on (f.face i) ≡ event_on (h.face i) → event_on ((linked_if b d t f).face i) ≡ event_on ((linked_if b d t h).face i)
+linked_alike true d t f h i here alike =
     let step : AnyEvent → AnyEvent = λ st. event.after_link st t in
-    let same : event_on (with_event (f.face d) step) ≡ event_on (with_event (h.face d) step) = with_stepped (f.face d) step ∙ (ap (stepped step) (alike d) ∙ sym (with_stepped (h.face d) step)) in
-    elim (d == i) as (λ b. event_on (if b then with_event (f.face d) step else f.face i) ≡ event_on (if b then with_event (h.face d) step else h.face i)) [ true ↦ same | false ↦ alike i ]
-linked_alike false d t f h alike i = alike i
+    let same : event_on (with_event (f.face d) step) ≡ event_on (with_event (h.face d) step) = with_stepped (f.face d) step ∙ (ap (stepped step) (here refl) ∙ sym (with_stepped (h.face d) step)) in
+    elim (d == i) as (λ b. event_on (if b then with_event (f.face d) step else f.face i) ≡ event_on (if b then with_event (h.face d) step else h.face i)) [ true ↦ same | false ↦ alike ]
+linked_alike false d t f h i here alike = alike
 
 linked_below : (b : Bool) (d : ℕ) (t : Target) (n : ℕ) (h : Parts) → AreBelow n h → AreBelow n (linked_if b d t h)
 linked_below true d t n h below i le =
@@ -105,6 +123,22 @@ linked_below true d t n h below i le =
       | false ↦ λ _. below i le
     ] refl
 linked_below false d t n h below i le = below i le
+
+-- the objects that a creation names stay as they are where the EDT and what stands beside it are made
+named_same : (limit t home from pc dc fl : ℕ) (ps ds : List ℕ) (o : Bool) (a : Answer) (w : List (ℕ × ℕ)) (h : Parts) → is_done a.code ≡ true → IsCallOn limit h t home (call.EdtCreate from pc ps dc ds fl o) a w → (y : Part) (i : ℕ) → named_dep i ds ≡ true
+    → (with_face (with_beside h (home_on (h.core t)) a) a.value y).face i ≡ h.face i
+named_same limit t home from pc dc fl ps ds o a w h on legal y i is =
+    let c : body.Call = call.EdtCreate from pc ps dc ds fl o in
+    let there : is_any is_missing h.face (wanted_sources ds) ≡ false = or_rest (is_missing ATemplate (h.face from)) _ (not_missing t h.face c (sym legal.code ∙ done_is a.code on)) in
+    let old : is_new c a i ≡ false = elim (is_new c a i) as (λ b. is_new c a i ≡ b → b ≡ false) [
+      | true ↦ λ new. let off : named_dep i ds ≡ false = unnamed_there h.face ds i there (new_fresh limit h t home c a w i legal new).vacant in absurd (cc (off, is))
+      | false ↦ λ _. refl
+    ] refl in
+    let now : is_new c a i ≡ ((names_new a.scope i || names_new a.output i) || (a.value == i)) = rw on refl in
+    old_part (a.value == i) (names_new a.scope i) (names_new a.output i) y (new_scope (home_on (h.core t)) a) new_output (h.face i) (sym now ∙ old)
+
+joined_event : (c : body.Call) (home : ℕ) (f : Parts) (i : ℕ) → event_on ((joined c home f).face i) ≡ event_on (f.face i)
+joined_event c home f i = elim (joins c home i) as (λ b. event_on (if b then with_scope (f.face i) scope.after_join else f.face i) ≡ event_on (f.face i)) [ true ↦ scope_event (f.face i) scope.after_join | false ↦ refl ]
 
 -- HOW OFTEN targets are kept, each weighed
 module _ (g : Target → ℕ) where
@@ -190,8 +224,8 @@ module _ (g : Target → ℕ) where
   entry_links (Call t home c a w) f = if is_done a.code then call_links c a f else 0
   entry_links other f = 0
 
--- WHAT IS SENT, weighed as its targets are
-module _ (f : What → ℕ) (g : Target → ℕ) (blind : (p : ℕ) (t : Target) → f (what_to (p, t)) ≡ g t) where
+-- WHAT IS SENT, weighed as its targets are; what reaches no slot of an EDT weighs nothing
+module _ (f : What → ℕ) (g : Target → ℕ) (blind : (p : ℕ) (t : Target) → f (what_to (p, t)) ≡ g t) (satisfies : (e i p : ℕ) → f (what.Satisfy e i p) ≡ 0) (leaves : (x : ℕ) → f (what.Leave x) ≡ 0) where
   sent_to : (p : ℕ) (ts : List Target) → weight f (map what_to (map (λ (t : Target). (p, t)) ts)) ≡ among g ts
   sent_to p [] = refl
   sent_to p (t ∷ ts) = let r = sent_to p ts in let b = blind p t in omega (arith, r, b)
@@ -235,25 +269,27 @@ module _ (f : What → ℕ) (g : Target → ℕ) (blind : (p : ℕ) (t : Target)
       sent_of other d t = refl
 
   -- a dependence
-  source_keeps : (b : Bool) (d : ℕ) (t : Target) (a h : Parts) (n : ℕ) → AreBelow n h → AreAlike a h → weight f (linked_by b d t a) + kept_below g (linked_if b d t h).face n ≤ kept_below g h.face n + g t
+  source_keeps : (b : Bool) (d : ℕ) (t : Target) (a h : Parts) (n : ℕ) → AreBelow n h → (b ≡ true → event_on (a.face d) ≡ event_on (h.face d)) → weight f (linked_by b d t a) + kept_below g (linked_if b d t h).face n ≤ kept_below g h.face n + g t
   source_keeps true d t a h n below alike =
-      let same : weight f (linked (a.face d) d t) ≡ weight f (linked (h.face d) d t) = ap (weight f) (like_linked (a.face d) (h.face d) d t (alike d)) in
+      let same : weight f (linked (a.face d) d t) ≡ weight f (linked (h.face d) d t) = ap (weight f) (like_linked (a.face d) (h.face d) d t (alike refl)) in
       let one = linked_keeps (h.face d) d t in
       put_step g h d (with_event (h.face d) (λ st. event.after_link st t)) n (weight f (linked (a.face d) d t)) (g t) below (omega (arith, same, one))
   source_keeps false d t a h n below alike = let b = blind d t in omega (arith, b)
 
-  dep_keeps : (b c : Bool) (d : ℕ) (t : Target) (a h : Parts) (n : ℕ) → AreBelow n h → AreAlike a h
+  dep_keeps : (b c : Bool) (d : ℕ) (t : Target) (a h : Parts) (n : ℕ) → AreBelow n h → ((b && c) ≡ true → event_on (a.face d) ≡ event_on (h.face d))
       → weight f (if b then linked_by (b && c) d t a else []) + kept_below g (linked_if (b && c) d t h).face n ≤ kept_below g h.face n + (if b then g t else 0)
   dep_keeps true c d t a h n below alike = source_keeps c d t a h n below alike
   dep_keeps false c d t a h n below alike = omega arith
 
   -- the list of a creation
-  deps_keep : (t k : ℕ) (ds : List ℕ) (a h : Parts) (n : ℕ) → AreBelow n h → AreAlike a h → weight f (dep_sends t k ds a) + kept_below g (deps_linked t k ds h).face n ≤ kept_below g h.face n + given g t k ds
+  deps_keep : (t k : ℕ) (ds : List ℕ) (a h : Parts) (n : ℕ) → AreBelow n h → ((i : ℕ) → named_dep i ds ≡ true → event_on (a.face i) ≡ event_on (h.face i))
+      → weight f (dep_sends t k ds a) + kept_below g (deps_linked t k ds h).face n ≤ kept_below g h.face n + given g t k ds
   deps_keep t k [] a h n below alike = omega arith
   deps_keep t k (d ∷ ds) a h n below alike =
       let goal : Target = slot_target t k in
-      let one = dep_keeps (is_given d) (not (d == 0)) d goal a h n below alike in
-      let r = deps_keep t (k + 1) ds (linked_if (is_object d) d goal a) (linked_if (is_object d) d goal h) n (linked_below (is_object d) d goal n h below) (linked_alike (is_object d) d goal a h alike) in
+      let here : is_object d ≡ true → event_on (a.face d) ≡ event_on (h.face d) = λ is. alike d (rw (is, same d) refl) in
+      let one = dep_keeps (is_given d) (not (d == 0)) d goal a h n below here in
+      let r = deps_keep t (k + 1) ds (linked_if (is_object d) d goal a) (linked_if (is_object d) d goal h) n (linked_below (is_object d) d goal n h below) (λ i is. linked_alike (is_object d) d goal a h i here (alike i (rw is (or_right (is_object d && (d == i)))))) in
       let s = weight_append f (if is_given d then linked_by (is_object d) d goal a else []) (dep_sends t (k + 1) ds (linked_if (is_object d) d goal a)) in
       omega (arith, one, r, s)
 
@@ -274,47 +310,89 @@ module _ (f : What → ℕ) (g : Target → ℕ) (blind : (p : ℕ) (t : Target)
   ] refl
   destroyed_keeps other = omega arith
 
+  -- what stands beside a new EDT keeps nothing
+  beside_kept : (limit n t home from pc dc fl : ℕ) (ps ds : List ℕ) (o : Bool) (a : Answer) (w : List (ℕ × ℕ)) (h : Parts) → AreBelow n h → IsCallOn limit h t home (call.EdtCreate from pc ps dc ds fl o) a w → limit < n
+      → AreBelow n (with_beside h (home_on (h.core t)) a) × (kept_below g (with_beside h (home_on (h.core t)) a).face n ≤ kept_below g h.face n)
+  beside_kept limit n t home from pc dc fl ps ds o a w h below legal room =
+      let P : Parts → Type 0 = λ k. AreBelow n k × (kept_below g k.face n ≤ kept_below g h.face n) in
+      let k : Parts = with_named h a.output new_output in
+      let one : P k = named_keeps P h a.output new_output (below, omega arith) (λ some.
+      let within = (beside_is (is_done a.code && o) limit h (last_of a) a.output legal.output some).0.within in
+      let put = new_keeps h a.output new_output n below (ap (among g) (new_targets OUTPUT_KIND OUTPUT_FLAGS 0)) in
+      (put_below n a.output new_output h (λ le. absurd (omega (arith, le, within, room))) below, omega (arith, put))) in
+      named_keeps P k a.scope (new_scope (home_on (h.core t)) a) one (λ _.
+      let put = new_keeps k a.scope (new_scope (home_on (h.core t)) a) n one.0 refl in
+      let less = one.1 in
+      (put_below n a.scope (new_scope (home_on (h.core t)) a) k (λ _. refl) one.0, omega (arith, put, less)))
+
   -- an accepted call
   called_keeps : (limit n t home : ℕ) (c : body.Call) (a : Answer) (w : List (ℕ × ℕ)) (h : Parts) → is_done a.code ≡ true → AreBelow n h → IsCallOn limit h t home c a w
-      → weight f (sent_by c a h) + kept_below g (called t c a w h).face n ≤ kept_below g h.face n + call_links g c a h
-  called_keeps limit n t home (call.DbCreate size fl) a w h on below legal = new_keeps h a.value _ n below refl
-  called_keeps limit n t home (call.DbRelease d) a w h on below legal = same_keeps h d _ n below (block_event (h.face d) _)
-  called_keeps limit n t home (call.DbDestroy d) a w h on below legal = same_keeps h d _ n below (block_event (h.face d) _)
-  called_keeps limit n t home (call.Store d k v) a w h on below legal = same_keeps h d _ n below (block_event (h.face d) _)
-  called_keeps limit n t home (call.Satisfy e p slot) a w h on below legal =
+      → limit < n → weight f (sent_by c a h) + kept_below g (called t c a w h).face n ≤ kept_below g h.face n + call_links g c a h
+  called_keeps limit n t home (call.DbCreate size fl) a w h on below legal room = new_keeps h a.value _ n below refl
+  called_keeps limit n t home (call.DbRelease d) a w h on below legal room = same_keeps h d _ n below (block_event (h.face d) _)
+  called_keeps limit n t home (call.DbDestroy d) a w h on below legal room = same_keeps h d _ n below (block_event (h.face d) _)
+  called_keeps limit n t home (call.Store d k v) a w h on below legal room = same_keeps h d _ n below (block_event (h.face d) _)
+  called_keeps limit n t home (call.Satisfy e p slot) a w h on below legal room =
       let one = satisfied_keeps (h.face e) slot p in
       put_step g h e (with_event (h.face e) (λ st. event.after_satisfy st slot p)) n (weight f (satisfied (h.face e) slot p)) 0 below (omega (arith, one))
-  called_keeps limit n t home (call.AddDependence from x i m) a w h on below legal =
+  called_keeps limit n t home (call.AddDependence from x i m) a w h on below legal room =
       let y : Part = with_links (h.face x) (λ slots. after_link slots i (mode_named m)) in
       let same : event_on y ≡ event_on (h.face x) = links_event (h.face x) _ in
       let alike : AreAlike h (with_face h x y) = faced_alike h x y (sym same) in
       let goal : Target = target_of (is_edt_face (h.face x)) x i in
-      let source = source_keeps (not (from == 0)) from goal h (with_face h x y) n (still_below n h (with_face h x y) alike below) alike in
+      let source = source_keeps (not (from == 0)) from goal h (with_face h x y) n (still_below n h (with_face h x y) alike below) (λ _. alike from) in
       let first = same_keeps h x y n below same in
       omega (arith, source, first)
-  called_keeps limit n t home (call.TemplateCreate function pc dc) a w h on below legal = new_keeps h a.value _ n below refl
-  called_keeps limit n t home (call.TemplateDestroy x) a w h on below legal = same_keeps h x _ n below (template_event (h.face x) _)
-  called_keeps limit n t home (call.EventCreate k fl) a w h on below legal = new_keeps h a.value _ n below (ap (among g) (new_targets k fl 0))
-  called_keeps limit n t home (call.EventCreateParams k fl most sats nd) a w h on below legal = new_keeps h a.value _ n below (ap (among g) (new_targets k fl most))
-  called_keeps limit n t home (call.EventDestroy e) a w h on below legal = put_keeps h e _ n below (destroyed_keeps (h.face e))
-  called_keeps limit n t home (call.EdtCreate from pc ps dc ds fl o) a w h on below legal =
+  called_keeps limit n t home (call.TemplateCreate function pc dc) a w h on below legal room = new_keeps h a.value _ n below refl
+  called_keeps limit n t home (call.TemplateDestroy x) a w h on below legal room = same_keeps h x _ n below (template_event (h.face x) _)
+  called_keeps limit n t home (call.EventCreate k fl) a w h on below legal room = new_keeps h a.value _ n below (ap (among g) (new_targets k fl 0))
+  called_keeps limit n t home (call.EventCreateParams k fl most sats nd) a w h on below legal room = new_keeps h a.value _ n below (ap (among g) (new_targets k fl most))
+  called_keeps limit n t home (call.EventDestroy e) a w h on below legal room = put_keeps h e _ n below (destroyed_keeps (h.face e))
+  called_keeps limit n t home (call.EdtCreate from pc ps dc ds fl o) a w h on below legal room =
       let y : Part = new_face (h.face from) dc ds in
       let none : event_on y ≡ None = new_event (h.face from) dc ds in
-      let alike : AreAlike h (with_face h a.value y) = faced_alike h a.value y (ap event_on (legal.value.named.fresh on).vacant ∙ sym none) in
-      let made : Parts = with_core (with_face h a.value y) a.value (new_core (h.face from) a.value ps) in
-      let deps = deps_keep a.value 0 ds h made n (still_below n h (with_face h a.value y) alike below) alike in
-      let first = new_keeps h a.value y n below (ap (kept_in g) none) in
-      omega (arith, deps, first)
-  called_keeps limit n t home other a w h on below legal = omega arith
+      let old : Parts = with_beside h (home_on (h.core t)) a in
+      let beside = beside_kept limit n t home from pc dc fl ps ds o a w h below legal room in
+      let made : Parts = with_core (with_face old a.value y) a.value (new_core (h.face from) (new_identity a.value fl a (home_on (h.core t))) ps) in
+      let deps = deps_keep a.value 0 ds h made n (put_below n a.value y old (λ _. none) beside.0) (λ i is. ap event_on (sym (named_same limit t home from pc dc fl ps ds o a w h on legal y i is))) in
+      let first = new_keeps old a.value y n beside.0 (ap (kept_in g) none) in
+      let less = beside.1 in
+      omega (arith, deps, first, less)
+  called_keeps limit n t home other a w h on below legal room = omega arith
+
+  -- WHERE A SCOPE IS LEFT, and an EDT ends, no slot of an EDT is reached
+  some_weighs : (e p : ℕ) → weight f (satisfy_some e p) ≡ 0
+  some_weighs e p = elim (e == 0) as (λ b. weight f (if b then [] else what.Satisfy e 0 p ∷ []) ≡ 0) [ true ↦ refl | false ↦ let z = satisfies e 0 p in omega (arith, z) ]
+
+  leave_weighs : (x : ℕ) → weight f (leave_some x) ≡ 0
+  leave_weighs x = elim (x == 0) as (λ b. weight f (if b then [] else what.Leave x ∷ []) ≡ 0) [ true ↦ refl | false ↦ let z = leaves x in omega (arith, z) ]
+
+  done_weighs : (l : Leaving) (st : scope.State) → weight f (sent_if_done l st) ≡ 0
+  done_weighs leaving.Alive st = refl
+  done_weighs leaving.Done st = let r = weight_append f (satisfy_some st.event 0) (leave_some st.outer) in let e = some_weighs st.event 0 in let l = leave_weighs st.outer in omega (arith, r, e, l)
+
+  left_weighs : (x : Part) → weight f (sent_by_leave x) ≡ 0
+  left_weighs (part.Scope st) = done_weighs (scope.on_leave st) st
+  left_weighs other = refl
+
+  end_weighs : (i : Identity) (p : ℕ) → weight f (sent_by_end i p) ≡ 0
+  end_weighs i p =
+      let r = weight_append f (if i.finish then [] else satisfy_some i.output p) (leave_some i.scope) in
+      let e : weight f (if i.finish then [] else satisfy_some i.output p) ≡ 0 = elim i.finish as (λ b. weight f (if b then [] else satisfy_some i.output p) ≡ 0) [ true ↦ refl | false ↦ some_weighs i.output p ] in
+      let l = leave_weighs i.scope in
+      omega (arith, r, e, l)
 
   -- EACH ENTRY
-  entry_keeps : (limit n : ℕ) (e : Entry) (h : Parts) → AreBelow n h → IsLegalOn limit h e → weight f (sends e h) + kept_below g (changed e h).face n ≤ kept_below g h.face n + entry_links g e h
-  entry_keeps limit n (Call t home c a w) h below legal =
-      elim (is_done a.code) as (λ b. is_done a.code ≡ b → weight f (if b then sent_by c a h else []) + kept_below g (if b then called t c a w h else h).face n ≤ kept_below g h.face n + (if b then call_links g c a h else 0)) [
-        | true ↦ λ on. called_keeps limit n t home c a w h on below legal
+  entry_keeps : (limit n : ℕ) (e : Entry) (h : Parts) → AreBelow n h → IsLegalOn limit h e → limit < n → weight f (sends e h) + kept_below g (changed e h).face n ≤ kept_below g h.face n + entry_links g e h
+  entry_keeps limit n (Call t home c a w) h below legal room =
+      elim (is_done a.code) as (λ b. is_done a.code ≡ b → weight f (if b then sent_by c a h else []) + kept_below g (if b then joined c home (called t c a w h) else h).face n ≤ kept_below g h.face n + (if b then call_links g c a h else 0)) [
+        | true ↦ λ on.
+            let call = called_keeps limit n t home c a w h on below legal room in
+            let same : kept_below g (joined c home (called t c a w h)).face n ≡ kept_below g (called t c a w h).face n = kept_alike g _ _ n (λ i _. joined_event c home (called t c a w h) i) in
+            omega (arith, call, same)
         | false ↦ λ _. omega arith
       ] refl
-  entry_keeps limit n (Deliver m c) h below legal =
+  entry_keeps limit n (Deliver m c) h below legal room =
       elim (is_done c) as (λ b. weight f (if b then sent_by_message m.what h else []) + kept_below g (if b then brought m.what h else h).face n ≤ kept_below g h.face n + 0) [
         | true ↦ brought_keeps m.what h n below
         | false ↦ omega arith
@@ -324,11 +402,16 @@ module _ (f : What → ℕ) (g : Target → ℕ) (blind : (p : ℕ) (t : Target)
       brought_keeps (what.Satisfy e slot p) h n below =
           let one = satisfied_keeps (h.face e) slot p in
           put_step g h e (with_event (h.face e) (λ st. event.after_satisfy st slot p)) n (weight f (satisfied (h.face e) slot p)) 0 below (omega (arith, one))
+      brought_keeps (what.Leave x) h n below =
+          let none = left_weighs (h.face x) in
+          let same = same_keeps h x _ n below (scope_event (h.face x) scope.after_leave) in
+          omega (arith, none, same)
       brought_keeps other h n below = omega arith
-  entry_keeps limit n (Acquire t d) h below legal = same_keeps h d _ n below (block_event (h.face d) _)
-  entry_keeps limit n (Wait t d) h below legal = same_keeps h d _ n below (block_event (h.face d) _)
-  entry_keeps limit n (Free t d w) h below legal = same_keeps h d _ n below (block_event (h.face d) _)
-  entry_keeps limit n other h below legal = omega arith
+  entry_keeps limit n (Acquire t d) h below legal room = same_keeps h d _ n below (block_event (h.face d) _)
+  entry_keeps limit n (Wait t d) h below legal room = same_keeps h d _ n below (block_event (h.face d) _)
+  entry_keeps limit n (Free t d w) h below legal room = same_keeps h d _ n below (block_event (h.face d) _)
+  entry_keeps limit n (End t returned) h below legal room = let none = end_weighs (identity_on (h.core t)) (payload_of_end (h.face returned) returned) in omega (arith, none)
+  entry_keeps limit n other h below legal room = omega arith
 
 -- IN A RUN no object stands from the limit on
 abbrev pub past_all : Setting → ℕ
@@ -338,12 +421,12 @@ abbrev pub kept_now : (Target → ℕ) → Setting → History → ℕ
 kept_now g s past = kept_below g (parts_of s past).face (past_all s)
 
 run_below : (s : Setting) (past : History) → IsRun s past → AreBelow (past_all s) (parts_of s past)
-run_below s past run d le = ap (λ (m : Option Made). event_on (face m (link_calls past d) (block_calls s past d) (event_calls s past d))) (above_law s past run d le)
+run_below s past run d le = ap (λ (m : Option Made). event_on (face m (link_calls past d) (block_calls s past d) (event_calls s past d) (scope_calls past d))) (above_law s past run d le)
 
 opened_none : (s : Setting) (d : ℕ) → event_on ((parts_of s []).face d) ≡ None
 opened_none s d = by_number s d (d == ARGUMENTS) (d == MAIN_EDT)
   where
-    by_number : (s : Setting) (d : ℕ) (a b : Bool) → event_on (face (if a then Some (MadeBlock (length s.args + 1) 0) else if b then Some (MadeEdt (number_of_main s.program) [] 1) else None) (link_calls [] d) (block_calls s [] d) []) ≡ None
+    by_number : (s : Setting) (d : ℕ) (a b : Bool) → event_on (face (if a then Some (MadeBlock (length s.args + 1) 0) else if b then Some (MadeEdt (number_of_main s.program) [] 1) else None) (link_calls [] d) (block_calls s [] d) [] []) ≡ None
     by_number s d true b = refl
     by_number s d false true = refl
     by_number s d false false = refl
@@ -351,15 +434,15 @@ opened_none s d = by_number s d (d == ARGUMENTS) (d == MAIN_EDT)
 pub kept_opened : (g : Target → ℕ) (s : Setting) → kept_now g s [] ≡ 0
 kept_opened g s = kept_none g (parts_of s []).face (past_all s) (opened_none s)
 
-pub run_keeps : (f : What → ℕ) (g : Target → ℕ) → ((p : ℕ) (t : Target) → f (what_to (p, t)) ≡ g t) → (s : Setting) (past : History) (e : Entry) → IsRun s past → IsLegal s past e
+pub run_keeps : (f : What → ℕ) (g : Target → ℕ) → ((p : ℕ) (t : Target) → f (what_to (p, t)) ≡ g t) → ((e i p : ℕ) → f (what.Satisfy e i p) ≡ 0) → ((x : ℕ) → f (what.Leave x) ≡ 0) → (s : Setting) (past : History) (e : Entry) → IsRun s past → IsLegal s past e
     → weight f (sends e (parts_of s past)) + kept_now g s (e ∷ past) ≤ kept_now g s past + entry_links g e (parts_of s past)
-run_keeps f g blind s past e run legal =
+run_keeps f g blind satisfies leaves s past e run legal =
     subst (λ (h : Parts). weight f (sends e (parts_of s past)) + kept_below g h.face (past_all s) ≤ kept_now g s past + entry_links g e (parts_of s past)) (sym (after_law s past e run legal))
     (by_entry e legal.on_parts)
   where
     by_entry : (e : Entry) → IsOnParts s past e → weight f (sends e (parts_of s past)) + kept_below g (changed e (readied_on s past e (parts_of s past))).face (past_all s) ≤ kept_now g s past + entry_links g e (parts_of s past)
-    by_entry (Acquire t d) on = entry_keeps f g blind s.limit (past_all s) (Acquire t d) (readied_on s past (Acquire t d) (parts_of s past)) (run_below s past run) on
-    by_entry (Wait t d) on = entry_keeps f g blind s.limit (past_all s) (Wait t d) (readied_on s past (Wait t d) (parts_of s past)) (run_below s past run) on
-    by_entry (StaleAcquire t d) on = entry_keeps f g blind s.limit (past_all s) (StaleAcquire t d) (readied_on s past (StaleAcquire t d) (parts_of s past)) (run_below s past run) on
-    by_entry (Start t) on = entry_keeps f g blind s.limit (past_all s) (Start t) (readied_on s past (Start t) (parts_of s past)) (run_below s past run) on
-    by_entry other on = entry_keeps f g blind s.limit (past_all s) other (parts_of s past) (run_below s past run) on
+    by_entry (Acquire t d) on = entry_keeps f g blind satisfies leaves s.limit (past_all s) (Acquire t d) (readied_on s past (Acquire t d) (parts_of s past)) (run_below s past run) on (omega arith)
+    by_entry (Wait t d) on = entry_keeps f g blind satisfies leaves s.limit (past_all s) (Wait t d) (readied_on s past (Wait t d) (parts_of s past)) (run_below s past run) on (omega arith)
+    by_entry (StaleAcquire t d) on = entry_keeps f g blind satisfies leaves s.limit (past_all s) (StaleAcquire t d) (readied_on s past (StaleAcquire t d) (parts_of s past)) (run_below s past run) on (omega arith)
+    by_entry (Start t) on = entry_keeps f g blind satisfies leaves s.limit (past_all s) (Start t) (readied_on s past (Start t) (parts_of s past)) (run_below s past run) on (omega arith)
+    by_entry other on = entry_keeps f g blind satisfies leaves s.limit (past_all s) other (parts_of s past) (run_below s past run) on (omega arith)

@@ -18,7 +18,7 @@ use Rattle.ocr_parts.specs.declared.loans.Kept.{Kept}
 use Rattle.ocr_parts.specs.declared.part.Part.{Part}
 use Rattle.ocr_parts.specs.declared.part.Part.TheVariants as part
 use Rattle.ocr_parts.specs.Loans.{loan_in}
-use Rattle.ocr_parts.specs.Calls.{is_number, link_calls, block_calls, event_calls}
+use Rattle.ocr_parts.specs.Calls.{is_number, link_calls, block_calls, event_calls, scope_calls}
 use Rattle.ocr_parts.specs.Parts.{face, parts_of}
 use Rattle.ocr_parts.specs.Kinds.{IsBlock, is_block, is_held_by, work_of, holds_of, mode_on, kept_on, loan_on}
 use Rattle.ocr_parts.specs.Bodies.{hold_in, hold_of}
@@ -34,6 +34,7 @@ use Rattle.ocr_standing.proofs.Entries.{exclusive_isolated}
 use Rattle.ocr_standing.proofs.Held.{mode_held, holding_law, held_law, running_core}
 use Rattle.ocr_meaning.specs.declared.call.BodyStop.TheVariants as stop
 use Rattle.ocr_datablock.specs.Lent.{Loan}
+use Rattle.ocr_finish.specs.Scope.{ScopeCall}
 
 -- WHAT THE CORE HOLDS the block has
 pub so_held : (t d : ℕ) (m : Mode) (x : Part) (k : Option Kept) → IsHeldSo t x (Some m) k → (kept : Kept) × (k ≡ Some kept) × IsBlock x (IsKeptWith t m kept)
@@ -87,9 +88,9 @@ not_lent_to n c blocks t allowed off = off_from (is_number t (block.borrower_of 
     let held : is_some (mode_in t (block.holders_of c blocks)) ≡ true = ap (λ (h : List (ℕ × Mode)). is_some (mode_in t h)) alone ∙ alone_holds t in
     cc (held, off))
 
-unheld : (md : Option Made) (links : List slot.SlotCall) (blocks : List block.BlockCall) (events : List EventCall) (t : ℕ) (o : Option Mode) (k : Option Kept) → AreAllowed (size_in md) (creator_in md) blocks
-    → is_block (face md links blocks events) ≡ true → is_held_by (face md links blocks events) t ≡ false → o ≡ None → k ≡ None → IsBlock (face md links blocks events) (IsAgreed t o (loan_in k))
-unheld (Some (MadeBlock n c)) links blocks events t o k allowed is off no_mode no_kept = record {
+unheld : (md : Option Made) (links : List slot.SlotCall) (blocks : List block.BlockCall) (events : List EventCall) (scopes : List ScopeCall) (t : ℕ) (o : Option Mode) (k : Option Kept) → AreAllowed (size_in md) (creator_in md) blocks
+    → is_block (face md links blocks events scopes) ≡ true → is_held_by (face md links blocks events scopes) t ≡ false → o ≡ None → k ≡ None → IsBlock (face md links blocks events scopes) (IsAgreed t o (loan_in k))
+unheld (Some (MadeBlock n c)) links blocks events scopes t o k allowed is off no_mode no_kept = record {
   same = no_mode ∙ sym (none_if (mode_in t (block.holders_of c blocks)) off);
   loan_back = subst (λ (j : Option Kept). IsLoanBack t (loan_in j) (block.state_of n c blocks)) (sym no_kept) (not_lent_to n c blocks t allowed off);
 }
@@ -97,7 +98,7 @@ unheld (Some (MadeBlock n c)) links blocks events t o k allowed is off no_mode n
     none_if : (p : Option Mode) → is_some p ≡ false → p ≡ None
     none_if None is = refl
     none_if (Some m) is = cc is
-unheld other links blocks events t o k allowed is off no_mode no_kept = cc is
+unheld other links blocks events scopes t o k allowed is off no_mode no_kept = cc is
 
 pub dooming_law : DoomingLaw
 dooming_law s past t d run running is =
@@ -108,7 +109,7 @@ dooming_law s past t d run running is =
       | false ↦ λ off.
           let none : mode_on y d ≡ None = none_of t d x y (mode_on y d) refl off (λ m has. let with_it = held_with s past t d m run has in kept_holder x t m with_it.0 with_it.2) in
           let none_kept : kept_on y d ≡ None = so_none t x (mode_in d (held_on y)) (kept_on y d) (ap (mode_in d) (running_core y running).0 ∙ none) ((holding_law s past run).so t d) in
-          unheld (made s past d) (link_calls past d) (block_calls s past d) (event_calls s past d) t (mode_on y d) (kept_on y d) (allowed_law s past run d) is off none none_kept
+          unheld (made s past d) (link_calls past d) (block_calls s past d) (event_calls s past d) (scope_calls past d) t (mode_on y d) (kept_on y d) (allowed_law s past run d) is off none none_kept
     ] refl
 
 -- A WORD of a block that is shared
@@ -147,15 +148,15 @@ entered_hold (Some m) (Some kept) k (inr entered) = (m, kept, refl, refl, within
 entered_hold None p k entered = elim entered [ inl never ↦ absurd never | inr never ↦ absurd never ]
 entered_hold (Some m) None k entered = elim entered [ inl never ↦ absurd never | inr never ↦ absurd never ]
 
-shared_block : (md : Option Made) (links : List slot.SlotCall) (blocks : List block.BlockCall) (events : List EventCall) (t k : ℕ) (o : Option Mode) (m : Mode) (kept : Kept)
+shared_block : (md : Option Made) (links : List slot.SlotCall) (blocks : List block.BlockCall) (events : List EventCall) (scopes : List ScopeCall) (t k : ℕ) (o : Option Mode) (m : Mode) (kept : Kept)
     → (mode_in t (block.holders_of (creator_in md) blocks) ≡ Some m → is_exclusive m ≡ false → block.borrower_of blocks ≡ None) → o ≡ Some m → IsWithin m kept.size k
-    → IsBlock (face md links blocks events) (IsKeptWith t m kept) → IsBlock (face md links blocks events) (IsShared t k o)
-shared_block (Some (MadeBlock n c)) links blocks events t k o m kept free mode_is within is = record {
+    → IsBlock (face md links blocks events scopes) (IsKeptWith t m kept) → IsBlock (face md links blocks events scopes) (IsShared t k o)
+shared_block (Some (MadeBlock n c)) links blocks events scopes t k o m kept free mode_is within is = record {
   exists = subst (λ (size : ℕ). k < size) is.size within.below;
   same = mode_is ∙ sym is.holder;
   not_lent = free is.holder (exclusive_isolated m within.shared);
 }
-shared_block other links blocks events t k o m kept free mode_is within is = absurd is
+shared_block other links blocks events scopes t k o m kept free mode_is within is = absurd is
 
 pub sharing_law : SharingLaw
 sharing_law s past t d k run entered =
@@ -163,6 +164,6 @@ sharing_law s past t d k run entered =
     let found = entered_hold (mode_on y d) (kept_on y d) k entered in
     let with_it = held_with s past t d found.0 run found.2 in
     let same_kept : found.1 ≡ with_it.0 = (let both : Some found.1 ≡ Some with_it.0 = sym found.3 ∙ with_it.1 in cc both) in
-    shared_block (made s past d) (link_calls past d) (block_calls s past d) (event_calls s past d) t k (mode_on y d) found.0 found.1
+    shared_block (made s past d) (link_calls past d) (block_calls s past d) (event_calls s past d) (scope_calls past d) t k (mode_on y d) found.0 found.1
     ((free_law s past run d).shared t found.0) found.2 found.4
     (subst (λ (kept : Kept). IsBlock ((parts_of s past).face d) (IsKeptWith t found.0 kept)) (sym same_kept) with_it.2)

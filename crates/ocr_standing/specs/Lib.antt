@@ -3,3 +3,4 @@ pub mod Lasting
 pub mod Kept
 pub mod Plain
 pub mod Found
+pub mod Members

@@ -3,6 +3,7 @@ ghost use Rattle.ocr_standing.specs.Found.{FoundLaw, UnchangedLaw};
 ghost use Rattle.ocr_standing.specs.Held.{HoldingLaw, HeldLaw, KeptFitsLaw};
 ghost use Rattle.ocr_standing.specs.Kept.{KeptLaw, BackLaw, AfterKeptLaw, UntouchedLaw, OwnCoreLaw, FilledLaw};
 ghost use Rattle.ocr_standing.specs.Lasting.{MadeLaw, SetOnceLaw, DeliveredLaw, StaysLaw, PlannedLaw, NoOwnLaw, FreshLaw, BodyLaw};
+ghost use Rattle.ocr_standing.specs.Members.{MembersLaw, LeavingLaw, JoiningLaw, FinishLaw};
 ghost use Rattle.ocr_standing.specs.Plain.{NextLaw, AcquireLaw, WaitLaw, StaleLaw, BeginLaw, FreeingLaw, DoomingLaw, SharingLaw};
 
 /// What an EDT holds is told by its core and by its blocks alike: the mode, the length and the
@@ -60,4 +61,15 @@ pub fn working_laws()
 pub fn found_laws()
     ensures found { FoundLaw }
     ensures unchanged { UnchangedLaw }
+{}
+
+/// The members of a finish scope are the EDTs whose home it is and that have not ended, the scopes
+/// in it that are not done, and one for each `Leave` that is to be delivered. So a `Leave` finds a
+/// scope with a member, the home of a running EDT can be joined by one that it makes, and once the
+/// scope is done all EDTs that were made in it, however deep, have ended.
+pub fn scope_laws()
+    ensures members { MembersLaw }
+    ensures leaving { LeavingLaw }
+    ensures joining { JoiningLaw }
+    ensures finish { FinishLaw }
 {}

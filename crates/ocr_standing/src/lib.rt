@@ -3,4 +3,6 @@
 
 mod laws;
 
-pub use laws::{found_laws, going_laws, holding_laws, kept_laws, lasting_laws, working_laws};
+pub use laws::{
+    found_laws, going_laws, holding_laws, kept_laws, lasting_laws, scope_laws, working_laws,
+};

@@ -1,4 +1,4 @@
-use Rattle.std.proofs.Common.{◌≡◌, false, refl, sym, ◌∙◌, ap, rules}
+use Rattle.std.proofs.Common.{◌≡◌, false, refl, ◌∙◌, ap, rules}
 use Rattle.ocr_guid.specs.declared.Code.TheVariants as code
 use Rattle.ocr_meaning.specs.Holds.{is_done}
 use Rattle.ocr_parts.specs.Footprint.{Covers}
@@ -12,20 +12,18 @@ use Rattle.ocr_machine.proofs.Linking.{call_sends, call_silent, message_sends, m
 use Rattle.ocr_parts.specs.Messages.{sends}
 use Rattle.ocr_machine.proofs.Places.{step_placed, step_parts, stays, call_becomes, call_stays, message_becomes, message_stays}
 use Rattle.ocr_machine.proofs.stepping.step.Goals as goal
-use Rattle.ocr_machine.proofs.stepping.step.Goals.{After-into_parts, in-Call+then-eq+in_ok-called-in-Call, in-Call+else-eq, in-Acquire+in_ok-acquire_step-in-Acquire, in-Wait+in_ok-wait_step-in-Wait, in-StaleAcquire, in-Start, in-Free+in_ok-resumed-in-Free, in-End, in-Deliver+then-eq-2+in_ok-messages-in-Deliver, in-Deliver+else-eq-2, in-Stop}
+use Rattle.ocr_machine.proofs.stepping.step.Goals.{After-into_parts, in-Call+then-eq+in_ok-called-in-Call, in-Call+else-eq, in-Acquire+in_ok-acquire_step-in-Acquire, in-Wait+in_ok-wait_step-in-Wait, in-StaleAcquire, in-Start, in-Free+in_ok-resumed-in-Free, in-End+in_ok-messages-in-End, in-Deliver+then-eq-2+in_ok-messages-in-Deliver, in-Deliver+else-eq-2, in-Stop}
 
-pub call_step-requires-clause-accepted : goal.call_step-requires-clause-accepted
-call_step-requires-clause-accepted c =
+pub call_entry-requires-clause-accepted : goal.call_entry-requires-clause-accepted
+call_entry-requires-clause-accepted c =
     let h : AtHand = record { limit = c.args.limit; items = c.args.parts.items } in
     let on : IsCallOn h.limit (state h) c.in-Call.edt c.in-Call.home c.in-Call.call c.in-Call.answer c.in-Call.writes = rw c.in-Call.is at c.requires.legal in
     let covers : Covers h.limit (Call c.in-Call.edt c.in-Call.home c.in-Call.call c.in-Call.answer c.in-Call.writes) h.items = rw c.in-Call.is at c.requires.covers in
     let done : c.in-Call.answer.code ≡ code.Done = search rules in
-    rw (c.new-taken.ensures, c.edt.view_is) (record {
-      running = on.running;
+    rw (c.new-taken.ensures, c.edt.view_is, c.home.view_is) (record {
+      legal = on;
       done = done;
-      code = sym on.code ∙ done;
-      answered = on.value;
-      made = has_made h c.in-Call.edt c.in-Call.home c.in-Call.call c.in-Call.answer c.in-Call.writes covers (ap is_done done) on.value;
+      made = has_made h c.in-Call.edt c.in-Call.home c.in-Call.call c.in-Call.answer c.in-Call.writes covers (ap is_done done) on;
     })
 
 -- what the entry does to the parts at hand
@@ -36,7 +34,7 @@ stepped c =
     elim c.match-entry.branch [
       | in-Call+then-eq+in_ok-called-in-Call w ↦
           let done : w.in-Call.answer.code ≡ code.Done = search rules in
-          rw (w.taken-is, w.in-Call.is) (call_becomes h w.call_step.new.parts w.in-Call.edt w.in-Call.home w.in-Call.call w.in-Call.answer w.in-Call.writes (ap is_done done) (rw w.edt.view_is at w.in_ok-called-in-Call.ensures.parts))
+          rw (w.taken-is, w.in-Call.is) (call_becomes h w.call_entry.new.parts w.in-Call.edt w.in-Call.home w.in-Call.call w.in-Call.answer w.in-Call.writes (ap is_done done) (rw (w.edt.view_is, w.home.view_is) at w.in_ok-called-in-Call.ensures.parts))
       | in-Call+else-eq w ↦
           let refused : is_done w.in-Call.answer.code ≡ false = search rules in
           rw (w.taken-is, w.in-Call.is) (call_stays h w.in-Call.edt w.in-Call.home w.in-Call.call w.in-Call.answer w.in-Call.writes refused)
@@ -45,7 +43,7 @@ stepped c =
       | in-StaleAcquire w ↦ rw (w.taken-is, w.in-StaleAcquire.is) (rw w.edt-in-StaleAcquire.view_is at w.pass_by.ensures)
       | in-Start w ↦ rw (w.taken-is, w.in-Start.is) (rw w.edt-in-Start.view_is at w.start_core.ensures)
       | in-Free+in_ok-resumed-in-Free w ↦ rw (w.taken-is, w.in-Free.is) (rw (w.edt-in-Free.view_is, w.block-in-Free.view_is) at w.in_ok-resumed-in-Free.ensures.parts)
-      | in-End w ↦ rw (w.taken-is, w.in-End.is) (rw w.edt-in-End.view_is at w.end_core.ensures)
+      | in-End+in_ok-messages-in-End w ↦ rw (w.taken-is, w.in-End.is) (rw w.edt-in-End.view_is at w.in_ok-messages-in-End.ensures.parts)
       | in-Deliver+then-eq-2+in_ok-messages-in-Deliver w ↦
           let done : w.in-Deliver.code ≡ code.Done = search rules in
           rw (w.taken-is, w.in-Deliver.is) (message_becomes h w.deliver_step.new.parts w.in-Deliver.message w.in-Deliver.code (ap is_done done) w.in_ok-messages-in-Deliver.ensures.parts)
@@ -77,7 +75,7 @@ told c =
       | in-StaleAcquire w ↦ rw (w.messages-is, w.in-StaleAcquire.is) c.new-messages.ensures.items
       | in-Start w ↦ rw (w.messages-is, w.in-Start.is) c.new-messages.ensures.items
       | in-Free+in_ok-resumed-in-Free w ↦ rw (w.messages-is, w.in-Free.is) c.new-messages.ensures.items
-      | in-End w ↦ rw (w.messages-is, w.in-End.is) c.new-messages.ensures.items
+      | in-End+in_ok-messages-in-End w ↦ rw (w.messages-is, w.in-End.is) (rw (w.edt-in-End.view_is, w.returned.view_is) at w.in_ok-messages-in-End.ensures.messages)
       | in-Deliver+then-eq-2+in_ok-messages-in-Deliver w ↦
           let done : w.in-Deliver.code ≡ code.Done = search rules in
           rw (w.messages-is, w.in-Deliver.is) (w.in_ok-messages-in-Deliver.ensures.messages ∙ message_sends w.in-Deliver.message w.in-Deliver.code f (ap is_done done))
