@@ -12,7 +12,7 @@ use Rattle.ocr_parts.specs.declared.part.Part.{Part}
 use Rattle.ocr_parts.specs.Parts.{Parts, parts_of}
 use Rattle.ocr_parts.specs.Kinds.{is_held_by, is_block, work_of, is_running, holds_of}
 use Rattle.ocr_parts.specs.Codes.{ABlock, is_of_other_kind, release_code, code_of}
-use Rattle.ocr_parts.specs.LegalOn.{IsAnswered, IsCallOn, IsSatisfiable, delivery_code}
+use Rattle.ocr_parts.specs.LegalOn.{IsAnswered, IsCallOn, IsSatisfiable, HasMember, delivery_code}
 use Rattle.ocr_parts.specs.Legal.{IsRun}
 use Rattle.ocr_parts.proofs.After.{accepted, done_is}
 use Rattle.ocr_machine.specs.Table.{state_in, core_on, IsOf}
@@ -52,10 +52,10 @@ answered_so limit f t (call.DbDestroy d) a is = is.1
 answered_so limit f t other a is = is
 
 pub call_on : (s : Setting) (past : History) (t home : ℕ) (c : body.Call) (a : Answer) (w : List (ℕ × ℕ)) → IsRun s past → IsCallSo s.limit (parts_of s past) t home c a → IsCallOn s.limit (parts_of s past) t home c a w
-call_on s past t home c a w run so = record { running = so.running; code = so.code; value = answered s past t c a run so.running so.code so.value; no_scope = so.no_scope; no_output = so.no_output; no_home = so.no_home }
+call_on s past t home c a w run so = record { running = so.running; code = so.code; value = answered s past t c a run so.running so.code so.value; scope = so.scope; output = so.output; at_home = so.at_home }
 
 call_so : (s : Setting) (past : History) (t home : ℕ) (c : body.Call) (a : Answer) (w : List (ℕ × ℕ)) → IsCallOn s.limit (parts_of s past) t home c a w → IsCallSo s.limit (parts_of s past) t home c a
-call_so s past t home c a w on = record { running = on.running; code = on.code; value = answered_so s.limit (parts_of s past) t c a on.value; no_scope = on.no_scope; no_output = on.no_output; no_home = on.no_home }
+call_so s past t home c a w on = record { running = on.running; code = on.code; value = answered_so s.limit (parts_of s past) t c a on.value; scope = on.scope; output = on.output; at_home = on.at_home }
 
 table_so : (s : Setting) (past : History) (table : Table) (t home : ℕ) (c : body.Call) (a : Answer) → IsOf s past table → (IsCallSo table.limit (state_in table) t home c a) ≡ (IsCallSo s.limit (parts_of s past) t home c a)
 table_so s past table t home c a of = λ i. IsCallSo (of.limit i) (of.parts i) t home c a
@@ -110,6 +110,9 @@ end_tested s past table t g of run =
 -- MESSAGES
 pub deliverable_so : (f : Parts) (e slot p : ℕ) (answer : Bool) → (answer ≡ true) ↔ IsSatisfiable slot (f.face e) → Whether answer (IsDeliverable f (what.Satisfy e slot p))
 deliverable_so f e slot p answer is = record { yes = λ on. (delivery_code (f.face e) p, (is.0 on, refl)); no = λ off can. cc (off, is.1 can.1.0) }
+
+pub leavable_so : (f : Parts) (x : ℕ) (answer : Bool) → (answer ≡ true) ↔ HasMember (f.face x) → Whether answer (IsDeliverable f (what.Leave x))
+leavable_so f x answer is = record { yes = λ on. (code.Done, (is.0 on, refl)); no = λ off can. cc (off, is.1 can.1.0) }
 
 -- by what the table answers
 pub call_answered : (s : Setting) (past : History) (table : Table) (t home : ℕ) (c : body.Call) (a : Answer) (answer : Bool) → Whether answer (IsCallSo table.limit (state_in table) t home c a) → IsOf s past table → IsRun s past

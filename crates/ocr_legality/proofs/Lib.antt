@@ -1,3 +1,4 @@
 pub mod Goes
 pub mod Calls
 pub mod Asks
+pub mod Numbers

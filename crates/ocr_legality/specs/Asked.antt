@@ -1,37 +1,53 @@
 -- What a call that comes next weighs, where some answer lets it be entered.
-use Rattle.std.specs.Prelude.{◌≡◌, ℕ, ◌+◌, ◌/◌, [], Bool, true, false, if◌then◌else◌}
+use Rattle.std.specs.Prelude.{◌≡◌, ◌↔◌, ◌≤◌, ◌<◌, ℕ, zero, suc, ◌+◌, ◌/◌, [], Bool, true, ◌==◌, if◌then◌else◌}
 use Rattle.ocr_meaning.specs.declared.call.Call as body
 use Rattle.ocr_meaning.specs.declared.call.Call.TheVariants as call
 use Rattle.ocr_meaning.specs.declared.call.Answer.{Answer}
 use Rattle.ocr_meaning.specs.Holds.{is_done}
 use Rattle.ocr_history.specs.Weight.{call_weight}
-use Rattle.ocr_parts.specs.Kinds.{IsBlock, mode_on}
+use Rattle.ocr_parts.specs.Kinds.{IsBlock, mode_on, home_on}
 use Rattle.ocr_parts.specs.Parts.{Parts}
-use Rattle.ocr_parts.specs.LegalOn.{IsFresh, IsShared, IsCallOn}
+use Rattle.ocr_parts.specs.LegalOn.{IsFresh, IsShared, IsAtHome, IsCallOn}
 
--- a number that nothing has yet
-abbrev pub HasRoom : ℕ → Parts → Type 0
-HasRoom limit f = (g : ℕ) × IsFresh limit f g
+-- so many numbers above one, in rising order, that nothing has yet
+abbrev pub HasRoomAbove : ℕ → Parts → (least count : ℕ) → Type 0
+HasRoomAbove limit f least zero = Unit {0}
+HasRoomAbove limit f least (suc count) =
+    (g : ℕ) × (least < g) × IsFresh limit f g × HasRoomAbove limit f g count
+
+abbrev pub HasRoom : ℕ → Parts → ℕ → Type 0
+HasRoom limit f count = HasRoomAbove limit f 0 count
+
+-- there are as many as this, and no more
+abbrev pub IsRoom : ℕ → Parts → ℕ → Type 0
+IsRoom limit f room = (count : ℕ) → (count ≤ room) ↔ HasRoom limit f count
+
+-- how many numbers an EDT takes, with its scope and its output event
+abbrev pub one_more : Bool → ℕ → ℕ
+one_more on count = if on then suc count else count
+
+abbrev pub edt_numbers : ℕ → Bool → ℕ
+edt_numbers flags output = suc (one_more (flags == 1) (one_more output 0))
 
 -- some answer lets it be entered, where it is accepted or not
-abbrev pub IsRoomy : Bool → Bool → Type 0
-IsRoomy room done = done ≡ true → room ≡ true
+abbrev pub IsRoomy : (room count : ℕ) → Bool → Type 0
+IsRoomy room count done = done ≡ true → count ≤ room
 
-abbrev pub HasAnswer : Parts → Bool → ℕ → body.Call → Bool → Type 0
+abbrev pub HasAnswer : Parts → ℕ → ℕ → body.Call → Bool → Type 0
 HasAnswer f room t (call.Print v) done = Unit {0}
 HasAnswer f room t (call.Load d k) done = IsBlock (f.face d) (IsShared t k (mode_on (f.core t) d))
 HasAnswer f room t (call.Store d k v) done =
     IsBlock (f.face d) (IsShared t k (mode_on (f.core t) d))
-HasAnswer f room t (call.TemplateCreate function pc dc) done = IsRoomy room done
+HasAnswer f room t (call.TemplateCreate function pc dc) done = IsRoomy room 1 done
 HasAnswer f room t (call.EdtCreate from pc params dc deps flags output) done =
-    IsRoomy room done × (output ≡ false)
-HasAnswer f room t (call.DbCreate n fl) done = IsRoomy room done
+    IsRoomy room (edt_numbers flags output) done × IsAtHome f t (home_on (f.core t)) done
+HasAnswer f room t (call.DbCreate n fl) done = IsRoomy room 1 done
 HasAnswer f room t (call.DbRelease d) done = Unit {0}
 HasAnswer f room t (call.DbDestroy d) done = Unit {0}
 HasAnswer f room t (call.TemplateDestroy x) done = Unit {0}
 HasAnswer f room t (call.AddDependence from x i m) done = Unit {0}
-HasAnswer f room t (call.EventCreate k fl) done = IsRoomy room done
-HasAnswer f room t (call.EventCreateParams k fl most sats deps) done = IsRoomy room done
+HasAnswer f room t (call.EventCreate k fl) done = IsRoomy room 1 done
+HasAnswer f room t (call.EventCreateParams k fl most sats deps) done = IsRoomy room 1 done
 HasAnswer f room t (call.EventDestroy e) done = Unit {0}
 HasAnswer f room t (call.Satisfy e p slot) done = Unit {0}
 HasAnswer f room t other done = ⊥
@@ -51,4 +67,4 @@ weight_with c count a = call_weight c a + (if is_done a.code then count else 0)
 -- some answer lets it be entered with this weight
 abbrev pub CanWeigh : ℕ → Parts → ℕ → body.Call → ℕ → ℕ → Type 0
 CanWeigh limit f t c count weight =
-    (a : Answer) × IsCallOn limit f t 0 c a [] × (weight_with c count a ≡ weight)
+    (home : ℕ) × (a : Answer) × IsCallOn limit f t home c a [] × (weight_with c count a ≡ weight)

@@ -17,7 +17,7 @@ use Rattle.ocr_meaning.specs.declared.call.Call.TheVariants as call
 use Rattle.ocr_meaning.specs.declared.call.Answer.{Answer}
 use Rattle.ocr_parts.specs.Kinds.{is_held_by, is_running}
 use Rattle.ocr_parts.specs.Codes.{code_of}
-use Rattle.ocr_parts.specs.LegalOn.{IsAnswered, IsDeliverOn}
+use Rattle.ocr_parts.specs.LegalOn.{IsAnswered, IsScoped, HasOutput, IsHome, IsDeliverOn}
 use Rattle.ocr_parts.specs.Parts.{Parts}
 use Rattle.ocr_parts.specs.Legal.{IsOnParts, AreFacts}
 use Rattle.ocr_quiet.specs.Waits.{is_gone_on}
@@ -90,6 +90,6 @@ pub record IsCallSo (limit : ℕ) (f : Parts) (t home : ℕ) (c : body.Call) (a 
   pub running : is_running (f.core t) ≡ true
   pub code : a.code ≡ code_of t f.face c
   pub value : AnswersSo limit f t c a
-  pub no_scope : a.scope ≡ 0
-  pub no_output : a.output ≡ 0
-  pub no_home : home ≡ 0
+  pub scope : IsScoped limit f c a
+  pub output : HasOutput limit f c a
+  pub at_home : IsHome f t home c a

@@ -2,43 +2,67 @@
 ghost use Rattle.std.specs.Prelude.{◌≡◌, ◌≤◌, ◌+◌, ℕ, [], true, false};
 ghost use Rattle.ocr_history.specs.History.{Setting, History};
 ghost use Rattle.ocr_meaning.specs.Holds.{is_done};
-ghost use Rattle.ocr_parts.specs.Kinds.{is_running};
+ghost use Rattle.ocr_parts.specs.Kinds.{is_running, home_on};
 ghost use Rattle.ocr_parts.specs.Codes.{code_of};
+ghost use Rattle.ocr_parts.specs.LegalOn.{IsAtHome};
 ghost use Rattle.ocr_parts.specs.Legal.{IsRun};
 ghost use Rattle.ocr_parts.specs.Parts.{parts_of};
 ghost use Rattle.ocr_machine.specs.Table.{state_in, face_on, core_on, IsOf};
 ghost use Rattle.ocr_legality.specs.Tests.{Whether};
-ghost use Rattle.ocr_legality.specs.Asked.{HasRoom, HasAnswer, CanWeigh, weighs, weighs_by};
+ghost use Rattle.ocr_legality.specs.Asked.{IsRoom, IsRoomy, HasAnswer, CanWeigh, weighs, weighs_by, edt_numbers};
 
-use crate::calling::{is_fresh, is_shared};
+use crate::calling::{is_at_home, is_fresh, is_shared};
 use crate::going::both;
 use crate::tests_of::is_running;
 use ocr_guid::{Code, Guid};
 use ocr_machine::Table;
 use ocr_meaning::Call;
 
-fn finds_fresh(table: &Table) -> bool
-    ensures { Whether result (HasRoom table.now.limit (state_in table.now)) }
+fn count_fresh(table: &Table) -> u64
+    ensures { IsRoom table.now.limit (state_in table.now) result }
 {
+    let mut room = 0;
     let mut n = table.limit;
     while n > 0 {
         if is_fresh(table, n) {
-            return true;
+            room += 1;
         }
         n -= 1;
     }
-    false
+    room
 }
 
-/// Whether a number is left for an object that is made.
-pub fn has_room(table: &Table) -> bool
+/// How many numbers are left for objects that are made.
+pub fn room(table: &Table) -> u64
     ensures { (s : Setting) (past : History) → IsOf s past table.now
-        → Whether result (HasRoom s.limit (parts_of s past)) }
+        → IsRoom s.limit (parts_of s past) result }
 {
-    finds_fresh(table)
+    count_fresh(table)
 }
 
-fn has_answer(table: &Table, room: bool, edt: Guid, call: &Call, done: bool) -> bool
+/// How many numbers an EDT takes, with its scope and its output event.
+fn edt_numbers(flags: u64, output: bool) -> u64
+    ensures { result ≡ edt_numbers flags output }
+{
+    let mut count = 1;
+    if flags == 1 {
+        count += 1;
+    }
+    if output {
+        count += 1;
+    }
+    count
+}
+
+/// Whether an EDT can be made: numbers are left, and it can join its home.
+fn may_make(table: &Table, room: u64, edt: Guid, count: u64, done: bool) -> bool
+    ensures { Whether result (IsRoomy room count done
+        × IsAtHome (state_in table.now) edt (home_on (core_on table.now edt)) done) }
+{
+    (!done || count <= room) && is_at_home(table, edt, table.home(edt), done)
+}
+
+fn has_answer(table: &Table, room: u64, edt: Guid, call: &Call, done: bool) -> bool
     ensures { Whether result (HasAnswer (state_in table.now) room edt call.now done) }
 {
     match call {
@@ -49,23 +73,23 @@ fn has_answer(table: &Table, room: bool, edt: Guid, call: &Call, done: bool) -> 
             word,
             value: _,
         } => is_shared(table, edt, *block, *word),
-        Call::TemplateCreate { .. } => !done || room,
-        Call::DbCreate { .. } => !done || room,
+        Call::TemplateCreate { .. } => !done || room >= 1,
+        Call::DbCreate { .. } => !done || room >= 1,
         Call::EdtCreate {
             template: _,
             paramc: _,
             params: _,
             depc: _,
             deps: _,
-            flags: _,
+            flags,
             output,
-        } => (!done || room) && !*output,
+        } => may_make(table, room, edt, edt_numbers(*flags, *output), done),
         Call::DbRelease { .. } => true,
         Call::DbDestroy { .. } => true,
         Call::TemplateDestroy { .. } => true,
         Call::AddDependence { .. } => true,
-        Call::EventCreate { .. } => !done || room,
-        Call::EventCreateParams { .. } => !done || room,
+        Call::EventCreate { .. } => !done || room >= 1,
+        Call::EventCreateParams { .. } => !done || room >= 1,
         Call::EventDestroy { .. } => true,
         Call::Satisfy { .. } => true,
         Call::Shutdown => false,
@@ -73,7 +97,7 @@ fn has_answer(table: &Table, room: bool, edt: Guid, call: &Call, done: bool) -> 
     }
 }
 
-fn may_ask(table: &Table, room: bool, edt: u64, call: &Call, done: bool) -> bool
+fn may_ask(table: &Table, room: u64, edt: u64, call: &Call, done: bool) -> bool
     ensures { Whether result ((is_running (core_on table.now edt) ≡ true)
         × HasAnswer (state_in table.now) room edt call.now done) }
 {
@@ -110,18 +134,11 @@ fn weighs_so(call: &Call, done: bool, count: usize, weight: u64) -> bool
 }
 
 /// Whether the EDT runs and some answer lets the call be entered with this weight. The room tells
-/// whether a number is left for an object; a call that is accepted may end a hold of so many
+/// how many numbers are left for objects; a call that is accepted may end a hold of so many
 /// private writes.
-pub fn can_weigh(
-    table: &Table,
-    room: bool,
-    edt: u64,
-    call: &Call,
-    count: usize,
-    weight: u64,
-) -> bool
+pub fn can_weigh(table: &Table, room: u64, edt: u64, call: &Call, count: usize, weight: u64) -> bool
     ensures { (s : Setting) (past : History) → IsOf s past table.now → IsRun s past
-        → Whether room (HasRoom s.limit (parts_of s past))
+        → IsRoom s.limit (parts_of s past) room
         → Whether result (CanWeigh s.limit (parts_of s past) edt call.now count weight) }
 {
     let done = accepts(table, edt, call);

@@ -2,7 +2,7 @@
 ghost use Rattle.std.specs.Prelude.{◌≡◌, ℕ, [], true, false};
 ghost use Rattle.ocr_meaning.specs.Holds.{is_done};
 ghost use Rattle.ocr_parts.specs.Kinds.{IsBlock, mode_on};
-ghost use Rattle.ocr_parts.specs.LegalOn.{IsNamed, IsFresh, IsShared, IsLoaded};
+ghost use Rattle.ocr_parts.specs.LegalOn.{IsNamed, IsFresh, IsShared, IsLoaded, IsBeside, IsScoped, HasOutput, IsAtHome, IsHome, last_of};
 ghost use Rattle.ocr_parts.specs.declared.part.Part.TheVariants as part;
 ghost use Rattle.ocr_machine.specs.Table.{state_in, face_on, core_on};
 ghost use Rattle.ocr_legality.specs.Tests.{Whether, AnswersSo, IsCallSo};
@@ -61,6 +61,7 @@ pub(crate) fn is_shared(table: &Table, edt: Guid, block: u64, word: u64) -> bool
         Some(Part::Edt(_)) => false,
         Some(Part::Template(_)) => false,
         Some(Part::Event(_)) => false,
+        Some(Part::Scope(_)) => false,
         None => false,
     }
 }
@@ -83,6 +84,7 @@ fn is_loaded(table: &Table, edt: Guid, block: u64, word: u64, value: u64) -> boo
         Some(Part::Edt(_)) => false,
         Some(Part::Template(_)) => false,
         Some(Part::Event(_)) => false,
+        Some(Part::Scope(_)) => false,
         None => false,
     }
 }
@@ -102,15 +104,7 @@ fn answers(table: &Table, edt: Guid, call: &Call, answer: &Answer) -> bool
         } => is_shared(table, edt, *block, *word) && answer.value == 0,
         Call::TemplateCreate { .. } => is_named(table, answer),
         Call::DbCreate { .. } => is_named(table, answer),
-        Call::EdtCreate {
-            template: _,
-            paramc: _,
-            params: _,
-            depc: _,
-            deps: _,
-            flags: _,
-            output,
-        } => is_named(table, answer) && has_new_core(table, answer) && !*output,
+        Call::EdtCreate { .. } => is_named(table, answer) && has_new_core(table, answer),
         Call::DbRelease { .. } => answer.value == answer.code.number(),
         Call::DbDestroy { .. } => answer.value == answer.code.number(),
         Call::TemplateDestroy { .. } => answer.value == answer.code.number(),
@@ -124,6 +118,85 @@ fn answers(table: &Table, edt: Guid, call: &Call, answer: &Answer) -> bool
     }
 }
 
+/// Whether an object is made beside another, where one is to be: at a fresh number above it.
+fn is_beside(table: &Table, on: bool, other: u64, number: u64) -> bool
+    ensures { Whether result (IsBeside on table.now.limit (state_in table.now) other number) }
+{
+    if on {
+        is_fresh(table, number) && other < number
+    } else {
+        number == 0
+    }
+}
+
+/// Whether a finish EDT that is made has its scope, and no other.
+fn is_scoped(table: &Table, call: &Call, answer: &Answer) -> bool
+    ensures { Whether result (IsScoped table.now.limit (state_in table.now) call.now answer.now) }
+{
+    match call {
+        Call::EdtCreate {
+            template: _,
+            paramc: _,
+            params: _,
+            depc: _,
+            deps: _,
+            flags,
+            output: _,
+        } => {
+            let on = answer.code == Code::Done && *flags == 1;
+            is_beside(table, on, answer.value, answer.scope.0)
+        }
+        _ => answer.scope == Guid::NULL,
+    }
+}
+
+fn last_of(answer: &Answer) -> u64
+    ensures { result ≡ last_of answer.now }
+{
+    if answer.scope == Guid::NULL {
+        answer.value
+    } else {
+        answer.scope.0
+    }
+}
+
+/// Whether an EDT that is made has its output event, where one was asked for.
+fn has_output(table: &Table, call: &Call, answer: &Answer) -> bool
+    ensures { Whether result (HasOutput table.now.limit (state_in table.now) call.now answer.now) }
+{
+    match call {
+        Call::EdtCreate {
+            template: _,
+            paramc: _,
+            params: _,
+            depc: _,
+            deps: _,
+            flags: _,
+            output,
+        } => {
+            let on = answer.code == Code::Done && *output;
+            is_beside(table, on, last_of(answer), answer.output.0)
+        }
+        _ => answer.output == Guid::NULL,
+    }
+}
+
+/// Whether this is the home of the EDT, and one that is made can join it.
+pub(crate) fn is_at_home(table: &Table, edt: Guid, home: Guid, done: bool) -> bool
+    ensures { Whether result (IsAtHome (state_in table.now) edt home done) }
+{
+    home == table.home(edt) && (!done || home == Guid::NULL || table.is_joinable(home))
+}
+
+fn is_home(table: &Table, edt: Guid, home: Guid, call: &Call, answer: &Answer) -> bool
+    ensures { Whether result (IsHome (state_in table.now) edt home call.now answer.now) }
+{
+    match call {
+        Call::EdtCreate { .. } => is_at_home(table, edt, home, answer.code == Code::Done),
+        _ => home == Guid::NULL,
+    }
+}
+
 /// Whether the EDT may make the call, and it is answered so, but for the hold that it ends.
 pub(crate) fn is_call_so(table: &Table, edt: Guid, home: Guid, call: &Call, answer: &Answer) -> bool
     ensures { Whether result (IsCallSo table.now.limit
@@ -132,7 +205,7 @@ pub(crate) fn is_call_so(table: &Table, edt: Guid, home: Guid, call: &Call, answ
     is_running(table, edt.0)
         && answer.code == table.decide(edt, call)
         && answers(table, edt, call, answer)
-        && answer.scope == Guid::NULL
-        && answer.output == Guid::NULL
-        && home == Guid::NULL
+        && is_scoped(table, call, answer)
+        && has_output(table, call, answer)
+        && is_home(table, edt, home, call, answer)
 }

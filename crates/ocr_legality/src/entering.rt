@@ -125,7 +125,7 @@ fn may_deliver(table: &Table, message: &Message, said: Code) -> bool
             slot,
             payload,
         } => may_satisfy(table, event, slot, payload, said),
-        What::Leave { .. } => false,
+        What::Leave { scope } => table.has_member(scope) && said == Code::Done,
     }
 }
 
@@ -140,7 +140,7 @@ pub fn can_deliver(table: &Table, message: What) -> bool
             slot,
             payload: _,
         } => table.is_satisfiable(event, slot),
-        What::Leave { .. } => false,
+        What::Leave { scope } => table.has_member(scope),
     }
 }
 

@@ -8,6 +8,6 @@ mod entering;
 mod going;
 mod tests_of;
 
-pub use asking::{can_weigh, has_room};
+pub use asking::{can_weigh, room};
 pub use entering::{can_deliver, can_wake, is_legal};
 pub use tests_of::{is_running, least_held};

@@ -31,6 +31,7 @@ pub fn is_running(table: &Table, edt: u64) -> bool
         Some(Part::Block(_)) => false,
         Some(Part::Template(_)) => false,
         Some(Part::Event(_)) => false,
+        Some(Part::Scope(_)) => false,
         None => false,
     }
 }
@@ -52,6 +53,7 @@ pub fn least_held(table: &Table, edt: u64) -> Option<Guid>
         Some(Part::Block(_)) => None,
         Some(Part::Template(_)) => None,
         Some(Part::Event(_)) => None,
+        Some(Part::Scope(_)) => None,
         None => None,
     }
 }
@@ -73,6 +75,7 @@ pub(crate) fn begins(table: &Table, edt: u64) -> bool
         Some(Part::Block(_)) => false,
         Some(Part::Template(_)) => false,
         Some(Part::Event(_)) => false,
+        Some(Part::Scope(_)) => false,
         None => false,
     }
 }
@@ -100,6 +103,7 @@ fn opens(table: &Table, block: u64, mode: Mode) -> bool
         Some(Part::Edt(_)) => false,
         Some(Part::Template(_)) => false,
         Some(Part::Event(_)) => false,
+        Some(Part::Scope(_)) => false,
         None => false,
     }
 }
@@ -115,6 +119,7 @@ pub(crate) fn shuts(table: &Table, block: u64, mode: Mode) -> bool
         Some(Part::Edt(_)) => false,
         Some(Part::Template(_)) => false,
         Some(Part::Event(_)) => false,
+        Some(Part::Scope(_)) => false,
         None => false,
     }
 }
@@ -130,6 +135,7 @@ pub(crate) fn is_gone(table: &Table, block: u64) -> bool
         Some(Part::Edt(_)) => false,
         Some(Part::Template(_)) => false,
         Some(Part::Event(_)) => false,
+        Some(Part::Scope(_)) => false,
         None => false,
     }
 }
@@ -145,6 +151,7 @@ pub(crate) fn is_held(table: &Table, block: u64, edt: Guid) -> bool
         Some(Part::Edt(_)) => false,
         Some(Part::Template(_)) => false,
         Some(Part::Event(_)) => false,
+        Some(Part::Scope(_)) => false,
         None => false,
     }
 }
@@ -167,6 +174,7 @@ pub(crate) fn has_no_face(table: &Table, object: u64) -> bool
         Some(Part::Block(_)) => false,
         Some(Part::Template(_)) => false,
         Some(Part::Event(_)) => false,
+        Some(Part::Scope(_)) => false,
         None => true,
     }
 }
@@ -182,6 +190,7 @@ pub(crate) fn has_no_core(table: &Table, edt: u64) -> bool
         Some(Part::Block(_)) => true,
         Some(Part::Template(_)) => true,
         Some(Part::Event(_)) => true,
+        Some(Part::Scope(_)) => true,
         None => true,
     }
 }
@@ -203,6 +212,7 @@ pub(crate) fn mode_at(table: &Table, edt: Guid, block: u64) -> Option<Mode>
         Some(Part::Block(_)) => None,
         Some(Part::Template(_)) => None,
         Some(Part::Event(_)) => None,
+        Some(Part::Scope(_)) => None,
         None => None,
     }
 }

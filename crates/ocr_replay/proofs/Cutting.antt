@@ -14,16 +14,17 @@ use Rattle.ocr_parts.specs.Bodies.{says_next}
 use Rattle.ocr_parts.specs.Legal.{IsRun, IsLegal}
 use Rattle.ocr_stopping.specs.Stopping.{IsFront}
 use Rattle.ocr_edt.specs.Edt as edt
+use Rattle.ocr_edt.specs.declared.Identity.{Identity}
 use Rattle.ocr_parts.specs.declared.loans.Kept.{Kept}
 use Rattle.ocr_history.specs.History.{own}
-use Rattle.ocr_history.specs.Made.{Made, MadeBlock, MadeTemplate, MadeEvent, MadeEdt, made, is_edt_made}
+use Rattle.ocr_history.specs.Made.{Made, MadeBlock, MadeTemplate, MadeEvent, MadeScope, MadeEdt, made, is_edt_made}
 use Rattle.ocr_machine.specs.Table.{IsOf}
 use Rattle.ocr_meaning.specs.Body.{Body, says}
 use Rattle.ocr_parts.specs.Bodies.{body_of}
 use Rattle.ocr_parts.specs.Calls.{edt_calls, loans_of}
 use Rattle.ocr_parts.specs.Laws.{WithinLaw}
 use Rattle.ocr_parts.specs.Messages.{pending}
-use Rattle.ocr_parts.specs.Parts.{core}
+use Rattle.ocr_parts.specs.Parts.{core, identity_of}
 use Rattle.ocr_parts.specs.Taken.{is_within}
 use Rattle.ocr_parts.specs.declared.part.Part.TheVariants as part
 use Rattle.ocr_quiet.specs.Quiet.{ToldLaw, EdtsLaw}
@@ -105,15 +106,16 @@ within_limit limit t is = grind (arith, common_steps)
 made_within : WithinLaw → EdtsLaw → (s : Setting) (past : History) (t : ℕ) → 2 ≤ s.limit → IsRun s past → is_edt past t ≡ true → is_within s.limit t ≡ true
 made_within law edts s past t enough run there = elim (is_within s.limit t) as (λ b. is_within s.limit t ≡ b → b ≡ true) [
   | true ↦ λ _. refl
-  | false ↦ λ off. absurd (not_vacant (made s past t) t (edt_calls s past t) (loans_of s past t) (edts s past run t ∙ there) ((law s past enough run).cores t off))
+  | false ↦ λ off. absurd (not_vacant (made s past t) (identity_of past t) (edt_calls s past t) (loans_of s past t) (edts s past run t ∙ there) ((law s past enough run).cores t off))
 ] refl
   where
-    not_vacant : (m : Option Made) (t : ℕ) (calls : List edt.EdtCall) (loans : List (ℕ × Kept)) → is_edt_made m ≡ true → core m t calls loans ≡ part.Vacant → ⊥
-    not_vacant None t calls loans is vacant = cc is
-    not_vacant (Some (MadeBlock n c)) t calls loans is vacant = cc is
-    not_vacant (Some (MadeTemplate f pc dc)) t calls loans is vacant = cc is
-    not_vacant (Some (MadeEvent k fl most)) t calls loans is vacant = cc is
-    not_vacant (Some (MadeEdt f ps n)) t calls loans is vacant = cc vacant
+    not_vacant : (m : Option Made) (i : Identity) (calls : List edt.EdtCall) (loans : List (ℕ × Kept)) → is_edt_made m ≡ true → core m i calls loans ≡ part.Vacant → ⊥
+    not_vacant None i calls loans is vacant = cc is
+    not_vacant (Some (MadeBlock n c)) i calls loans is vacant = cc is
+    not_vacant (Some (MadeTemplate f pc dc)) i calls loans is vacant = cc is
+    not_vacant (Some (MadeEvent k fl most)) i calls loans is vacant = cc is
+    not_vacant (Some (MadeScope outer event)) i calls loans is vacant = cc is
+    not_vacant (Some (MadeEdt f ps n)) i calls loans is vacant = cc vacant
 
 front_told : (b : Body) (t : ℕ) (xs : List Entry) (v : Verdict) → IsVerdict b t xs (length xs) v.at v.told → IsToldAs (says b (own (history_of xs) t)) v.told
 front_told b t xs v verdict =

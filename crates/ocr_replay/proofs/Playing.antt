@@ -8,9 +8,10 @@ use Rattle.ocr_datablock.specs.Lent.{Loan, loan_of}
 use Rattle.ocr_edt.specs.Edt as edt
 use Rattle.ocr_edt.specs.declared.Edt.{Edt}
 use Rattle.ocr_edt.specs.declared.Edt.TheVariants as phase
+use Rattle.ocr_edt.specs.declared.Identity.{Identity}
 use Rattle.ocr_history.specs.Edts.{is_started, IsRunning}
 use Rattle.ocr_history.specs.History.{History, Setting, history_of, is_stopped, own}
-use Rattle.ocr_history.specs.Made.{Made, MadeBlock, MadeTemplate, MadeEvent, MadeEdt, made, is_edt, is_edt_made, function_in, params_in}
+use Rattle.ocr_history.specs.Made.{Made, MadeBlock, MadeTemplate, MadeEvent, MadeScope, MadeEdt, made, is_edt, is_edt_made, function_in, params_in}
 use Rattle.ocr_history.specs.declared.entry.Entry.{Entry}
 use Rattle.ocr_history.specs.declared.entry.Entry.TheVariants.{Call, Deliver, Start, Free, End, Stop}
 use Rattle.ocr_history.specs.declared.entry.Stop.TheVariants as by
@@ -39,7 +40,7 @@ use Rattle.ocr_parts.specs.Laws.{AfterLaw, CountedLaw}
 use Rattle.ocr_parts.specs.Legal.{IsRun, IsLegal, IsSaid, is_stop}
 use Rattle.ocr_parts.specs.LegalOn.{IsCallOn}
 use Rattle.ocr_parts.specs.Messages.{sends, delivered, pending}
-use Rattle.ocr_parts.specs.Parts.{Parts, parts_of, core}
+use Rattle.ocr_parts.specs.Parts.{Parts, parts_of, core, identity_of}
 use Rattle.ocr_parts.specs.Taken.{is_within}
 use Rattle.ocr_parts.specs.declared.loans.Kept.{Kept}
 use Rattle.ocr_parts.specs.declared.part.Core.{Core}
@@ -105,8 +106,8 @@ not_made_here b t n xs v e verdict below is here =
     (subst (λ (k : ℕ). IsUnsaid b t xs k) at unsaid e is).1
 
 formed : (limit : ℕ) (f : Parts) (t home : ℕ) (c : body.Call) (a : Answer) (w : List (ℕ × ℕ)) → IsCallOn limit f t home c a w → IsFormed c a
-formed limit f t home (call.Load d k) a w on = record { done = on.code; no_scope = on.no_scope; no_output = on.no_output }
-formed limit f t home (call.Store d k v) a w on = (record { done = on.code; no_scope = on.no_scope; no_output = on.no_output }, on.value.1)
+formed limit f t home (call.Load d k) a w on = record { done = on.code; no_scope = on.scope; no_output = on.output }
+formed limit f t home (call.Store d k v) a w on = (record { done = on.code; no_scope = on.scope; no_output = on.output }, on.value.1)
 formed limit f t home other a w on = tt
 
 pub said_call : ToldLaw → (s : Setting) (xs : List Entry) (n t home : ℕ) (c : body.Call) (a : Answer) (w : List (ℕ × ℕ)) (r : Replay) (b : Bool) → b ≡ not ((verdict_at r.verdicts.items t).at == n)
@@ -267,16 +268,17 @@ ran_before past (Start u) t no_start running = record {
 ran_before past (End u g) t no_start running = record { started = running.started; not_ended = later_or (u == t) _ running.not_ended }
 ran_before past other t no_start running = record { started = running.started; not_ended = running.not_ended }
 
-core_edt : (m : Option Made) (t : ℕ) (calls : List edt.EdtCall) (loans : List (ℕ × Kept)) → nat_lt 1 (mark (core m t calls loans)).0 ≡ true → is_edt_made m ≡ true
-core_edt None t calls loans is = cc is
-core_edt (Some (MadeBlock n c)) t calls loans is = cc is
-core_edt (Some (MadeTemplate f pc dc)) t calls loans is = cc is
-core_edt (Some (MadeEvent k fl most)) t calls loans is = cc is
-core_edt (Some (MadeEdt f ps n)) t calls loans is = refl
+core_edt : (m : Option Made) (i : Identity) (calls : List edt.EdtCall) (loans : List (ℕ × Kept)) → nat_lt 1 (mark (core m i calls loans)).0 ≡ true → is_edt_made m ≡ true
+core_edt None i calls loans is = cc is
+core_edt (Some (MadeBlock n c)) i calls loans is = cc is
+core_edt (Some (MadeTemplate f pc dc)) i calls loans is = cc is
+core_edt (Some (MadeEvent k fl most)) i calls loans is = cc is
+core_edt (Some (MadeScope outer event)) i calls loans is = cc is
+core_edt (Some (MadeEdt f ps n)) i calls loans is = refl
 
 pub running_edt : ToldLaw → EdtsLaw → (s : Setting) (past : History) (t : ℕ) → IsRun s past → IsRunning past t → is_edt past t ≡ true
 running_edt told edts s past t run running =
-    sym (edts s past run t) ∙ core_edt (made s past t) t (edt_calls s past t) (loans_of s past t) (sym (told s past run t).has_started ∙ running.started)
+    sym (edts s past run t) ∙ core_edt (made s past t) (identity_of past t) (edt_calls s past t) (loans_of s past t) (sym (told s past run t).has_started ∙ running.started)
 
 -- THE REPLAY after one entry more
 pub next_other : ToldLaw → EdtsLaw → BodyLaw → (s : Setting) (xs : List Entry) (n : ℕ) (e : Entry) (r new : Replay) → IsComing s xs n e r → IsEntered s xs (n + 1) new.table new.mail
@@ -359,26 +361,28 @@ abbrev params_of : Part → List ℕ
 params_of (part.Core c) = c.params
 params_of other = []
 
-made_function : (m : Option Made) (t : ℕ) (calls : List edt.EdtCall) (loans : List (ℕ × Kept)) → function_in m ≡ function_of (core m t calls loans)
-made_function None t calls loans = refl
-made_function (Some (MadeBlock n c)) t calls loans = refl
-made_function (Some (MadeTemplate f pc dc)) t calls loans = refl
-made_function (Some (MadeEvent k fl most)) t calls loans = refl
-made_function (Some (MadeEdt f ps n)) t calls loans = refl
+made_function : (m : Option Made) (i : Identity) (calls : List edt.EdtCall) (loans : List (ℕ × Kept)) → function_in m ≡ function_of (core m i calls loans)
+made_function None i calls loans = refl
+made_function (Some (MadeBlock n c)) i calls loans = refl
+made_function (Some (MadeTemplate f pc dc)) i calls loans = refl
+made_function (Some (MadeEvent k fl most)) i calls loans = refl
+made_function (Some (MadeScope outer event)) i calls loans = refl
+made_function (Some (MadeEdt f ps n)) i calls loans = refl
 
-made_params : (m : Option Made) (t : ℕ) (calls : List edt.EdtCall) (loans : List (ℕ × Kept)) → params_in m ≡ params_of (core m t calls loans)
-made_params None t calls loans = refl
-made_params (Some (MadeBlock n c)) t calls loans = refl
-made_params (Some (MadeTemplate f pc dc)) t calls loans = refl
-made_params (Some (MadeEvent k fl most)) t calls loans = refl
-made_params (Some (MadeEdt f ps n)) t calls loans = refl
+made_params : (m : Option Made) (i : Identity) (calls : List edt.EdtCall) (loans : List (ℕ × Kept)) → params_in m ≡ params_of (core m i calls loans)
+made_params None i calls loans = refl
+made_params (Some (MadeBlock n c)) i calls loans = refl
+made_params (Some (MadeTemplate f pc dc)) i calls loans = refl
+made_params (Some (MadeEvent k fl most)) i calls loans = refl
+made_params (Some (MadeScope outer event)) i calls loans = refl
+made_params (Some (MadeEdt f ps n)) i calls loans = refl
 
 pub body_now : (s : Setting) (past : History) (t : ℕ) (c : Core) (deps : List ℕ) → (parts_of s (Start t ∷ past)).core t ≡ part.Core c → deps ≡ depv_of s (Start t ∷ past) t
     → case_body s.program c deps ≡ body_of s (Start t ∷ past) t
 body_now s past t c deps is are =
     let p : History = Start t ∷ past in
-    let function : function_in (made s p t) ≡ c.function = made_function (made s p t) t (edt_calls s p t) (loans_of s p t) ∙ ap function_of is in
-    let params : params_in (made s p t) ≡ c.params = made_params (made s p t) t (edt_calls s p t) (loans_of s p t) ∙ ap params_of is in
+    let function : function_in (made s p t) ≡ c.function = made_function (made s p t) (identity_of p t) (edt_calls s p t) (loans_of s p t) ∙ ap function_of is in
+    let params : params_in (made s p t) ≡ c.params = made_params (made s p t) (identity_of p t) (edt_calls s p t) (loans_of s p t) ∙ ap params_of is in
     let holds : first_holds s p t ≡ core_holds c = rw (same t) (ap (λ (x : Part). λ (d : ℕ). hold_of (mode_on x d) (kept_on x d)) is) in
     rw (are, sym function, sym params, sym holds) refl
 

@@ -179,7 +179,7 @@ weight_said c a private count is = elim (is_done a.code) as (λ b. call_weight c
 ]
 
 with_writes : (limit : ℕ) (f : Parts) (t home : ℕ) (c : body.Call) (a : Answer) (v w : List (ℕ × ℕ)) → IsCallOn limit f t home c a v → IsCallOn limit f t home c a w
-with_writes limit f t home c a v w on = record { running = on.running; code = on.code; value = on.value; no_scope = on.no_scope; no_output = on.no_output; no_home = on.no_home }
+with_writes limit f t home c a v w on = record { running = on.running; code = on.code; value = on.value; scope = on.scope; output = on.output; at_home = on.at_home }
 
 end_weighed : (s : Setting) (past : History) (t weight : ℕ) (counts : List (ℕ × ℕ)) (g : ℕ) (holds : Holds) (o : Option ℕ) → IsRun s past → IsRunning past t → says_next s past t ≡ Ends g holds → ((d : ℕ) → count_in counts d ≡ length (private_in (holds d)))
     → least_of (holds_of (work_of ((parts_of s past).core t))) ≡ o → weight ≡ 1 + count_of o counts → RunsWeighed s past t weight
@@ -213,12 +213,12 @@ end_weighed s past t weight counts g holds None run runs ends counted least weig
 weigh_yes : (s : Setting) (past : History) (t weight : ℕ) (said : Told) → IsRun s past → IsRunning past t → IsToldAs (says_next s past t) said → WeighsBy s.limit (parts_of s past) t said weight → RunsWeighed s past t weight
 weigh_yes s past t weight (told.Ended counts) run runs is weighs = end_weighed s past t weight counts.items is.0 is.1 (least_of (holds_of (work_of ((parts_of s past).core t)))) run runs is.2 is.3 refl weighs
 weigh_yes s past t weight (told.Asks c count) run runs is can = (
-  Call t 0 c can.0 (carried (is_done can.0.code) is.0),
+  Call t can.0 c can.1 (carried (is_done can.1.code) is.0),
   refl,
   record {
-    weighs = weight_said c can.0 is.0 count is.2 ∙ can.2;
+    weighs = weight_said c can.1 is.0 count is.2 ∙ can.3;
     no_stop = refl;
-    on_parts = with_writes s.limit (parts_of s past) t 0 c can.0 [] (carried (is_done can.0.code) is.0) can.1;
+    on_parts = with_writes s.limit (parts_of s past) t can.0 c can.1 [] (carried (is_done can.1.code) is.0) can.2;
     on_facts = tt;
     said = (is.0, is.1, refl);
   },
@@ -244,8 +244,9 @@ call_told s past t home weight c a w (told.Stopped why) is on private next carri
 call_told s past t home weight c a w (told.Asks d count) is on private next carries weighs =
     let same = same_call (says_next s past t) c d private is.0 next is.1 in
     let here : CanWeigh s.limit (parts_of s past) t c count weight = (
+      home,
       a,
-      record { running = on.running; code = on.code; value = on.value; no_scope = on.no_scope; no_output = on.no_output; no_home = refl },
+      with_writes s.limit (parts_of s past) t home c a w [] on,
       sym (weight_said c a private count (ap (λ (p : List (ℕ × ℕ)). length p) same.1 ∙ is.2)) ∙ ap (λ (v : List (ℕ × ℕ)). call_weight c a + length v) (sym carries) ∙ weighs,
     ) in
     subst (λ (e : body.Call). CanWeigh s.limit (parts_of s past) t e count weight) same.0 here

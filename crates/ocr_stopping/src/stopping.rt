@@ -8,7 +8,7 @@ ghost use Rattle.ocr_meaning.specs.declared.call.BodyStop.{BodyStop};
 ghost use Rattle.ocr_parts.specs.Legal.{IsLegal, faulted};
 ghost use Rattle.ocr_parts.specs.Parts.{parts_of};
 ghost use Rattle.ocr_legality.specs.Tests.{Whether};
-ghost use Rattle.ocr_legality.specs.Asked.{HasRoom};
+ghost use Rattle.ocr_legality.specs.Asked.{IsRoom};
 ghost use Rattle.ocr_stopping.specs.Stopping.{IsFront, IsStopping, Creates, RunsWeighed, CouldWeigh, SomeCreates, SomeCould};
 
 use crate::delivering::mail_delivers;
@@ -17,7 +17,7 @@ use ocr_base::NoMemory;
 use ocr_guid::Guid;
 use ocr_history::{Fault, Stop};
 use ocr_judge::{Mail, Verdict};
-use ocr_legality::{can_wake, has_room, is_running};
+use ocr_legality::{can_wake, is_running, room};
 use ocr_machine::Table;
 use ocr_meaning::BodyStop;
 use std::alloc::Global;
@@ -59,10 +59,10 @@ fn creates(table: &Table, verdicts: &[Verdict], edt: u64) -> bool
 }
 
 /// Whether the EDT runs, and an entry that its body makes next could come with this weight.
-fn runs_weighed(table: &Table, room: bool, verdicts: &[Verdict], edt: u64, weight: u64) -> bool
+fn runs_weighed(table: &Table, room: u64, verdicts: &[Verdict], edt: u64, weight: u64) -> bool
     ensures { (s : Setting) (past : History) (rows : List (List (Option What)))
         → IsFront s past table.now rows verdicts.now
-        → Whether room (HasRoom s.limit (parts_of s past))
+        → IsRoom s.limit (parts_of s past) room
         → Whether result (RunsWeighed s past edt weight) }
 {
     match verdict_of(verdicts, edt) {
@@ -79,14 +79,14 @@ fn runs_weighed(table: &Table, room: bool, verdicts: &[Verdict], edt: u64, weigh
 fn could(
     alloc: Global,
     table: &Table,
-    room: bool,
+    room: u64,
     verdicts: &[Verdict],
     edt: u64,
     weight: u64,
 ) -> Result<bool, NoMemory>
     ensures { IfOk result (λ answer. (s : Setting) (past : History)
         (rows : List (List (Option What))) → IsFront s past table.now rows verdicts.now
-        → Whether room (HasRoom s.limit (parts_of s past))
+        → IsRoom s.limit (parts_of s past) room
         → Whether answer (CouldWeigh s past edt weight)) }
 {
     let wakes = can_wake(alloc, table, edt)?;
@@ -121,13 +121,13 @@ fn some_creates(table: &Table, verdicts: &[Verdict]) -> bool
 fn some_could(
     alloc: Global,
     table: &Table,
-    room: bool,
+    room: u64,
     verdicts: &[Verdict],
     weight: u64,
 ) -> Result<bool, NoMemory>
     ensures { IfOk result (λ answer. (s : Setting) (past : History)
         (rows : List (List (Option What))) → IsFront s past table.now rows verdicts.now
-        → Whether room (HasRoom s.limit (parts_of s past))
+        → IsRoom s.limit (parts_of s past) room
         → Whether answer (SomeCould s past weight)) }
 {
     let mut n = table.limit;
@@ -160,8 +160,8 @@ fn weighed(
         → IsFront s past table.now mail.now verdicts.now
         → (worker : ℕ) → Whether answer (IsLegal s past (an.Stop (by.Events worker weight)))) }
 {
-    let room = has_room(table);
-    let comes = some_could(alloc, table, room, verdicts, weight)?;
+    let left = room(table);
+    let comes = some_could(alloc, table, left, verdicts, weight)?;
     let one = is_one(weight);
     let some = mail_delivers(table, mail);
     let delivers = both(one, some);

@@ -7,7 +7,7 @@ ghost use Rattle.ocr_parts.specs.Legal.{IsRun};
 ghost use Rattle.ocr_parts.specs.Parts.{parts_of};
 ghost use Rattle.ocr_machine.specs.Table.{face_on, core_on, IsOf};
 ghost use Rattle.ocr_legality.specs.Tests.{Whether};
-ghost use Rattle.ocr_legality.specs.Asked.{HasRoom};
+ghost use Rattle.ocr_legality.specs.Asked.{IsRoom};
 ghost use Rattle.ocr_judge.specs.Holding.{count_in};
 ghost use Rattle.ocr_judge.specs.declared.judging.Told.TheVariants as told;
 ghost use Rattle.ocr_stopping.specs.Stopping.{CreatesBy, WeighsBy, count_of};
@@ -96,9 +96,9 @@ fn ends_so(table: &Table, edt: u64, counts: &[(Guid, usize)], weight: u64) -> bo
 }
 
 /// Whether an entry that the body makes next could come with this weight.
-pub(crate) fn weighs_so(table: &Table, room: bool, edt: u64, said: &Told, weight: u64) -> bool
+pub(crate) fn weighs_so(table: &Table, room: u64, edt: u64, said: &Told, weight: u64) -> bool
     ensures { (s : Setting) (past : History) → IsOf s past table.now → IsRun s past
-        → Whether room (HasRoom s.limit (parts_of s past))
+        → IsRoom s.limit (parts_of s past) room
         → Whether result (WeighsBy s.limit (parts_of s past) edt said.now weight) }
 {
     match said {
