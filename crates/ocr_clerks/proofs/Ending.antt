@@ -1,36 +1,49 @@
 -- A worker may end the run.
-use Rattle.std.proofs.Common.{◌≡◌, ◌⊎◌, ⊎_elim, inl, inr, ℕ, ◌+◌, ◌≤◌, ◌<◌, List, [], ◌∷◌, ◌++◌, length, reverse, Option, Some, None, is_some, true, false, refl, ap, sym, ◌∙◌, subst, arith}
+use Rattle.std.specs.declared.snapshot.Snapshot.{Snapshot}
+use Rattle.std.proofs.Common.{◌≡◌, ◌⊎◌, ⊎_elim, inl, inr, ℕ, zero, suc, ◌==◌, Bool, ◌≤◌, ◌<◌, List, [], ◌∷◌, ◌++◌, length, reverse, Option, Some, None, is_some, true, false, refl, ap, sym, ◌∙◌, subst, arith}
 use Rattle.std.specs.Prelude.{MatchOption}
-use Rattle.std.proofs.lemmas.List.{append-nil}
+use Rattle.std.proofs.lemmas.List.{append-nil, length-append}
+use mathlib.Core.Option.{some-injective, some-ne-none}
+use Rattle.atomic_table.proofs.Lists.{at_last}
 use Rattle.ocr_code.specs.Checked.{checked_tree}
 use Rattle.ocr_code.specs.declared.checked.Checked.{Checked}
 use Rattle.ocr_tree.specs.Runnable.{IsRunnable}
+use Rattle.ocr_meaning.specs.declared.call.Call as body
+use Rattle.ocr_meaning.specs.declared.call.Call.TheVariants as call
 use Rattle.ocr_history.specs.declared.entry.Entry.{Entry}
 use Rattle.ocr_history.specs.declared.entry.Entry.TheVariants as an
 use Rattle.ocr_history.specs.declared.entry.Stop as run
 use Rattle.ocr_history.specs.declared.entry.Stop.TheVariants as by
 use Rattle.ocr_history.specs.Weight.{weight_of}
 use Rattle.ocr_parts.specs.declared.part.Part.{Part}
-use Rattle.ocr_parts.specs.Legal.{IsStop, IsWeighed, is_stop}
+use Rattle.ocr_parts.specs.Legal.{IsCreating, IsWeighed}
 use Rattle.ocr_standing.specs.Kept.{AreKept}
 use Rattle.ocr_standing.proofs.Kept.{kept_law}
 use Rattle.ocr_parts.specs.Parts.{parts_of}
 use Rattle.ocr_parts.specs.Taken.{ArePartsOf}
-use Rattle.ocr_facts.specs.Clerks.{Knows, MayEnter, OcrTerms, OcrView, of_terms}
-use Rattle.ocr_facts.specs.Ocr.{meaning}
+use Rattle.ocr_facts.specs.Clerks.{Knows, OcrTerms, OcrView, of_terms}
+use Rattle.ocr_facts.specs.Facts.{Stands}
+use Rattle.ocr_facts.specs.Ocr.{meaning, stands}
+use Rattle.ocr_facts.specs.declared.fact.Fact.{Fact}
+use Rattle.ocr_facts.specs.declared.fact.Fact.TheVariants.{Short}
 use Rattle.ocr_facts.proofs.Entered.{fitting_parts, goes_on}
-use Rattle.ocr_facts.proofs.Runs.{run_is}
+use Rattle.ocr_facts.proofs.Runs.{reverse_snoc, run_is}
 use Rattle.ocr_turns.specs.Contract.{DrawTells, MayClose, SameHand}
-use Rattle.ocr_turns.specs.Rule.{Fits}
-use Rattle.ocr_turns.specs.Steps.{Sees, filled_by, with_drawn}
+use Rattle.ocr_turns.specs.Rule.{FactsOf, Fits}
+use Rattle.ocr_turns.specs.Steps.{filled_by, with_drawn}
 use Rattle.ocr_turns.specs.Sums.{load_of}
 use Rattle.ocr_turns.specs.declared.answers.Drawn.TheVariants as drawn
+use Rattle.ocr_clerks.specs.Drawing.{object_count, one_if}
 use Rattle.ocr_clerks.specs.Entering.{CanMake, Hand, OcrKnown}
-use Rattle.ocr_clerks.specs.Work.{AtWork, IsOwnStop, MayStopSo, OcrTable, Stays, stop_in}
+use Rattle.ocr_clerks.specs.Work.{AtWork, IsOwnStop, MayStopSo, OcrTable, Stays, stop_in, told}
 use Rattle.ocr_clerks.proofs.Going.{stays_by}
 
-pub may_close : (table : OcrTable) (p : Checked) (c : OcrKnown) (why : run.Stop) → AtWork table p c → Knows table.1 c.view (λ J. MayStopSo (of_terms table.1) (reverse J) why) → MayClose meaning table.1 c.view (an.Stop why)
-may_close table p c why work knows = record {
+-- the facts stand once the run is stopped so
+abbrev pub WillStand : OcrTerms → OcrView → run.Stop → List Fact → Type 0
+WillStand t v why fs = Knows t v (λ J. FactsOf (stands t.setting.value t.limit (J ++ an.Stop why ∷ [])) fs)
+
+pub may_close : (table : OcrTable) (p : Checked) (c : OcrKnown) (why : run.Stop) (fs : List Fact) → AtWork table p c → Knows table.1 c.view (λ J. MayStopSo (of_terms table.1) (reverse J) why) → WillStand table.1 c.view why fs → MayClose meaning table.1 c.view (an.Stop why) fs
+may_close table p c why fs work knows will = record {
   stops = refl;
   legal = λ J open_run fits. let so = knows J open_run fits in record {
     legal = record {
@@ -42,7 +55,11 @@ may_close table p c why work knows = record {
     };
     runnable = subst (λ (q : Checked). IsRunnable (checked_tree q)) (sym work.program_is) work.runnable;
   };
+  facts = will;
 }
+
+pub no_facts : (t : OcrTerms) (v : OcrView) (why : run.Stop) → WillStand t v why []
+no_facts t v why J open_run fits k f there = absurd (some-ne-none f (sym there))
 
 pub memory_stops : (t : OcrTerms) (v : OcrView) → Knows t v (λ J. MayStopSo (of_terms t) (reverse J) by.Memory)
 memory_stops t v = λ J open_run fits. record { said = tt; cause = tt }
@@ -68,7 +85,27 @@ heavy_stops t v e worker weight can is = λ J open_run fits. record {
   cause = (e, subst (λ (k : ℕ). IsWeighed (of_terms t) (reverse J) e k) (sym is) (weighed t v e can.0 can.1 can.2 J open_run fits));
 }
 
--- NO NUMBER IS LEFT
+-- NO NUMBER IS LEFT: the creation is what the run was short of, from the Stop on
+pub short_stands : (t : OcrTerms) (v : OcrView) (edt : ℕ) (c : Snapshot body.Call) → Knows t v (λ J. IsCreating (of_terms t) (reverse J) edt c.value) → WillStand t v by.Objects (Short edt c ∷ [])
+unfolding stands
+short_stands t v edt c knows J open_run fits zero f there =
+    subst (λ (g : Fact). Stands (of_terms t) (reverse (J ++ an.Stop by.Objects ∷ [])) g) (some-injective (Short edt c) f there)
+    (record { before = reverse J; stopped = reverse_snoc J (an.Stop by.Objects); creating = knows J open_run fits })
+short_stands t v edt c knows J open_run fits (suc k) f there = absurd (some-ne-none f (sym there))
+
+pub short_stops : (t : OcrTerms) (v : OcrView) (edt : ℕ) (c : body.Call) → Knows t v (λ J. IsCreating (of_terms t) (reverse J) edt c) → Knows t v (λ J. MayStopSo (of_terms t) (reverse J) by.Objects)
+short_stops t v edt c knows J open_run fits = record { said = tt; cause = (edt, c, knows J open_run fits) }
+
+-- and that it is stands last among what the clerk was told
+pub short_own : (t : OcrTerms) (worker : ℕ) (v : OcrView) (edt : ℕ) (c : Snapshot body.Call) → length v.drawn < object_count c.value → is_some v.reached ≡ true → IsOwnStop t worker (told v (Short edt c ∷ [])) by.Objects
+short_own t worker v edt c few reached = record {
+  edt = edt;
+  call = c;
+  known = (length v.facts, at_last v.facts (Short edt c) (length v.facts) refl);
+  few = few;
+  reached = reached;
+}
+
 full_fits : (t : OcrTerms) (J : List Entry) (v : OcrView) (n : ℕ) → Fits meaning t J (filled_by v n) → Fits meaning t J v
 full_fits t J v n fits = record {
   limits = fits.limits;
@@ -96,10 +133,9 @@ full_view old new n limit (Some w) at was is = (
   ap (λ (v : OcrView). is_some v.reached) is.1 ∙ subst (λ (o : Option ℕ). MatchOption o (Unit {0}) (λ _. is_some old.reached ≡ true)) (sym at) was,
 )
 
-pub full_stops : (t : OcrTerms) (old new : OcrView) (n : ℕ) → MatchOption old.full (Unit {0}) (λ _. is_some old.reached ≡ true) → MatchOption old.full (new ≡ filled_by old n) (λ w. (w ≡ n) × (new ≡ old))
-    → Knows t old (λ J. IsStop (of_terms t) (reverse J) by.Objects) → Knows t new (λ J. MayStopSo (of_terms t) (reverse J) by.Objects)
-full_stops t old new n was is knows = λ J open_run fits.
-    let r = full_view old new n 0 old.full refl was is in record { said = tt; cause = knows J open_run (r.0 t J fits) }
+pub full_knows : (t : OcrTerms) (old new : OcrView) (n : ℕ) (P : List Entry → Type 0) → MatchOption old.full (Unit {0}) (λ _. is_some old.reached ≡ true) → MatchOption old.full (new ≡ filled_by old n) (λ w. (w ≡ n) × (new ≡ old))
+    → Knows t old P → Knows t new P
+full_knows t old new n P was is knows J open_run fits = knows J open_run ((full_view old new n 0 old.full refl was is).0 t J fits)
 
 pub full_reached : (old new : OcrView) (n : ℕ) → MatchOption old.full (Unit {0}) (λ _. is_some old.reached ≡ true) → MatchOption old.full (new ≡ filled_by old n) (λ w. (w ≡ n) × (new ≡ old)) → is_some new.reached ≡ true
 full_reached old new n was is = (full_view old new n 0 old.full refl was is).1
@@ -115,12 +151,15 @@ full_stays limit old new n tells = ⊎_elim
     (λ is. stays_by old new old.view tells.1.0 is refl refl refl refl refl ([], sym (append-nil old.view.log)))
     (full_told old new n limit old.view.full refl tells.2)
 
-pub full_drawn : (old new : OcrView) (n : ℕ) → MatchOption old.full (new ≡ filled_by old n) (λ w. (w ≡ n) × (new ≡ old)) → new.drawn ≡ old.drawn
+full_drawn : (old new : OcrView) (n : ℕ) → MatchOption old.full (new ≡ filled_by old n) (λ w. (w ≡ n) × (new ≡ old)) → new.drawn ≡ old.drawn
 full_drawn old new n is = by_case old.full is
   where
     by_case : (o : Option ℕ) → MatchOption o (new ≡ filled_by old n) (λ w. (w ≡ n) × (new ≡ old)) → new.drawn ≡ old.drawn
     by_case None is = ap (λ (v : OcrView). v.drawn) is
     by_case (Some w) is = ap (λ (v : OcrView). v.drawn) is.1
+
+pub full_few : (old new : OcrView) (n count : ℕ) → MatchOption old.full (new ≡ filled_by old n) (λ w. (w ≡ n) × (new ≡ old)) → length old.drawn < count → length new.drawn < count
+full_few old new n count is few = subst (λ (ns : List ℕ). length ns < count) (sym (full_drawn old new n is)) few
 
 some_full : (o r : Option ℕ) → is_some r ≡ true → MatchOption o (Unit {0}) (λ _. is_some r ≡ true)
 some_full None r on = tt
@@ -138,7 +177,6 @@ full_work table p limit old new n work tells =
       limits = work.limits;
       program_is = work.program_is;
       runnable = work.runnable;
-      built = work.built;
       is_open = both.0 ∙ work.is_open;
       unstopped = ap (λ (l : List (ℕ × Entry)). stop_in l) both.1 ∙ work.unstopped;
       room = let a = tells.1.2.0 in let b = work.room in omega (arith, a, b);
@@ -153,19 +191,31 @@ full_work table p limit old new n work tells =
 pub drawn_stays : (old new : OcrKnown) (n : ℕ) → new.table ≡ old.table → new.view ≡ with_drawn old.view n → Stays old new
 drawn_stays old new n table is = stays_by old new (with_drawn old.view n) table is refl refl refl refl refl ([], sym (append-nil old.view.log))
 
-pub drawn_work : (table : OcrTable) (p : Checked) (old new : OcrKnown) (n : ℕ) → AtWork table p old → old.view.drawn ≡ [] → SameHand old new → new.view ≡ with_drawn old.view n → AtWork table p new
-drawn_work table p old new n work none hand is = record {
+one_most : (b : Bool) → one_if b ≤ 1
+one_most true = omega arith
+one_most false = omega arith
+
+-- a call makes at most an EDT, a scope and an output event
+count_most : (c : body.Call) → object_count c ≤ 3
+count_most (call.DbCreate n flags) = omega arith
+count_most (call.EventCreate kind flags) = omega arith
+count_most (call.EventCreateParams kind flags max sat deps) = omega arith
+count_most (call.TemplateCreate function pc dc) = omega arith
+count_most (call.EdtCreate from pc params dc deps flags output) = let a = one_most (flags == 1) in let b = one_most output in omega (arith, a, b)
+count_most other = omega arith
+
+pub drawn_work : (table : OcrTable) (p : Checked) (old new : OcrKnown) (n : ℕ) (c : body.Call) → AtWork table p old → length old.view.drawn < object_count c → SameHand old new → new.view ≡ with_drawn old.view n → AtWork table p new
+drawn_work table p old new n c work few hand is = record {
   of_table = (hand.0 ∙ work.of_table.0, ap (λ (v : OcrView). v.terms) is ∙ work.of_table.1);
   limits = work.limits;
   program_is = work.program_is;
   runnable = work.runnable;
-  built = work.built;
   is_open = ap (λ (v : OcrView). v.closed) is ∙ work.is_open;
   unstopped = ap (λ (v : OcrView). stop_in v.log) is ∙ work.unstopped;
   room = let a = hand.2.0 in let b = work.room in omega (arith, a, b);
   spare = let a = hand.2.1 in let b = work.spare in let l = ap (λ (ps : List (ℕ × Option Part)). length ps) hand.1 in omega (arith, a, b, l);
   weighs = ap (λ (v : OcrView). v.weight) is ∙ (work.weighs ∙ ap (λ (v : OcrView). load_of weight_of v.log) (sym is));
   light = let a = ap (λ (v : OcrView). v.weight) is in let b = work.light in omega (arith, a, b);
-  few = let a = ap (λ (v : OcrView). length v.drawn) is ∙ ap (λ (ns : List ℕ). length (ns ++ n ∷ [])) none in omega (arith, a);
+  few = let a = ap (λ (v : OcrView). length v.drawn) is ∙ length-append old.view.drawn (n ∷ []) in let m = count_most c in omega (arith, a, m, few);
   full = subst (λ (v : OcrView). MatchOption v.full (Unit {0}) (λ _. is_some v.reached ≡ true)) (sym is) work.full;
 }

@@ -1,27 +1,23 @@
 -- A worker gives back faces, and all that it keeps.
-use Rattle.std.proofs.Common.{◌≡◌, ◌≢◌, ℕ, zero, suc, ◌+◌, ◌-◌, ◌*◌, ◌≤◌, ◌<◌, ◌==◌, Bool, true, false, if◌then◌else◌, List, [], ◌∷◌, ◌++◌, length, take, drop, get_or, reverse, Option, Some, None, refl, ap, sym, ◌∙◌, subst, arith}
-use Rattle.std.specs.Prelude.{MatchOption, slice_index_or}
+use Rattle.std.proofs.Common.{◌≡◌, ◌≢◌, ℕ, zero, suc, ◌+◌, ◌*◌, ◌≤◌, ◌<◌, ◌==◌, Bool, true, false, List, [], ◌∷◌, ◌++◌, length, take, drop, get_or, reverse, Option, Some, None, refl, ap, sym, ◌∙◌, subst, arith}
+use Rattle.std.specs.Prelude.{MatchOption}
 use Rattle.std.specs.List.{All}
 use Rattle.std.proofs.lemmas.Bool.{eqb-true}
-use mathlib.Core.Option.{some}
-use lib.ListN.{get_elem?}
 use Rattle.ocr_code.specs.declared.checked.Checked.{Checked}
-use Rattle.ocr_history.specs.declared.entry.Entry.{Entry}
 use Rattle.ocr_parts.specs.declared.part.Core.{Core}
 use Rattle.ocr_parts.specs.declared.part.Part.{Part}
 use Rattle.ocr_parts.specs.declared.part.Part.TheVariants as part
 use Rattle.ocr_parts.specs.Taken.{is_within}
 use Rattle.ocr_quiet.specs.Waits.{awaits_in}
 use Rattle.ocr_facts.specs.Clerks.{OcrTerms, OcrView}
-use Rattle.ocr_facts.specs.Ocr.{ends, meaning, starts}
-use Rattle.ocr_turns.specs.Contract.{GiveTells, Loose, MayGive, Rests}
+use Rattle.ocr_facts.specs.Ocr.{meaning}
+use Rattle.ocr_turns.specs.Contract.{GiveTells, MayGive}
 use Rattle.ocr_turns.specs.Counting.{tied_to}
 use Rattle.ocr_turns.specs.Owing.{times}
-use Rattle.ocr_turns.specs.Rule.{Fits, RunsIn}
 use Rattle.ocr_turns.specs.Steps.{without_part}
-use Rattle.ocr_turns.specs.Sums.{as_some, find, keys, one_at, remove_at}
+use Rattle.ocr_turns.specs.Sums.{as_some, keys, one_at, remove_at}
 use Rattle.ocr_clerks.specs.Entering.{OcrKnown}
-use Rattle.ocr_clerks.specs.Work.{AtWork, HasTakenOn, KeepsFaces, KeepsLoose, OcrTable, RunsNone, RunsOnly}
+use Rattle.ocr_clerks.specs.Work.{AtWork, HasTakenOn, KeepsFaces, KeepsLoose, OcrTable, RunsOnly}
 use Rattle.ocr_clerks.proofs.Going.{Calm, work_still}
 use Rattle.ocr_clerks.proofs.Hands.{apart_is, keys_length, number_same, some_length}
 use Rattle.ocr_clerks.proofs.Seen.{face_loose}

@@ -1,7 +1,8 @@
 -- What stays of a clerk at work by each call on the table.
-use Rattle.std.proofs.Common.{◌≡◌, ◌⊎◌, inl, inr, ℕ, ◌+◌, ◌-◌, ◌≤◌, ◌<◌, ◌==◌, Bool, true, false, if◌then◌else◌, List, [], ◌∷◌, ◌++◌, length, reverse, Option, Some, None, is_some, refl, ap, sym, ◌∙◌, subst, arith}
+use Rattle.std.proofs.Common.{◌≡◌, inl, inr, ℕ, ◌+◌, ◌≤◌, ◌==◌, true, false, if◌then◌else◌, List, [], ◌∷◌, ◌++◌, length, Option, Some, None, is_some, refl, ap, sym, ◌∙◌, subst, arith}
 use Rattle.std.specs.Prelude.{MatchOption}
 use Rattle.std.proofs.lemmas.List.{append-nil, append_assoc}
+use lib.ListN.{get_elem?}
 use Rattle.std.specs.Option.{option_or}
 use Rattle.ocr_code.specs.declared.checked.Checked.{Checked}
 use Rattle.ocr_history.specs.declared.entry.Entry.{Entry}
@@ -14,13 +15,14 @@ use Rattle.ocr_parts.specs.declared.part.Part.{Part}
 use Rattle.ocr_parts.specs.Legal.{is_stop}
 use Rattle.ocr_facts.specs.Clerks.{OcrTerms, OcrView}
 use Rattle.ocr_facts.specs.Ocr.{makes, meaning}
-use Rattle.ocr_turns.specs.Contract.{ClosedBy, CommitTells, CloseTells, SameHand}
-use Rattle.ocr_turns.specs.Steps.{SeesEnd, Sees, deed, ended_by, logged, shut_by}
+use Rattle.ocr_facts.specs.declared.fact.Fact.{Fact}
+use Rattle.ocr_turns.specs.Contract.{ClosedBy, CommitTells, CloseTells}
+use Rattle.ocr_turns.specs.Steps.{SeesEnd, deed, ended_by, logged, shut_by}
 use Rattle.ocr_turns.specs.Sums.{as_some, less_all, less_one, load_of, replace, replace_all}
 use Rattle.ocr_turns.specs.declared.answers.Committed.{Committed}
 use Rattle.ocr_turns.specs.declared.answers.Committed.TheVariants as committed
 use Rattle.ocr_clerks.specs.Entering.{OcrDeed, OcrKnown}
-use Rattle.ocr_clerks.specs.Work.{AtWork, HasEnded, HasLeft, IsGone, IsOwnStop, OcrTable, Stays, stop_in, stop_of}
+use Rattle.ocr_clerks.specs.Work.{AtWork, HasLeft, IsGone, IsOwnStop, OcrTable, Stays, stop_in, stop_of, told}
 
 -- THE LOG
 pub stop_after : (log : List (ℕ × Entry)) (n : ℕ) (e : Entry) → stop_in log ≡ None → stop_in (log ++ (n, e) ∷ []) ≡ stop_of e
@@ -114,7 +116,6 @@ work_still table p old new v work same is calm room spare = record {
   limits = work.limits;
   program_is = work.program_is;
   runnable = work.runnable;
-  built = work.built;
   is_open = ap (λ (w : OcrView). w.closed) is ∙ (calm.closed ∙ work.is_open);
   unstopped = ap (λ (w : OcrView). stop_in w.log) is ∙ (ap (λ (l : List (ℕ × Entry)). stop_in l) calm.log ∙ work.unstopped);
   room = let r = work.room in omega (arith, r, room);
@@ -194,7 +195,6 @@ module _ (table : OcrTable) (p : Checked) (old mid new : OcrKnown) (e : Entry) (
         limits = work.limits;
         program_is = work.program_is;
         runnable = work.runnable;
-        built = work.built;
         is_open = ap (λ (w : OcrView). w.closed) view ∙ (ap (λ (w : OcrView). w.closed) view_is ∙ work.is_open);
         unstopped = ap (λ (w : OcrView). stop_in w.log) view ∙ (ap (λ (w : OcrView). stop_in (w.log ++ (n, e) ∷ [])) view_is ∙ (stop_after old.view.log n e work.unstopped ∙ no_stop e goes));
         room = let r = tells.5 in omega (arith, r, room);
@@ -207,13 +207,13 @@ module _ (table : OcrTable) (p : Checked) (old mid new : OcrKnown) (e : Entry) (
       }
 
 -- AN END
-own_ended : (t : OcrTerms) (worker n : ℕ) (v : OcrView) (e : Entry) (why : run.Stop) → IsOwnStop t worker v why → IsOwnStop t worker (ended_by v n e) why
-own_ended t worker n v e (by.Events w k) own = own
-own_ended t worker n v e by.Objects own = own
-own_ended t worker n v e other own = tt
+own_ended : (t : OcrTerms) (worker n : ℕ) (v : OcrView) (e : Entry) (fs : List Fact) (why : run.Stop) → IsOwnStop t worker (told v fs) why → IsOwnStop t worker (ended_by v n e fs) why
+own_ended t worker n v e fs (by.Events w k) own = own
+own_ended t worker n v e fs by.Objects own = record { edt = own.edt; call = own.call; known = own.known; few = own.few; reached = own.reached }
+own_ended t worker n v e fs other own = tt
 
-pub close_left : (table : OcrTable) (p : Checked) (worker : ℕ) (why : run.Stop) (r : Committed) (old new : OcrKnown) → AtWork table p old → IsOwnStop table.1 worker old.view why → CloseTells meaning r old new (an.Stop why) → IsGone table worker new
-close_left table p worker why (committed.At n) old new work own tells =
+pub close_left : (table : OcrTable) (p : Checked) (worker : ℕ) (why : run.Stop) (fs : List Fact) (r : Committed) (old new : OcrKnown) → AtWork table p old → IsOwnStop table.1 worker (told old.view fs) why → CloseTells meaning r old new (an.Stop why) fs → IsGone table worker new
+close_left table p worker why fs (committed.At n) old new work own tells =
     let view = tells.3 in (
       record {
         of_table = (tells.2 ∙ work.of_table.0, ap (λ (w : OcrView). w.terms) view ∙ work.of_table.1);
@@ -221,16 +221,22 @@ close_left table p worker why (committed.At n) old new work own tells =
         weighs = let w = ap (λ (w : OcrView). w.weight) view in let l = ap (λ (w : OcrView). load_of weight_of w.log) view in let a = load_after old.view.log n (an.Stop why) in let m = work.weighs in omega (arith, w, l, a, m);
         light = let w = ap (λ (w : OcrView). w.weight) view in let l = work.light in omega (arith, w, l);
         own = subst (λ (w : OcrView). MatchOption (stop_in w.log) (Unit {0}) (IsOwnStop table.1 worker w)) (sym view)
-            (subst (λ (o : Option run.Stop). MatchOption o (Unit {0}) (IsOwnStop table.1 worker (ended_by old.view n (an.Stop why)))) (sym (stop_after old.view.log n (an.Stop why) work.unstopped))
-            (own_ended table.1 worker n old.view (an.Stop why) why own));
+            (subst (λ (o : Option run.Stop). MatchOption o (Unit {0}) (IsOwnStop table.1 worker (ended_by old.view n (an.Stop why) fs))) (sym (stop_after old.view.log n (an.Stop why) work.unstopped))
+            (own_ended table.1 worker n old.view (an.Stop why) fs why own));
       },
       inr (ap (λ (w : OcrView). is_some (stop_in w.log)) view ∙ ap (λ (o : Option run.Stop). is_some o) (stop_after old.view.log n (an.Stop why) work.unstopped)),
     )
-close_left table p worker why (committed.Closed n) old new work own tells = closed_left table p worker n old new work tells
+close_left table p worker why fs (committed.Closed n) old new work own tells = closed_left table p worker n old new work tells
 
-pub close_stays : (table : OcrTable) (p : Checked) (why : run.Stop) (r : Committed) (old new : OcrKnown) → AtWork table p old → CloseTells meaning r old new (an.Stop why) → Stays old new
-close_stays table p why (committed.At n) old new work tells = stays_by old new (ended_by old.view n (an.Stop why)) tells.2 tells.3 refl refl refl refl refl ((n, an.Stop why) ∷ [], refl)
-close_stays table p why (committed.Closed n) old new work tells = closed_stays table p n old new work tells
+-- with no facts learnt
+pub own_plain : (t : OcrTerms) (worker : ℕ) (v : OcrView) (why : run.Stop) → IsOwnStop t worker v why → IsOwnStop t worker (told v []) why
+own_plain t worker v (by.Events w k) own = own
+own_plain t worker v by.Objects own = record { edt = own.edt; call = own.call; known = (own.known.0, ap (λ (fs : List Fact). get_elem? fs own.known.0) (append-nil v.facts) ∙ own.known.1); few = own.few; reached = own.reached }
+own_plain t worker v other own = tt
+
+pub close_stays : (table : OcrTable) (p : Checked) (why : run.Stop) (fs : List Fact) (r : Committed) (old new : OcrKnown) → AtWork table p old → CloseTells meaning r old new (an.Stop why) fs → Stays old new
+close_stays table p why fs (committed.At n) old new work tells = stays_by old new (ended_by old.view n (an.Stop why) fs) tells.2 tells.3 refl refl refl refl refl ((n, an.Stop why) ∷ [], refl)
+close_stays table p why fs (committed.Closed n) old new work tells = closed_stays table p n old new work tells
 
 pub stays_self : (c : OcrKnown) → Stays c c
 stays_self c = record { table = refl; terms = refl; root = refl; seat = refl; out = refl; joined = refl; log = ([], sym (append-nil c.view.log)) }

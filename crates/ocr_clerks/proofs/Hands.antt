@@ -1,19 +1,17 @@
 -- The parts of a clerk, as they are taken, lifted, entered and given back.
-use Rattle.std.proofs.Common.{◌≡◌, ◌≢◌, ℕ, zero, suc, ◌+◌, ◌-◌, ◌*◌, ◌≤◌, ◌<◌, ◌==◌, Bool, true, false, if◌then◌else◌, List, [], ◌∷◌, ◌++◌, length, take, drop, get_or, Option, Some, None, refl, ap, sym, ◌∙◌, subst, arith}
+use Rattle.std.proofs.Common.{◌≡◌, ◌≢◌, ℕ, zero, suc, ◌+◌, ◌≤◌, ◌<◌, ◌==◌, Bool, true, false, List, [], ◌∷◌, ◌++◌, length, take, get_or, Option, Some, None, refl, ap, sym, ◌∙◌, subst, arith}
 use Rattle.std.proofs.lemmas.Grind.{common_steps}
 use Rattle.std.proofs.lemmas.Bool.{eqb-true}
 use Rattle.std.proofs.lemmas.List.{length-append, append_assoc, append-nil}
 use Rattle.ocr_code.specs.declared.checked.Checked.{Checked}
-use Rattle.ocr_history.specs.declared.entry.Entry.{Entry}
 use Rattle.ocr_parts.specs.declared.part.Part.{Part}
-use Rattle.ocr_facts.specs.Clerks.{OcrTerms, OcrView}
+use Rattle.ocr_facts.specs.Clerks.{OcrView}
 use Rattle.ocr_facts.specs.Ocr.{meaning}
 use Rattle.ocr_turns.specs.Contract.{TakeTells}
-use Rattle.ocr_turns.specs.Steps.{Sees}
-use Rattle.ocr_turns.specs.Sums.{as_some, find, keys, one_at, remove_at, replace, replace_all, weigh}
+use Rattle.ocr_turns.specs.Sums.{as_some, find, keys, one_at, replace, replace_all, weigh}
 use Rattle.ocr_turns.specs.declared.answers.Taken.TheVariants as taken
 use Rattle.ocr_clerks.specs.Entering.{OcrKnown}
-use Rattle.ocr_clerks.specs.Work.{AtWork, OcrTable, Stays, Took, in_hand, lifted, with_item}
+use Rattle.ocr_clerks.specs.Work.{AtWork, OcrTable, Stays, Took, in_hand, lifted}
 use Rattle.ocr_turns.proofs.Numbered.{weigh_keys}
 use Rattle.ocr_clerks.proofs.Going.{Calm, stays_still, work_still}
 

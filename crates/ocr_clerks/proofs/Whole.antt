@@ -1,5 +1,5 @@
 -- An entry that names all parts that the clerk keeps.
-use Rattle.std.proofs.Common.{◌≡◌, ℕ, ◌+◌, ◌≤◌, List, [], ◌∷◌, ◌++◌, length, Option, Some, None, Result, Ok, Err, refl, ap, sym, ◌∙◌, subst, arith}
+use Rattle.std.proofs.Common.{◌≡◌, ℕ, ◌≤◌, List, [], ◌∷◌, ◌++◌, length, Option, Result, Ok, Err, refl, ap, sym, ◌∙◌, subst, arith}
 use Rattle.std.specs.Prelude.{OnOk}
 use Rattle.ocr_code.specs.declared.checked.Checked.{Checked}
 use Rattle.ocr_history.specs.declared.entry.Entry.{Entry}
@@ -8,13 +8,13 @@ use Rattle.ocr_facts.specs.Clerks.{OcrTerms, OcrView}
 use Rattle.ocr_facts.specs.Ocr.{meaning}
 use Rattle.ocr_turns.specs.Contract.{SameRoom}
 use Rattle.ocr_turns.specs.Steps.{deed, logged}
-use Rattle.ocr_turns.specs.Sums.{as_some, keys, one_at, replace_all, weigh}
+use Rattle.ocr_turns.specs.Sums.{as_some, keys, one_at, weigh}
 use Rattle.ocr_turns.proofs.Numbered.{weigh_keys}
 use Rattle.ocr_clerks.specs.Entering.{CanMake, Hand, OcrKnown}
 use Rattle.ocr_clerks.specs.Work.{AtWork, EntersAs, EntersKept, HasAllAtHand, OcrTable, Stays, in_hand, lifted}
 use Rattle.ocr_clerks.proofs.Entries.{turns_keys}
 use Rattle.ocr_clerks.proofs.Going.{Calm, work_still}
-use Rattle.ocr_clerks.proofs.Hands.{hand_keys, keys_length, lifted_keys, replace_whole, some_keys}
+use Rattle.ocr_clerks.proofs.Hands.{hand_keys, lifted_keys, replace_whole, some_keys}
 
 -- where the entry names all parts that the clerk keeps, it leaves them all, and all are at hand
 pub entered_whole : (t : OcrTerms) (c new : OcrKnown) (e : Entry) (h : Hand) → keys c.parts ≡ keys h.parts → keys c.view.parts ≡ keys h.parts → ((p : ℕ) → weigh (one_at p) h.parts ≤ 1) → EntersAs t c new e h → EntersKept t c new e h

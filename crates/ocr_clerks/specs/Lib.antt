@@ -1,3 +1,4 @@
+pub mod Drawing
 pub mod Entering
 pub mod Laws
 pub mod Work

@@ -1,5 +1,6 @@
 -- What the functions of workers ask of a clerk, and what they leave.
-use Rattle.std.specs.Prelude.{◌≡◌, ◌≢◌, ◌≤◌, ◌<◌, ℕ, ◌+◌, List, [], ◌∷◌, ◌++◌, ◌⊎◌, length, true, false, Bool, Option, Some, None, is_some, slice_index_or, MatchOption}
+use Rattle.std.specs.declared.snapshot.Snapshot.{Snapshot}
+use Rattle.std.specs.Prelude.{◌≡◌, ◌≢◌, ◌≤◌, ◌<◌, ℕ, ◌+◌, List, [], ◌∷◌, ◌++◌, ◌⊎◌, length, true, false, Option, Some, None, is_some, slice_index_or, MatchOption}
 use Rattle.std.specs.List.{All}
 use Rattle.std.specs.Option.{option_or}
 use mathlib.Core.Option.{some}
@@ -7,12 +8,12 @@ use lib.ListN.{get_elem?}
 use Rattle.atomic_table.specs.Seated.{TableId}
 use Rattle.ocr_code.specs.Checked.{checked_tree}
 use Rattle.ocr_code.specs.declared.checked.Checked.{Checked}
-use Rattle.ocr_tree.specs.Built.{are_built}
 use Rattle.ocr_tree.specs.Runnable.{IsRunnable}
 use Rattle.ocr_facts.specs.Clerks.{IsStep, OcrTerms, OcrView}
 use Rattle.ocr_facts.specs.Ocr.{ends, meaning, starts}
-use Rattle.ocr_facts.specs.declared.fact.Fact.TheVariants.{IsSet}
-use Rattle.ocr_facts.specs.declared.setting.Setting.{Setting}
+use Rattle.ocr_facts.specs.declared.fact.Fact.{Fact}
+use Rattle.ocr_facts.specs.declared.fact.Fact.TheVariants.{IsSet, Short}
+use Rattle.ocr_meaning.specs.declared.call.Call as body
 use Rattle.ocr_history.specs.declared.entry.Entry.{Entry}
 use Rattle.ocr_history.specs.declared.entry.Entry.TheVariants as an
 use Rattle.ocr_history.specs.declared.entry.Stop as run
@@ -36,7 +37,7 @@ use Rattle.ocr_turns.specs.Contract.{IsOf}
 use Rattle.ocr_turns.specs.Rule.{RunsIn}
 use Rattle.ocr_turns.specs.Steps.{Sees, deed, logged}
 use Rattle.ocr_turns.specs.Sums.{as_some, entries, is_among, keys, load_of, replace_all}
-use Rattle.ocr_turns.specs.declared.view.Terms.{Terms}
+use Rattle.ocr_clerks.specs.Drawing.{object_count}
 use Rattle.ocr_clerks.specs.Entering.{Hand, OcrKnown}
 
 abbrev pub OcrTable : Type 0
@@ -56,12 +57,25 @@ pub record MayStopSo (s : history.Setting) (past : History) (why : run.Stop) : T
   pub said : IsSaid s past (an.Stop why)
   pub cause : IsStop s past why
 
+-- No number was left for the creation that the body of an EDT says next, and fewer are drawn for it
+-- than it needs.
+pub record LacksNumbers (v : OcrView) : Type 0 where
+  pub edt : ℕ
+  pub call : Snapshot body.Call
+  pub known : (k : ℕ) × (get_elem? v.facts k ≡ some (Short edt call))
+  pub few : length v.drawn < object_count call.value
+  pub reached : is_some v.reached ≡ true
+
 -- A limit makes a worker end the run only where it passes the limit itself: an entry of this weight
--- would pass its share; no number was left for it, and it has none that it did not use.
+-- would pass its share, or the numbers left are too few for its own EDT's next call.
 abbrev pub IsOwnStop : OcrTerms → ℕ → OcrView → run.Stop → Type 0
 IsOwnStop t worker v (by.Events w k) = (w ≡ worker) × (t.share < v.weight + k)
-IsOwnStop t worker v by.Objects = (v.drawn ≡ []) × (is_some v.reached ≡ true)
+IsOwnStop t worker v by.Objects = LacksNumbers v
 IsOwnStop t worker v other = Unit {0}
+
+-- with more facts
+abbrev pub told : OcrView → List Fact → OcrView
+told v fs = record v { facts = v.facts ++ fs }
 
 -- THE SEAT is the same, and the log has what it had
 pub record Stays (old new : OcrKnown) : Type 0 where
@@ -73,15 +87,14 @@ pub record Stays (old new : OcrKnown) : Type 0 where
   pub joined : new.view.joined ≡ old.view.joined
   pub log : (more : List (ℕ × Entry)) × (new.view.log ≡ old.view.log ++ more)
 
--- AT WORK: the clerk is of this table, whose program is this one and may be run, and whose calls
--- are all built; it does not know that the run has ended, and did not end it; it has room for a
--- Stop and for 40 parts, and its log weighs no more than its share.
+-- AT WORK: the clerk is of this table, whose program is this one and may be run; it does not know
+-- that the run has ended, and did not end it; it has room for a Stop and for 40 parts, and its log
+-- weighs no more than its share.
 pub record AtWork (table : OcrTable) (program : Checked) (c : OcrKnown) : Type 0 where
   pub of_table : IsOf table c
   pub limits : (2 ≤ table.1.limit) × (table.1.limit ≤ 65536)
   pub program_is : table.1.setting.value.program ≡ program
   pub runnable : IsRunnable (checked_tree program)
-  pub built : are_built (checked_tree program) ≡ true
   pub is_open : c.view.closed ≡ None
   pub unstopped : stop_in c.view.log ≡ None
   pub room : 1 ≤ c.room

@@ -1,17 +1,26 @@
 // A worker ends the run.
-ghost use Rattle.std.specs.Prelude.{◌≡◌, ◌<◌, ◌+◌, ℕ, List, reverse};
+ghost use Rattle.std.specs.Prelude.{◌≡◌, ◌<◌, ◌+◌, ◌++◌, ◌∷◌, [], ℕ, List, length, is_some, true, reverse};
 ghost use Rattle.ocr_facts.specs.Clerks.{Knows, of_terms};
+ghost use Rattle.ocr_facts.specs.Ocr.{stands};
+ghost use Rattle.ocr_history.specs.declared.entry.Entry.TheVariants as an;
 ghost use Rattle.ocr_history.specs.Weight.{weight_of};
 ghost use Rattle.ocr_parts.specs.declared.part.Part.{Part};
+ghost use Rattle.ocr_parts.specs.Legal.{IsCreating};
+ghost use Rattle.ocr_turns.specs.Rule.{FactsOf};
+ghost use Rattle.ocr_clerks.specs.Drawing.{object_count};
 ghost use Rattle.ocr_clerks.specs.Entering.{CanMake, Hand};
-ghost use Rattle.ocr_clerks.specs.Work.{AtWork, IsGone, IsOwnStop, MayStopSo, Stays};
+ghost use Rattle.ocr_clerks.specs.Work.{AtWork, IsGone, IsOwnStop, MayStopSo, Stays, told};
 
 use crate::gate::Gate;
 use crate::job::Job;
 use crate::ocr::Ocr;
 use crate::over::Over;
+use ocr_facts::Fact;
+use ocr_guid::Guid;
 use ocr_history::{Entry, Stop};
+use ocr_meaning::Call;
 use ocr_turns::{Clerk, Committed};
+use std::snapshot::Snapshot;
 use std::sync::Wait;
 
 /// Ends the run by a Stop that is legal now, behind the gate.
@@ -28,11 +37,56 @@ pub fn close<R: Wait, G: Gate>(
     ensures stays { Stays clerk.old clerk.new }
     ensures gone { IsGone job.now.turns.now worker clerk.new }
 {
+    close_telling(job, worker, clerk, why, &[])
+}
+
+// Ends the run so, and the clerk learns facts that stand from then on.
+fn close_telling<R: Wait, G: Gate>(
+    job: &Job<R, G>,
+    worker: u32,
+    clerk: &mut Clerk<Ocr>,
+    why: Stop,
+    learns: &[Fact],
+) -> Over
+    requires work { AtWork job.now.turns.now job.now.program.now clerk.old }
+    requires may { Knows job.now.turns.now.1 clerk.old.view
+        (λ J. MayStopSo (of_terms job.now.turns.now.1) (reverse J) why) }
+    requires stand { Knows job.now.turns.now.1 clerk.old.view
+        (λ J. FactsOf (stands job.now.turns.now.1.setting.value job.now.turns.now.1.limit
+        (J ++ an.Stop why ∷ [])) learns.now) }
+    requires own { IsOwnStop job.now.turns.now.1 worker (told clerk.old.view learns.now) why }
+    ensures stays { Stays clerk.old clerk.new }
+    ensures gone { IsGone job.now.turns.now worker clerk.new }
+{
     job.gate.pass(job.rt, worker, clerk);
-    match job.turns.close(clerk, Entry::Stop(why)) {
+    match job.turns.close(clerk, Entry::Stop(why), learns) {
         Committed::At(number) => Over(number),
         Committed::Closed(word) => Over(word),
     }
+}
+
+/// Ends the run where no number was left for the creation that the EDT's body says next, and fewer
+/// are drawn for it than it needs.
+pub(crate) fn close_short<R: Wait, G: Gate>(
+    job: &Job<R, G>,
+    worker: u32,
+    clerk: &mut Clerk<Ocr>,
+    edt: Guid,
+    call: &Call,
+) -> Over
+    requires work { AtWork job.now.turns.now job.now.program.now clerk.old }
+    requires few { length clerk.old.view.drawn < object_count call.now }
+    requires reached { is_some clerk.old.view.reached ≡ true }
+    requires creating { Knows job.now.turns.now.1 clerk.old.view
+        (λ J. IsCreating (of_terms job.now.turns.now.1) (reverse J) edt call.now) }
+    ensures stays { Stays clerk.old clerk.new }
+    ensures gone { IsGone job.now.turns.now worker clerk.new }
+{
+    let short = Fact::Short {
+        edt: edt.0,
+        call: Snapshot::of(call),
+    };
+    close_telling(job, worker, clerk, Stop::Objects, &[short])
 }
 
 /// Ends the run for want of memory.

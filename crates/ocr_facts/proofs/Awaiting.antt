@@ -24,21 +24,23 @@ use Rattle.ocr_history.specs.Made.{creator_of}
 use Rattle.ocr_parts.specs.declared.part.Part.{Part}
 use Rattle.ocr_parts.specs.declared.part.Part.TheVariants as part
 use Rattle.ocr_parts.specs.Calls.{is_object, mode_named, slot_target, target_of}
-use Rattle.ocr_parts.specs.Effects.{brought, called, changed, deps_linked, doomed_template, granted, hold_ended, linked_if, new_core, new_face, next_mode_on, readied_on, with_core, with_face}
+use Rattle.ocr_parts.specs.Effects.{brought, called, changed, deps_linked, doomed_template, granted, hold_ended, joined, joins, linked_if, new_core, new_face, new_output, new_scope, next_mode_on, readied_on, with_beside, with_core, with_face}
+use Rattle.ocr_finish.specs.Scope as scope
 use Rattle.ocr_parts.specs.Footprint.{on_face}
-use Rattle.ocr_parts.specs.Kinds.{IsBlock, is_acquiring, is_acquiring_edt, is_edt_face, loan_on, with_block, with_links, with_template, with_event}
+use Rattle.ocr_parts.specs.Kinds.{IsBlock, is_acquiring, is_acquiring_edt, home_on, is_edt_face, loan_on, with_block, with_links, with_template, with_event, with_scope}
 use Rattle.ocr_parts.specs.LegalOn.{IsCallOn, IsTaken}
 use Rattle.ocr_parts.specs.Legal.{IsRun, IsLegal}
 use Rattle.ocr_parts.specs.Messages.{resumed_by, resumed_by_call, resumed_by_doom, resumes}
-use Rattle.ocr_parts.specs.Parts.{Parts, parts_of}
+use Rattle.ocr_parts.specs.Parts.{Parts, new_identity, parts_of}
 use Rattle.ocr_parts.specs.Taken.{IsWithin, is_within}
+use Rattle.ocr_parts.proofs.Beside.{beside_keeps, edt_free}
 use Rattle.ocr_parts.proofs.Within.{within_law}
 use Rattle.ocr_quiet.specs.Waits.{AreStanding, IsOnce, awaits, awaits_in, queue_on, standing}
 use Rattle.ocr_quiet.proofs.Choices.{on_from}
 use Rattle.ocr_quiet.proofs.Stages.{once}
 use Rattle.ocr_turns.specs.Counting.{is_in}
 use Rattle.ocr_any_event.specs.declared.AnyEvent.{AnyEvent}
-use Rattle.ocr_facts.proofs.Queues.{Leaves, doomed, granted_queue, links_queue, released, template_queue, event_queue}
+use Rattle.ocr_facts.proofs.Queues.{Leaves, doomed, granted_queue, links_queue, released, scope_queue, template_queue, event_queue}
 use Rattle.ocr_any_event.specs.AnyEvent as event
 use Rattle.ocr_guid.specs.declared.target.Target.{Target}
 
@@ -166,6 +168,7 @@ deps_still t k (d ∷ rest) f = λ e. deps_still t (k + 1) rest (linked_if (is_o
 
 brought_still : (x : What) (f : Parts) → Still f (brought x f)
 brought_still (what.Satisfy e slot p) f = event_still f e (λ st. event.after_satisfy st slot p)
+brought_still (what.Leave x) f = face_still f x (with_scope (f.face x) scope.after_leave) (scope_queue (f.face x) scope.after_leave)
 brought_still other f = λ e. refl
 
 taken_queue : (x : Part) (t : ℕ) (m : Mode) → IsBlock x (IsTaken t m) → queue_on (with_block x (granted t m)) ≡ queue_on x
@@ -211,9 +214,13 @@ done_effect : (limit : ℕ) (f : Parts) (u home : ℕ) (c : body.Call) (a : Answ
 done_effect limit f u home (call.DbCreate n fl) a w legal done once within = inl (refl, vacant_still f a.value (part.Block (block.state_of (n / 8) (creator_of u fl) [])) (legal.value.fresh done).vacant refl)
 done_effect limit f u home (call.TemplateCreate function pc dc) a w legal done once within = inl (refl, vacant_still f a.value _ (legal.value.fresh done).vacant refl)
 done_effect limit f u home (call.EdtCreate from pc ps dc ds fl o) a w legal done once within =
-    let new : Parts = with_core (with_face f a.value (new_face (f.face from) dc ds)) a.value (new_core (f.face from) a.value ps) in
-    let there : Still f new = vacant_still f a.value (new_face (f.face from) dc ds) (legal.value.named.fresh done).vacant (new_queue (f.face from) dc ds) in
-    inl (refl, λ e. deps_still a.value 0 ds new e ∙ there e)
+    let own : ℕ = home_on (f.core u) in let h : Parts = with_beside f own a in
+    let new : Parts = with_core (with_face h a.value (new_face (f.face from) dc ds)) a.value (new_core (f.face from) (new_identity a.value fl a own) ps) in
+    let beside : Still f h = beside_keeps limit f u home from pc dc fl ps ds o a w legal (Still f) own (λ e. refl)
+    (λ k still free e. vacant_still k a.output new_output free refl e ∙ still e)
+    (λ k still free e. vacant_still k a.scope (new_scope own a) free refl e ∙ still e) in
+    let there : Still h new = vacant_still h a.value (new_face (f.face from) dc ds) (edt_free limit f u home from pc dc fl ps ds o a w legal own done) (new_queue (f.face from) dc ds) in
+    inl (refl, λ e. deps_still a.value 0 ds new e ∙ (there e ∙ beside e))
 done_effect limit f u home (call.Store d k v) a w legal done once within = inl (refl, face_still f d (with_block (f.face d) (λ st. block_steps.after_store st k v)) (block_queue (f.face d) (λ st. block_steps.after_store st k v) (λ st. refl)))
 done_effect limit f u home (call.AddDependence from x i m) a w legal done once within =
     let new : Parts = with_face f x (with_links (f.face x) (λ slots. after_link slots i (mode_named m))) in
@@ -232,10 +239,27 @@ done_effect limit f u home (call.DbDestroy d) a w legal done once within =
     inr (d, ended_moves f (called u (call.DbDestroy d) a w f) d _ _ (λ e. refl) leaves, record { named = or_on _ _ (or_on (d == d) false (number_same d)); within = block_within limit f d _ within (legal.value.0 done) })
 done_effect limit f u home other a w legal done once within = inl (refl, λ e. refl)
 
+-- a home that is joined has no queue
+joined_queue : (c : body.Call) (home : ℕ) (h : Parts) (g : ℕ) → queue_on ((joined c home h).face g) ≡ queue_on (h.face g)
+joined_queue c home h g = elim (joins c home g) as (λ b. queue_on (if b then with_scope (h.face g) scope.after_join else h.face g) ≡ queue_on (h.face g)) [ true ↦ scope_queue (h.face g) scope.after_join | false ↦ refl ]
+
+joined_effect : (limit : ℕ) (e : Entry) (f h : Parts) (woken : List ℕ) (c : body.Call) (home : ℕ) → Effect limit e f h woken → Effect limit e f (joined c home h) woken
+joined_effect limit e f h woken c home (inl quiet) = inl (quiet.0, λ g. joined_queue c home h g ∙ quiet.1 g)
+joined_effect limit e f h woken c home (inr moves) =
+    let d : ℕ = moves.0 in
+    inr (
+      d,
+      record {
+        leaves = subst (λ (q : List (ℕ × Mode)). Leaves (queue_on (f.face d)) q woken) (sym (joined_queue c home h d)) moves.1.leaves;
+        others = λ g apart. joined_queue c home h g ∙ moves.1.others g apart;
+      },
+      moves.2,
+    )
+
 call_effect : (limit : ℕ) (f : Parts) (u home : ℕ) (c : body.Call) (a : Answer) (w : List (ℕ × ℕ)) → IsCallOn limit f u home c a w → IsOnce f → IsWithin limit f
-    → Effect limit (Call u home c a w) f (if is_done a.code then called u c a w f else f) (if is_done a.code then resumed_by_call u c f else [])
-call_effect limit f u home c a w legal once within = elim (is_done a.code) as (λ b. is_done a.code ≡ b → Effect limit (Call u home c a w) f (if b then called u c a w f else f) (if b then resumed_by_call u c f else [])) [
-  | true ↦ λ done. done_effect limit f u home c a w legal done once within
+    → Effect limit (Call u home c a w) f (if is_done a.code then joined c home (called u c a w f) else f) (if is_done a.code then resumed_by_call u c f else [])
+call_effect limit f u home c a w legal once within = elim (is_done a.code) as (λ b. is_done a.code ≡ b → Effect limit (Call u home c a w) f (if b then joined c home (called u c a w f) else f) (if b then resumed_by_call u c f else [])) [
+  | true ↦ λ done. joined_effect limit (Call u home c a w) f (called u c a w f) (resumed_by_call u c f) c home (done_effect limit f u home c a w legal done once within)
   | false ↦ λ _. inl (refl, λ e. refl)
 ] refl
 

@@ -14,7 +14,7 @@ use Rattle.ocr_history.specs.declared.entry.What.{What}
 use Rattle.ocr_history.specs.declared.entry.What.TheVariants as what
 use Rattle.ocr_history.specs.declared.objects.TheConstants.{ARGUMENTS, MAIN_EDT}
 use Rattle.ocr_history.specs.History.{History}
-use Rattle.ocr_history.specs.Made.{depc_in, edt_from, is_edt, made, makes}
+use Rattle.ocr_history.specs.Made.{depc_in, edt_from, is_edt, made, made_beside, makes}
 use Rattle.ocr_parts.specs.Calls.{depc_of, set_calls, set_step}
 use Rattle.ocr_parts.specs.Calls as calls
 use Rattle.ocr_parts.specs.Effects.{changed, next_mode_on, readied_on}
@@ -31,7 +31,7 @@ use Rattle.ocr_turns.specs.Sums.{one_at, sum_of}
 use Rattle.ocr_turns.specs.declared.view.Terms.{Terms}
 use Rattle.ocr_turns.proofs.Totals.{one_here}
 use Rattle.ocr_facts.specs.Facts.{Stands}
-use Rattle.ocr_facts.specs.Ocr.{creates, ends, meaning, resumed, set_by, sets, setting_of, stands, starts, touches, waits}
+use Rattle.ocr_facts.specs.Ocr.{beside, creates, ends, meaning, resumed, set_by, sets, setting_of, stands, starts, touches, waits}
 use Rattle.ocr_facts.specs.Ocr as ocr
 use Rattle.ocr_facts.specs.declared.fact.Fact.TheVariants.{IsSet}
 use Rattle.ocr_facts.specs.declared.setting.Setting.{Setting}
@@ -67,13 +67,14 @@ creating t past (Call u home (call.EdtCreate from pc ps dc ds fl o) a w) n d may
     let D : ℕ = depc_of s (e ∷ reverse (reverse past)) a.value in
     let r = pair_is (is_done a.code) a.value D n d is in
     let number : a.value ≡ n = r.1 in let count : D ≡ d = r.2 in
-    let same : (if is_done a.code then a.value ∷ [] else []) ≡ a.value ∷ [] = chosen_on (is_done a.code) (a.value ∷ []) [] r.0 in
+    let rest : List ℕ = beside (call.EdtCreate from pc ps dc ds fl o) a in
+    let same : (if is_done a.code then a.value ∷ rest else []) ≡ a.value ∷ rest = chosen_on (is_done a.code) (a.value ∷ rest) [] r.0 in
     let made_n : makes a a.value ≡ true = both_on (is_done a.code) (a.value == a.value) r.0 (number_same a.value) in
-    let slots : depc_of s (e ∷ past) a.value ≡ depc_in (edt_from (made s past from) ps dc) = ap depc_in (chosen_on (makes a a.value) (edt_from (made s past from) ps dc) (made s past a.value) made_n) in
+    let slots : depc_of s (e ∷ past) a.value ≡ depc_in (edt_from (made s past from) ps dc) = ap depc_in (chosen_on (makes a a.value) (edt_from (made s past from) ps dc) (made_beside a home a.value (made s past a.value)) made_n) in
     let bound = few_slots s past u home from pc dc fl ps ds o a w r.0 c.legal in
     let twice : D ≡ depc_of s (e ∷ past) a.value = ap (λ (K : History). depc_of s (e ∷ K) a.value) (reverse-reverse past) in
     let one = one_here a.value in
-    (subst (λ (l : List ℕ). 1 ≤ sum_of (one_at n) l) (sym same) (subst (λ (k : ℕ). 1 ≤ one_at k a.value + 0) number (omega (arith, one))), omega (arith, bound, slots, twice, count))
+    (subst (λ (l : List ℕ). 1 ≤ sum_of (one_at n) l) (sym same) (subst (λ (k : ℕ). 1 ≤ one_at k a.value + sum_of (one_at k) rest) number (omega (arith, one))), omega (arith, bound, slots, twice, count))
 creating t past (Call u home other a w) n d may is = cc is
 creating t past other n d may is = cc is
 

@@ -16,10 +16,10 @@ use Rattle.ocr_history.specs.declared.entry.Entry.{Entry}
 use Rattle.ocr_history.specs.declared.entry.Entry.TheVariants.{Call, Free, Stop}
 use Rattle.ocr_history.specs.History.{History, is_stopped}
 use Rattle.ocr_history.specs.History as history
-use Rattle.ocr_history.specs.Made.{Made, MadeTemplate, depc_in, edt_from, made, makes}
+use Rattle.ocr_history.specs.Made.{Made, MadeTemplate, depc_in, edt_from, made, made_beside, makes}
 use Rattle.ocr_parts.specs.declared.part.Part.{Part}
 use Rattle.ocr_parts.specs.declared.part.Part.TheVariants as part
-use Rattle.ocr_parts.specs.Calls.{block_calls, depc_of, event_calls, link_calls}
+use Rattle.ocr_parts.specs.Calls.{block_calls, depc_of, event_calls, link_calls, scope_calls}
 use Rattle.ocr_parts.specs.Codes.{ATemplate, is_of_other_kind}
 use Rattle.ocr_parts.specs.Effects.{settled_parts}
 use Rattle.ocr_parts.specs.Footprint.{Covers, is_touched, on_face}
@@ -29,7 +29,7 @@ use Rattle.ocr_parts.specs.Messages.{resumes}
 use Rattle.ocr_parts.specs.Parts.{Parts, face, parts_of}
 use Rattle.ocr_parts.specs.Taken.{ArePartsOf, as_face, has, is_within, keys, look, parts_in, place_of, seen}
 use Rattle.ocr_parts.proofs.After.{done_is}
-use Rattle.ocr_parts.proofs.Local.{effect_law}
+use Rattle.ocr_parts.proofs.Local.{call_named, effect_law}
 use Rattle.ocr_parts.proofs.Within.{within_law}
 use Rattle.ocr_quiet.proofs.Choices.{done_kinds, not_off, on_from, or_left}
 use Rattle.ocr_standing.specs.Kept.{AreKept}
@@ -44,6 +44,7 @@ use Rattle.ocr_facts.specs.Ocr.{MayFollow, counts, creates, meaning, part_of, sl
 use Rattle.ocr_facts.proofs.Runs.{reverse_snoc, run_is}
 use Rattle.ocr_facts.proofs.Sending.{readied_sends, settled_sends}
 use Rattle.ocr_facts.proofs.Slots.{chosen_on, number_same}
+use Rattle.ocr_finish.specs.Scope.{ScopeCall}
 
 -- LISTS OF PARTS
 pub look_at : (ps : List (ℕ × Part)) (n : ℕ) → has ps n ≡ true → (k : ℕ) × (get_elem? ps k ≡ some (n, look ps n))
@@ -120,9 +121,9 @@ settled_resumes (Free t d w) f = refl
 settled_resumes other f = refl
 
 -- THE SLOTS of an EDT that is made, by its template's face
-face_slots : (m : Option Made) (links : List slot.SlotCall) (blocks : List block.BlockCall) (events : List EventCall) (ps : List ℕ) (dc : ℕ) → is_template (face m links blocks events) ≡ true → depc_in (edt_from m ps dc) ≡ slots_meant (face m links blocks events) dc
-face_slots (Some (MadeTemplate f pc own)) links blocks events ps dc is = refl
-face_slots other links blocks events ps dc is = cc is
+face_slots : (m : Option Made) (links : List slot.SlotCall) (blocks : List block.BlockCall) (events : List EventCall) (scopes : List ScopeCall) (ps : List ℕ) (dc : ℕ) → is_template (face m links blocks events scopes) ≡ true → depc_in (edt_from m ps dc) ≡ slots_meant (face m links blocks events scopes) dc
+face_slots (Some (MadeTemplate f pc own)) links blocks events scopes ps dc is = refl
+face_slots other links blocks events scopes ps dc is = cc is
 
 seen_slots : (x : Part) (dc : ℕ) → slots_meant (as_face x) dc ≡ slots_meant x dc
 seen_slots (part.Core c) dc = refl
@@ -157,13 +158,13 @@ counts_are t J (Call u home (call.EdtCreate from pc ps dc ds fl o) a w) kept eno
     let kinds = done_kinds u f.face (call.EdtCreate from pc ps dc ds fl o) (sym legal.on_parts.code ∙ is_code) in
     let template : is_template (f.face from) ≡ true = not_off _ (or_left (is_of_other_kind ATemplate (f.face from)) _ kinds) in
     let inside : is_within t.limit from ≡ true = on_from (is_within t.limit from) (λ off. template_there (f.face from) template ((within_law s past enough run).faces from off)) in
-    let named : on_face e from ≡ true = or_on _ _ (or_on (from == from) _ (number_same from)) in
+    let named : on_face e from ≡ true = call_named u home (call.EdtCreate from pc ps dc ds fl o) a w from (or_on _ _ (or_on (from == from) _ (number_same from))) in
     let touched : is_touched t.limit e from ≡ true = rw inside named in
     let here = are from (covers from touched) in
     let seen_face : f.face from ≡ as_face (look kept from) = rw inside at here in
     let made_v : makes a a.value ≡ true = both_on (is_done a.code) (a.value == a.value) done (number_same a.value) in
-    ap depc_in (chosen_on (makes a a.value) (edt_from (made s past from) ps dc) (made s past a.value) made_v)
-    ∙ (face_slots (made s past from) (link_calls past from) (block_calls s past from) (event_calls s past from) ps dc template
+    ap depc_in (chosen_on (makes a a.value) (edt_from (made s past from) ps dc) (made_beside a home a.value (made s past a.value)) made_v)
+    ∙ (face_slots (made s past from) (link_calls past from) (block_calls s past from) (event_calls s past from) (scope_calls past from) ps dc template
     ∙ (ap (λ (x : Part). slots_meant x dc) seen_face ∙ seen_slots (look kept from) dc)))
 counts_are t J (Call u home other a w) kept enough run legal covers are = refl
 counts_are t J other kept enough run legal covers are = refl

@@ -9,18 +9,18 @@ use Rattle.ocr_history.specs.declared.entry.Entry.TheVariants.{Call, Deliver, St
 use Rattle.ocr_history.specs.declared.entry.What.{What}
 use Rattle.ocr_history.specs.declared.entry.What.TheVariants as what
 use Rattle.ocr_history.specs.Edts.{is_started}
-use Rattle.ocr_history.specs.History.{History, Setting}
+use Rattle.ocr_history.specs.History.{History, Setting, is_stopped}
 use Rattle.ocr_history.specs.Made.{is_edt, is_edt_made, made, depc_in, is_new, makes}
 use Rattle.ocr_parts.specs.Bodies.{body_of}
 use Rattle.ocr_parts.specs.Calls.{depc_of, payload_of, payload_or_null, payloads_of, set_calls, set_step, slots_now}
 use Rattle.ocr_parts.specs.Legal.{IsRun, IsLegal}
 use Rattle.ocr_quiet.proofs.Edts.{edts_law}
-use Rattle.ocr_standing.proofs.Lasting.{made_old, stays_law}
+use Rattle.ocr_standing.proofs.Lasting.{edt_not_new, stays_law}
 use Rattle.ocr_standing.proofs.Once.{set_once_law}
 use Rattle.ocr_standing.proofs.Own.{body_law, made_same, started_set}
 use Rattle.ocr_facts.specs.Facts.{Stands, body_by}
 use Rattle.ocr_facts.specs.declared.fact.Fact.{Fact}
-use Rattle.ocr_facts.specs.declared.fact.Fact.TheVariants.{Count, IsSet, Began}
+use Rattle.ocr_facts.specs.declared.fact.Fact.TheVariants.{Count, IsSet, Began, Short}
 
 -- AN EDT stays what it is
 or_true : (b : Bool) → (b || true) ≡ true
@@ -61,7 +61,7 @@ new_none false x y z f o off is = is
 
 pub payload_later : (s : Setting) (past : History) (e : Entry) (t k p : ℕ) → IsRun s past → IsLegal s past e → is_edt past t ≡ true → payload_of past t k ≡ Some p → payload_of (e ∷ past) t k ≡ Some p
 payload_later s past (Call u home c a w) t k p run legal one is =
-    new_none (is_new c a t) [] (set_calls past t) [] (λ calls. slot.payload_of calls k) (Some p) (made_old s past u c a t legal.on_parts.value (edt_made s past t run one)) is
+    new_none (is_new c a t) [] (set_calls past t) [] (λ calls. slot.payload_of calls k) (Some p) (edt_not_new s past u home c a w t legal.on_parts (edt_made s past t run one)) is
 payload_later s past (Deliver m c) t k p run legal one is = step_later m.what t k p (set_calls past t) (λ i q what. (set_once_law s past m c t i q run legal what).unset) is
 payload_later s past other t k p run legal one is = is
 
@@ -100,3 +100,5 @@ stands_later s past e (Began t face c) run legal st = record {
       let same : payloads_of s past t ≡ payloads_of s (e ∷ past) t = sym (payloads_stay s past e t run legal st.made st.started) in
       still ∙ was ∙ ap (body_by s.program face c) same;
 }
+-- nothing comes after a Stop
+stands_later s past e (Short t c) run legal st = let on = legal.open_run in let is = ap is_stopped st.stopped in absurd (cc (on, is))

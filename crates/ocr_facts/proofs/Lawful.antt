@@ -34,7 +34,7 @@ use Rattle.ocr_facts.specs.Ocr.{MayFollow, core_place, makes, meaning, part_of, 
 use Rattle.ocr_facts.specs.declared.fact.Fact.{Fact}
 use Rattle.ocr_facts.specs.declared.setting.Setting.{Setting}
 use Rattle.ocr_facts.proofs.Lasting.{stands_later}
-use Rattle.ocr_facts.proofs.Making.{free_before, makes_one, unmade_sum}
+use Rattle.ocr_facts.proofs.Making.{free_before, makes_new, makes_once, unmade_sum}
 use Rattle.ocr_facts.proofs.Places.{call_few, message_few, named_place, one_few, places_differ, places_good, two_few, within_is}
 use Rattle.ocr_facts.proofs.Runs.{reverse_snoc, run_is}
 
@@ -146,7 +146,7 @@ call_served g limit J u home c a w may =
     (served_law (body_of s (reverse J) u) (own (reverse J) u) may.runnable.named may.runnable.short) said.1
 
 few : (g : Setting) (limit : ℕ) (J : List Entry) (e : Entry) → MayFollow g limit J e → length (footprint_of limit e) ≤ 40
-few g limit J (Call u home c a w) may = let r = call_few limit u c a (wanted_few (length (checked_tree g.program)) c (call_served g limit J u home c a w may)) in omega (arith, r)
+few g limit J (Call u home c a w) may = let r = call_few limit u home c a (wanted_few (length (checked_tree g.program)) c (call_served g limit J u home c a w may)) in omega (arith, r)
 few g limit J (Deliver m c) may = let r = message_few limit m.what in omega (arith, r)
 few g limit J (Acquire t d) may = let r = two_few limit t d in omega (arith, r)
 few g limit J (Wait t d) may = let r = two_few limit t d in omega (arith, r)
@@ -172,11 +172,10 @@ up_to_made J n = up_to (one_at n) 2 + made_sum makes (one_at n) J
 making : (g : Setting) (limit : ℕ) (J : List Entry) (e : Entry) (n : ℕ) → 2 ≤ limit → Run (MayFollow g limit) J → MayFollow g limit J e → 1 ≤ sum_of (one_at n) (makes e) → IsNewNumber meaning limit J e n
 making g limit J (Call u home c a w) n enough run may some =
     let s = setting_of g limit in
-    let one = makes_one u home c a w n some in
-    let free = free_before s (reverse J) u home c a w n may.legal one.0 in
+    let free = free_before s (reverse J) u home c a w n may.legal (makes_new u home c a w n some) in
     let unmade = unmade_sum s (reverse J) n (run_is g limit J run) free.0 in
     record {
-      once = one.1;
+      once = makes_once limit (parts_of s (reverse J)) u home c a w n may.legal.on_parts some;
       range = within_is limit n free.1;
       unmade = subst (λ (K : List Entry). up_to_made K n ≡ 0) (reverse-reverse J) unmade;
     }

@@ -11,3 +11,4 @@ pub mod Counted
 pub mod Sending
 pub mod Entered
 pub mod Owed
+pub mod Homes

@@ -1,4 +1,5 @@
--- The events that owed messages satisfy are there and have the slots, and no event was satisfied too often to be counted.
+-- The events that owed messages satisfy are there and have the slots, the scopes that they leave have
+-- members, and no event was satisfied too often to be counted.
 use Rattle.std.proofs.Common.{◌≡◌, ◌<◌, ℕ, zero, suc, Bool, true, false, ◌-◌, ◌^◌, ◌==◌, ◌||◌, ◌&&◌, if◌then◌else◌, List, [], ◌∷◌, reverse, refl, ap, sym, ◌∙◌, subst, arith}
 use Rattle.std.specs.List.{Contains}
 use Rattle.std.proofs.lemmas.Bool.{eqb-true}
@@ -8,6 +9,7 @@ use lib.ListN.{get_elem?}
 use Rattle.ocr_mail.specs.Mail as post
 use Rattle.ocr_history.specs.declared.entry.Entry.{Entry}
 use Rattle.ocr_guid.specs.declared.Code.{Code}
+use Rattle.ocr_guid.specs.declared.Code.TheVariants as code
 use Rattle.ocr_history.specs.declared.entry.Entry.TheVariants.{Deliver}
 use Rattle.ocr_history.specs.declared.entry.Message.{Message}
 use Rattle.ocr_history.specs.declared.entry.What.{What}
@@ -18,7 +20,7 @@ use Rattle.ocr_parts.specs.declared.part.Part.TheVariants as part
 use Rattle.ocr_parts.specs.Footprint.{is_brought_to, is_touched}
 use Rattle.ocr_parts.specs.Kinds.{counted_on}
 use Rattle.ocr_parts.specs.Legal.{IsRun}
-use Rattle.ocr_parts.specs.LegalOn.{IsDeliverOn, IsSatisfiable, delivery_code}
+use Rattle.ocr_parts.specs.LegalOn.{HasMember, IsDeliverOn, IsSatisfiable, delivery_code}
 use Rattle.ocr_parts.specs.Messages.{delivered, pending, sends}
 use Rattle.ocr_parts.specs.Parts.{parts_of}
 use Rattle.ocr_parts.specs.Taken.{as_face, face_in, has, is_within, look, parts_in, place_of, seen}
@@ -26,11 +28,12 @@ use Rattle.ocr_parts.proofs.Counted.{counted_law}
 use Rattle.ocr_parts.proofs.Within.{within_law}
 use Rattle.ocr_turns.specs.Rule.{FactsOf, Fits, mail}
 use Rattle.ocr_turns.proofs.Histories.{owed_pending}
-use Rattle.ocr_facts.specs.Clerks.{AreAtHand, DeliverLaw, HandCounted, HandSatisfiable, KnowsCounted, KnowsSatisfiable, OcrTerms, OcrView, OwesSatisfaction, of_terms}
+use Rattle.ocr_facts.specs.Clerks.{AreAtHand, DeliverLaw, HandCounted, HandMember, HandSatisfiable, KnowsCounted, KnowsMember, KnowsSatisfiable, LeaveLaw, OcrTerms, OcrView, OwesLeave, OwesSatisfaction, of_terms}
 use Rattle.ocr_facts.specs.Ocr.{meaning}
 use Rattle.ocr_facts.specs.declared.fact.Fact.{Fact}
 use Rattle.ocr_quiet.proofs.Choices.{on_from}
 use Rattle.ocr_quiet.proofs.Sent.{sent_law}
+use Rattle.ocr_standing.proofs.Members.{leaving_law}
 use Rattle.ocr_facts.proofs.Entered.{fitting_parts}
 use Rattle.ocr_facts.proofs.Runs.{run_is}
 use Rattle.ocr_facts.proofs.Slots.{chosen_on}
@@ -66,7 +69,7 @@ knows_satisfiable t v J e slot payload owes fits =
     }
 
 -- AT HAND. A face at hand is the face after each history that fits
-hand_face : (t : OcrTerms) (v : OcrView) (J : List Entry) (hand : List (ℕ × Part)) (g : ℕ) → Fits meaning t J v → AreAtHand t.limit hand v.parts → has hand g ≡ true → face_in t.limit hand g ≡ (if is_within t.limit g then (parts_of (of_terms t) (reverse J)).face g else part.Vacant)
+pub hand_face : (t : OcrTerms) (v : OcrView) (J : List Entry) (hand : List (ℕ × Part)) (g : ℕ) → Fits meaning t J v → AreAtHand t.limit hand v.parts → has hand g ≡ true → face_in t.limit hand g ≡ (if is_within t.limit g then (parts_of (of_terms t) (reverse J)).face g else part.Vacant)
 hand_face t v J hand g fits at_hand here =
     let f = parts_of (of_terms t) (reverse J) in
     let kept = fitting_parts t J v fits g (at_hand.there g here) in
@@ -107,14 +110,35 @@ hand_counted t v J hand g fits at_hand = elim (has hand g) as (λ b. has hand g 
     few_if true x few = few
     few_if false x few = omega arith
 
--- A DELIVERY names its event alone
+-- A LEAVE that is owed finds a member
+memberless : (x : Part) → HasMember x → x ≡ part.Vacant → ⊥
+memberless x is vacant = subst HasMember vacant is
+
+pub knows_member : KnowsMember
+knows_member t v J x owes fits =
+    let s = of_terms t in let past = reverse J in
+    let run : IsRun s past = run_is t.setting.value t.limit J fits.run in
+    let pends = owed_is t v J owes.0 owes.1 owes.2 (what.Leave x) fits owes.3 in
+    let member = leaving_law s past owes.1 owes.2 x run pends in
+    record {
+      within = on_from (is_within t.limit x) (λ off. memberless ((parts_of s past).face x) member ((within_law s past fits.limits run).faces x off));
+      member = member;
+    }
+
+pub hand_member : HandMember
+hand_member t v J hand x owes fits at_hand here =
+    let can = knows_member t v J x owes fits in
+    let f = parts_of (of_terms t) (reverse J) in
+    subst HasMember (sym (hand_face t v J hand x fits at_hand here ∙ chosen_on (is_within t.limit x) (f.face x) part.Vacant can.within)) can.member
+
+-- A DELIVERY names its event or its scope alone
 off_core : (b : Bool) → (b && false) ≡ true → ⊥
 off_core true is = cc is
 off_core false is = cc is
 
-touched_event : (limit : ℕ) (m : Message) (c : Code) (e slot payload n : ℕ) → m.what ≡ what.Satisfy e slot payload → is_touched limit (Deliver m c) n ≡ true → e ≡ n
-touched_event limit m c e slot payload n brings = elim (is_within limit n) as (λ b. (if b then is_brought_to m.what n else is_within limit (n - limit) && false) ≡ true → e ≡ n) [
-  | true ↦ λ is. eqb-true e n (sym (ap (λ (x : What). is_brought_to x n) brings) ∙ is)
+touched : (limit : ℕ) (m : Message) (c : Code) (x : What) (e n : ℕ) → m.what ≡ x → is_brought_to x n ≡ (e == n) → is_touched limit (Deliver m c) n ≡ true → e ≡ n
+touched limit m c x e n brings named = elim (is_within limit n) as (λ b. (if b then is_brought_to m.what n else is_within limit (n - limit) && false) ≡ true → e ≡ n) [
+  | true ↦ λ is. eqb-true e n (sym named ∙ (sym (ap (λ (y : What). is_brought_to y n) brings) ∙ is))
   | false ↦ λ wrong. absurd (off_core (is_within limit (n - limit)) wrong)
 ]
 
@@ -131,10 +155,26 @@ deliver_law t v m e slot payload hand has_event =
     record {
       runnable = has_event.runnable;
       at_hand = has_event.at_hand;
-      covers = λ n on. subst (λ (k : ℕ). has hand k ≡ true) (touched_event t.limit m c e slot payload n has_event.brings on) has_event.here;
+      covers = λ n on. subst (λ (k : ℕ). has hand k ≡ true) (touched t.limit m c (what.Satisfy e slot payload) e n has_event.brings refl on) has_event.here;
       on_hand = subst (λ (x : What). IsDeliverOn (parts_in t.limit hand) x c) (sym has_event.brings) (satisfiable, refl);
       plans = λ J open_run fits waking. absurd waking;
       set = λ J open_run fits. tt;
       says = λ J open_run fits. owed_is t v J has_event.owed.0 m.place m.index m.what fits at;
+      told = λ J open_run fits follows. no_facts _;
+    }
+
+pub leave_law : LeaveLaw
+leave_law t v m x hand has_scope =
+    let at = has_scope.owed.1 in
+    let owes : OwesLeave v x = (has_scope.owed.0, m.place, m.index, subst (λ (y : What). get_elem? v.owed has_scope.owed.0 ≡ some (m.place, m.index, y)) has_scope.brings at) in
+    let member = hand_member t v has_scope.fitting.0 hand x owes has_scope.fitting.1 has_scope.at_hand has_scope.here in
+    record {
+      runnable = has_scope.runnable;
+      at_hand = has_scope.at_hand;
+      covers = λ n on. subst (λ (k : ℕ). has hand k ≡ true) (touched t.limit m code.Done (what.Leave x) x n has_scope.brings refl on) has_scope.here;
+      on_hand = subst (λ (y : What). IsDeliverOn (parts_in t.limit hand) y code.Done) (sym has_scope.brings) (member, refl);
+      plans = λ J open_run fits waking. absurd waking;
+      set = λ J open_run fits. tt;
+      says = λ J open_run fits. owed_is t v J has_scope.owed.0 m.place m.index m.what fits at;
       told = λ J open_run fits follows. no_facts _;
     }

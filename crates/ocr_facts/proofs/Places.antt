@@ -1,5 +1,5 @@
 -- The places of an entry: they differ, are from 1 to twice the limit, and are few.
-use Rattle.std.proofs.Common.{◌≡◌, ℕ, suc, ◌+◌, ◌-◌, ◌*◌, ◌<◌, ◌≤◌, ◌⊎◌, inl, inr, ⊎_elim, List, [], ◌∷◌, length, Bool, true, false, ◌==◌, ◌||◌, ◌&&◌, nat_lt, if◌then◌else◌, refl, sym, subst, arith}
+use Rattle.std.proofs.Common.{◌≡◌, ℕ, suc, ◌+◌, ◌-◌, ◌*◌, ◌<◌, ◌≤◌, ◌⊎◌, inl, inr, ⊎_elim, List, [], ◌∷◌, length, Bool, true, false, not, ◌==◌, ◌||◌, ◌&&◌, nat_lt, if◌then◌else◌, refl, sym, subst, arith}
 use Rattle.std.proofs.lemmas.Grind.{common_steps}
 use Rattle.std.proofs.lemmas.Bool.{eqb-true}
 use mathlib.Core.Logic.{dite}
@@ -12,9 +12,11 @@ use Rattle.ocr_history.specs.declared.entry.Entry.{Entry}
 use Rattle.ocr_history.specs.declared.entry.Entry.TheVariants.{Call, Deliver, Acquire, Wait, StaleAcquire, Start, Free, End}
 use Rattle.ocr_history.specs.declared.entry.What.{What}
 use Rattle.ocr_history.specs.declared.entry.What.TheVariants as what
+use Rattle.ocr_history.specs.Made.{names_new}
 use Rattle.ocr_history.specs.Numbers.{placed}
 use Rattle.ocr_parts.specs.Codes.{Sort, wanted}
-use Rattle.ocr_parts.specs.Footprint.{and_core, and_face, and_made, and_wanted, call_footprint, footprint_of, is_brought_to, is_touched, is_wanted, makes_core, message_footprint, on_core_of, on_face}
+use Rattle.ocr_parts.specs.Effects.{joins}
+use Rattle.ocr_parts.specs.Footprint.{and_beside, and_core, and_face, and_made, and_wanted, call_footprint, footprint_of, is_brought_to, is_touched, is_wanted, makes_core, message_footprint, names_beside, on_core_of, on_face}
 use Rattle.ocr_parts.specs.Taken.{is_within}
 use Rattle.ocr_turns.specs.Sums.{one_at, sum_of}
 use Rattle.ocr_turns.proofs.Totals.{one_here, one_most}
@@ -139,12 +141,17 @@ made_good limit c a ns good = elim (is_creation c) as (λ b. AreGood limit (if b
   | false ↦ good
 ]
 
+beside_good : (limit home : ℕ) (c : body.Call) (a : Answer) (ns : List ℕ) → AreGood limit ns → AreGood limit (and_beside limit home c a ns)
+beside_good limit home (call.EdtCreate from pc ps dc ds fl o) a ns good = face_good limit home _ (face_good limit a.scope _ (face_good limit a.output ns good))
+beside_good limit home other a ns good = good
+
 message_good : (limit : ℕ) (x : What) → AreGood limit (message_footprint limit x)
 message_good limit (what.Satisfy e slot p) = face_good limit e [] (no_places limit)
+message_good limit (what.Leave x) = face_good limit x [] (no_places limit)
 message_good limit other = no_places limit
 
 pub places_good : (limit : ℕ) (e : Entry) → AreGood limit (footprint_of limit e)
-places_good limit (Call t home c a w) = wanted_good limit (wanted c) _ (made_good limit c a _ (core_good limit t [] (no_places limit)))
+places_good limit (Call t home c a w) = beside_good limit home c a _ (wanted_good limit (wanted c) _ (made_good limit c a _ (core_good limit t [] (no_places limit))))
 places_good limit (Deliver m c) = message_good limit m.what
 places_good limit (Acquire t d) = face_good limit t _ (face_good limit d _ (core_good limit t [] (no_places limit)))
 places_good limit (Wait t d) = face_good limit t _ (face_good limit d _ (core_good limit t [] (no_places limit)))
@@ -217,12 +224,31 @@ made_core_here limit u other a ns within is = cc is
 
 message_named : (limit : ℕ) (x : What) (p : ℕ) → is_within limit p ≡ true → is_brought_to x p ≡ true → IsAt p (message_footprint limit x)
 message_named limit (what.Satisfy e slot q) p within is = face_at limit e p [] within is
+message_named limit (what.Leave x) p within is = face_at limit x p [] within is
 message_named limit other p within is = cc is
 
+-- the scope and the output event of an EDT that is made, and the home that it joins
+beside_stays : (limit home p : ℕ) (c : body.Call) (a : Answer) (ns : List ℕ) → IsAt p ns → IsAt p (and_beside limit home c a ns)
+beside_stays limit home p (call.EdtCreate from pc ps dc ds fl o) a ns is = face_stays limit home p _ (face_stays limit a.scope p _ (face_stays limit a.output p ns is))
+beside_stays limit home p other a ns is = is
+
+new_at : (limit g p : ℕ) (ns : List ℕ) → is_within limit p ≡ true → names_new g p ≡ true → IsAt p (and_face limit g ns)
+new_at limit g p ns within is = face_at limit g p ns within (both (not (g == 0)) (g == p) is).1
+
+beside_here : (limit home p : ℕ) (c : body.Call) (a : Answer) (ns : List ℕ) → is_within limit p ≡ true → (joins c home p || names_beside c a p) ≡ true → IsAt p (and_beside limit home c a ns)
+beside_here limit home p (call.EdtCreate from pc ps dc ds fl o) a ns within is = either (names_new home p) (names_new a.scope p || names_new a.output p) is
+    (λ own. new_at limit home p _ within own)
+    (λ new. face_stays limit home p _ (either (names_new a.scope p) (names_new a.output p) new
+    (λ scope. new_at limit a.scope p _ within scope)
+    (λ output. face_stays limit a.scope p _ (new_at limit a.output p ns within output))))
+beside_here limit home p other a ns within is = cc is
+
 face_named : (limit : ℕ) (e : Entry) (p : ℕ) → is_within limit p ≡ true → on_face e p ≡ true → IsAt p (footprint_of limit e)
-face_named limit (Call t home c a w) p within is = either (is_wanted p (wanted c)) (is_creation c && (a.value == p)) is
+face_named limit (Call t home c a w) p within is = either (joins c home p || names_beside c a p) (is_wanted p (wanted c) || (is_creation c && (a.value == p))) is
+    (λ beside. beside_here limit home p c a _ within beside)
+    (λ named. beside_stays limit home p c a _ (either (is_wanted p (wanted c)) (is_creation c && (a.value == p)) named
     (λ here. wanted_here limit p (wanted c) _ within here)
-    (λ new. wanted_stays limit p (wanted c) _ (made_face_here limit p c a _ within new))
+    (λ new. wanted_stays limit p (wanted c) _ (made_face_here limit p c a _ within new))))
 face_named limit (Deliver m c) p within is = message_named limit m.what p within is
 face_named limit (Acquire t d) p within is = either (t == p) (d == p) is (λ h. face_at limit t p _ within h) (λ h. face_stays limit t p _ (face_at limit d p _ within h))
 face_named limit (Wait t d) p within is = either (t == p) (d == p) is (λ h. face_at limit t p _ within h) (λ h. face_stays limit t p _ (face_at limit d p _ within h))
@@ -233,9 +259,9 @@ face_named limit (End t g) p within is = face_at limit g p _ within is
 face_named limit other p within is = cc is
 
 core_named : (limit : ℕ) (e : Entry) (u : ℕ) → is_within limit u ≡ true → on_core_of e u ≡ true → IsAt (limit + u) (footprint_of limit e)
-core_named limit (Call t home c a w) u within is = wanted_stays limit (limit + u) (wanted c) _ (either (t == u) (makes_core c && (a.value == u)) is
+core_named limit (Call t home c a w) u within is = beside_stays limit home (limit + u) c a _ (wanted_stays limit (limit + u) (wanted c) _ (either (t == u) (makes_core c && (a.value == u)) is
     (λ here. made_stays limit (limit + u) c a _ (core_at limit t u [] within here))
-    (λ new. made_core_here limit u c a _ within new))
+    (λ new. made_core_here limit u c a _ within new)))
 core_named limit (Acquire t d) u within is = face_stays limit t (limit + u) _ (face_stays limit d (limit + u) _ (core_at limit t u [] within is))
 core_named limit (Wait t d) u within is = face_stays limit t (limit + u) _ (face_stays limit d (limit + u) _ (core_at limit t u [] within is))
 core_named limit (StaleAcquire t d) u within is = face_stays limit t (limit + u) _ (face_stays limit d (limit + u) _ (core_at limit t u [] within is))
@@ -274,13 +300,21 @@ made_length limit c a ns = elim (is_creation c) as (λ b. length (if b then and_
   | false ↦ omega arith
 ]
 
-pub call_few : (limit t : ℕ) (c : body.Call) (a : Answer) → length (wanted c) ≤ 33 → length (call_footprint limit c a (and_core limit t [])) ≤ 36
-call_few limit t c a few =
+beside_length : (limit home : ℕ) (c : body.Call) (a : Answer) (ns : List ℕ) → length (and_beside limit home c a ns) ≤ length ns + 3
+beside_length limit home (call.EdtCreate from pc ps dc ds fl o) a ns =
+    let one = face_length limit a.output ns in let two = face_length limit a.scope (and_face limit a.output ns) in let three = face_length limit home (and_face limit a.scope (and_face limit a.output ns)) in
+    omega (arith, one, two, three)
+beside_length limit home other a ns = omega arith
+
+pub call_few : (limit t home : ℕ) (c : body.Call) (a : Answer) → length (wanted c) ≤ 33 → length (and_beside limit home c a (call_footprint limit c a (and_core limit t []))) ≤ 39
+call_few limit t home c a few =
     let core = core_length limit t [] in let made = made_length limit c a (and_core limit t []) in let all = wanted_length limit (wanted c) (and_made limit c a (and_core limit t [])) in
-    omega (arith, few, core, made, all)
+    let beside = beside_length limit home c a (call_footprint limit c a (and_core limit t [])) in
+    omega (arith, few, core, made, all, beside)
 
 pub message_few : (limit : ℕ) (x : What) → length (message_footprint limit x) ≤ 1
 message_few limit (what.Satisfy e slot p) = let one = face_length limit e [] in omega (arith, one)
+message_few limit (what.Leave x) = let one = face_length limit x [] in omega (arith, one)
 message_few limit other = omega arith
 
 pub two_few : (limit t d : ℕ) → length (and_face limit t (and_face limit d (and_core limit t []))) ≤ 3

@@ -14,7 +14,8 @@ use Rattle.ocr_template.specs.declared.Template.{Template}
 use Rattle.ocr_parts.specs.declared.part.Part.{Part}
 use Rattle.ocr_parts.specs.declared.part.Part.TheVariants as part
 use Rattle.ocr_parts.specs.Effects.{granted, hold_ended, returned}
-use Rattle.ocr_parts.specs.Kinds.{with_links, with_template, with_event}
+use Rattle.ocr_finish.specs.Scope as scope
+use Rattle.ocr_parts.specs.Kinds.{with_links, with_template, with_event, with_scope}
 use Rattle.ocr_any_event.specs.declared.AnyEvent.{AnyEvent}
 use Rattle.ocr_parts.specs.LegalOn.{IsTaken, IsRefused}
 use Rattle.ocr_quiet.specs.Waits.{queue_on, stands}
@@ -163,3 +164,7 @@ template_queue other step = refl
 pub event_queue : (x : Part) (step : AnyEvent → AnyEvent) → queue_on (with_event x step) ≡ queue_on x
 event_queue (part.Event st) step = refl
 event_queue other step = refl
+
+pub scope_queue : (x : Part) (step : scope.State → scope.State) → queue_on (with_scope x step) ≡ queue_on x
+scope_queue (part.Scope st) step = refl
+scope_queue other step = refl

@@ -7,13 +7,16 @@ use Rattle.ocr_meaning.specs.declared.call.Call as body
 use Rattle.ocr_meaning.specs.declared.call.Call.TheVariants as call
 use Rattle.ocr_meaning.specs.declared.call.Answer.{Answer}
 use Rattle.ocr_history.specs.declared.entry.Entry.{Entry}
-use Rattle.ocr_history.specs.declared.entry.Entry.TheVariants.{Call, Deliver}
+use Rattle.ocr_history.specs.declared.entry.Entry.TheVariants.{Call, Deliver, End}
 use Rattle.ocr_history.specs.declared.entry.What.{What}
 use Rattle.ocr_history.specs.declared.entry.What.TheVariants as what
+use Rattle.ocr_edt.specs.declared.Identity.{Identity}
+use Rattle.ocr_parts.specs.declared.part.Part.{Part}
+use Rattle.ocr_parts.specs.declared.part.Part.TheVariants as part
 use Rattle.ocr_parts.specs.Calls.{is_given, is_object, slot_target, target_of}
-use Rattle.ocr_parts.specs.Effects.{linked_if, readied, settled_parts}
-use Rattle.ocr_parts.specs.Kinds.{is_edt_face}
-use Rattle.ocr_parts.specs.Messages.{dep_sends, linked_by, sends, sent_by, sent_by_message}
+use Rattle.ocr_parts.specs.Effects.{linked_if, readied, settled, settled_parts}
+use Rattle.ocr_parts.specs.Kinds.{identity_on, is_edt_face}
+use Rattle.ocr_parts.specs.Messages.{dep_sends, linked_by, payload_of_end, sends, sent_by, sent_by_end, sent_by_message}
 use Rattle.ocr_parts.specs.Parts.{Parts}
 
 linked_settled : (named : Bool) (d : ℕ) (t : Target) (f : Parts) → linked_by named d t (settled_parts f) ≡ linked_by named d t f
@@ -40,11 +43,17 @@ call_settled other a f = refl
 
 message_settled : (x : What) (f : Parts) → sent_by_message x (settled_parts f) ≡ sent_by_message x f
 message_settled (what.Satisfy e slot p) f = refl
+message_settled (what.Leave x) f = refl
 message_settled other f = refl
+
+identity_settled : (x : Part) → identity_on (settled x) ≡ identity_on x
+identity_settled (part.Core c) = refl
+identity_settled other = refl
 
 pub settled_sends : (e : Entry) (f : Parts) → sends e (settled_parts f) ≡ sends e f
 settled_sends (Call t home c a w) f = ap (λ (xs : List What). if is_done a.code then xs else []) (call_settled c a f)
 settled_sends (Deliver m c) f = ap (λ (xs : List What). if is_done c then xs else []) (message_settled m.what f)
+settled_sends (End t g) f = ap (λ (i : Identity). sent_by_end i (payload_of_end (f.face g) g)) (identity_settled (f.core t))
 settled_sends other f = refl
 
 -- an EDT that is made ready sends nothing

@@ -13,17 +13,17 @@ use Rattle.ocr_history.specs.declared.entry.Entry.TheVariants.{Call, Deliver, St
 use Rattle.ocr_history.specs.declared.entry.Message.{Message}
 use Rattle.ocr_history.specs.declared.entry.What.{What}
 use Rattle.ocr_history.specs.declared.entry.What.TheVariants as what
-use Rattle.ocr_history.specs.declared.objects.TheConstants.{ARGUMENTS, MAIN_EDT}
+use Rattle.ocr_history.specs.declared.objects.TheConstants.{ARGUMENTS, MAIN_EDT, OUTPUT_FLAGS, OUTPUT_KIND}
 use Rattle.ocr_history.specs.Edts as edts
 use Rattle.ocr_history.specs.History.{History}
 use Rattle.ocr_history.specs.History as history
-use Rattle.ocr_history.specs.Made.{Made, MadeEdt, depc_in, is_edt, is_edt_made, is_new, made, makes, opened}
+use Rattle.ocr_history.specs.Made.{Made, MadeEdt, MadeEvent, MadeScope, depc_in, edt_from, is_edt, is_edt_made, is_new, made, made_beside, makes, names_new, opened}
 use Rattle.ocr_parts.specs.Calls as calls
 use Rattle.ocr_parts.specs.Calls.{depc_of, set_calls, set_step}
 use Rattle.ocr_parts.specs.Legal.{IsRun, IsLegal}
-use Rattle.ocr_parts.proofs.Within.{new_free}
+use Rattle.ocr_parts.proofs.Within.{beside_free, new_free}
 use Rattle.ocr_quiet.proofs.Edts.{edts_law}
-use Rattle.ocr_standing.proofs.Lasting.{made_old}
+use Rattle.ocr_standing.proofs.Lasting.{edt_not_new}
 use Rattle.ocr_standing.proofs.Once.{set_once_law}
 use Rattle.ocr_turns.specs.Counting.{count_if, is_ended, is_started, payload_if, payload_of, slots_of}
 use Rattle.ocr_turns.specs.declared.view.Terms.{Terms}
@@ -57,6 +57,11 @@ opened_slots s n = elim (n == ARGUMENTS) as (λ b. (n == ARGUMENTS) ≡ b → (i
 other_new : (b : Bool) (x : Made) (y : Option Made) (before : Option ℕ) → slots_in (Some x) ≡ None → (b ≡ true → y ≡ None) → before ≡ slots_in y → before ≡ slots_in (if b then Some x else y)
 other_new true x y before none free was = was ∙ (ap slots_in (free refl) ∙ sym none)
 other_new false x y before none free was = was
+
+-- what is made beside an EDT has no slots
+beside_new : (b : Bool) (x : Made) (rest : Option Made) (before : Option ℕ) → slots_in (Some x) ≡ None → (b ≡ true → before ≡ None) → before ≡ slots_in rest → before ≡ slots_in (if b then Some x else rest)
+beside_new true x rest before none free was = free refl ∙ sym none
+beside_new false x rest before none free was = was
 
 edt_new : (b : Bool) (x y : Option Made) (v n D : ℕ) (before : Option ℕ) → (b ≡ true → v ≡ n → slots_in x ≡ Some D) → before ≡ slots_in y
     → count_if (if b then Some (v, D) else None) n before ≡ slots_in (if b && (v == n) then x else y)
@@ -100,11 +105,14 @@ slots_are t (Call u home (call.EdtCreate from pc ps dc ds fl o) a w ∷ past) n 
     let s = of_terms t in
     let e : Entry = Call u home (call.EdtCreate from pc ps dc ds fl o) a w in
     let D : ℕ = depc_of s (e ∷ reverse (reverse past)) a.value in
-    edt_new (is_done a.code) _ (made s past n) a.value n D (slots_of meaning t past n)
+    let was = slots_are t past n run.0 in
+    let event : Option Made = if is_done a.code && names_new a.output n then Some (MadeEvent OUTPUT_KIND OUTPUT_FLAGS 0) else made s past n in
+    edt_new (is_done a.code) (edt_from (made s past from) ps dc) (made_beside a home n (made s past n)) a.value n D (slots_of meaning t past n)
     (λ done is.
     let makes_n : makes a n ≡ true = both_on (is_done a.code) (a.value == n) done (subst (λ (k : ℕ). (a.value == k) ≡ true) is (number_same a.value)) in
-    ap slots_in (sym (chosen_on (makes a n) _ (made s past n) makes_n)) ∙ (created_slots s past u home from pc dc fl ps ds o a w n run done is ∙ ap (λ (K : History). Some (depc_of s (e ∷ K) a.value)) (sym (reverse-reverse past))))
-    (slots_are t past n run.0)
+    ap slots_in (sym (chosen_on (makes a n) (edt_from (made s past from) ps dc) (made_beside a home n (made s past n)) makes_n)) ∙ (created_slots s past u home from pc dc fl ps ds o a w n run done is ∙ ap (λ (K : History). Some (depc_of s (e ∷ K) a.value)) (sym (reverse-reverse past))))
+    (beside_new (is_done a.code && names_new a.scope n) (MadeScope home a.output) event (slots_of meaning t past n) refl (λ on. was ∙ ap slots_in (beside_free _ (is_done a.code) s past _ a.scope n run.1.on_parts.scope on).0)
+    (beside_new (is_done a.code && names_new a.output n) (MadeEvent OUTPUT_KIND OUTPUT_FLAGS 0) (made s past n) (slots_of meaning t past n) refl (λ on. was ∙ ap slots_in (beside_free _ (is_done a.code) s past _ a.output n run.1.on_parts.output on).0) was))
 slots_are t (Call u home other a w ∷ past) n run = slots_are t past n run.0
 slots_are t (other ∷ past) n run = slots_are t past n run.0
 
@@ -164,7 +172,7 @@ pub payload_is : (t : Terms Setting) (past : History) (n k : ℕ) → IsRun (of_
 payload_is t [] n k run = opened_payload n k
 payload_is t (Call u home c a w ∷ past) n k run =
     payload_is t past n k run.0 ∙ new_payload (is_new c a n) (set_calls past n) k (λ new. none_set _ (λ set.
-    let old = made_old (of_terms t) past u c a n run.1.on_parts.value (edt_made (of_terms t) past n run.0 (set_edt (of_terms t) past n k run.0 set)) in cc (new, old)))
+    let old = edt_not_new (of_terms t) past u home c a w n run.1.on_parts (edt_made (of_terms t) past n run.0 (set_edt (of_terms t) past n k run.0 set)) in cc (new, old)))
 payload_is t (Deliver m c ∷ past) n k run = step_payload m.what n k (set_calls past n) (payload_of meaning t past n k) (payload_is t past n k run.0)
 payload_is t (other ∷ past) n k run = payload_is t past n k run.0
 

@@ -25,7 +25,8 @@ use Rattle.ocr_parts.specs.Kinds.{IsBlock, is_acquiring, is_acquiring_edt, is_ru
 use Rattle.ocr_parts.specs.LegalOn.{IsRefused}
 use Rattle.ocr_parts.specs.Legal.{IsRun, IsLegal}
 use Rattle.ocr_parts.specs.Messages.{resumes}
-use Rattle.ocr_parts.specs.Parts.{Parts, core, parts_of}
+use Rattle.ocr_edt.specs.declared.Identity.{Identity}
+use Rattle.ocr_parts.specs.Parts.{Parts, core, identity_of, parts_of, plain_identity}
 use Rattle.ocr_parts.proofs.After.{after_law}
 use Rattle.ocr_quiet.specs.Marks.{mark, mark_in}
 use Rattle.ocr_quiet.specs.Waits.{AreStanding, awaits, queue_on}
@@ -47,9 +48,9 @@ pub resumed_is : (t : Terms Setting) (past : History) (e : Entry) → resumed t.
 resumed_is t past e = ap (λ (K : History). resumes e (parts_of (of_terms t) K)) (reverse-reverse past)
 
 -- AT THE OPENING nobody waits
-fresh_awaits : (m : Option Made) (t : ℕ) → awaits (core m t [] []) ≡ None
-fresh_awaits (Some (MadeEdt f ps n)) t = refl
-fresh_awaits other t = refl
+fresh_awaits : (m : Option Made) (i : Identity) → awaits (core m i [] []) ≡ None
+fresh_awaits (Some (MadeEdt f ps n)) i = refl
+fresh_awaits other i = refl
 
 -- WHO IS LET WAIT comes last in the queue
 pub number_same : (n : ℕ) → (n == n) ≡ true
@@ -161,7 +162,7 @@ step_awaits t past (Free u d w) n enough run legal was = entry_awaits t past (Fr
 step_awaits t past (Stop why) n enough run legal was = entry_awaits t past (Stop why) n enough run legal tt was
 
 pub waits_is : (t : Terms Setting) (past : History) (n : ℕ) → 2 ≤ t.limit → IsRun (of_terms t) past → IsAwaiting (awaited meaning t past n) (parts_of (of_terms t) past) n
-waits_is t [] n enough run = none_left (parts_of (of_terms t) []) n (λ d queued. unqueued (parts_of (of_terms t) []) n d (standing_law (of_terms t) [] tt) (fresh_awaits (opened (of_terms t) n) n) queued)
+waits_is t [] n enough run = none_left (parts_of (of_terms t) []) n (λ d queued. unqueued (parts_of (of_terms t) []) n d (standing_law (of_terms t) [] tt) (fresh_awaits (opened (of_terms t) n) (plain_identity n)) queued)
 waits_is t (e ∷ past) n enough run =
     subst (λ (f : Parts). IsAwaiting (awaited meaning t (e ∷ past) n) f n) (sym (after_law (of_terms t) past e run.0 run.1)) (step_awaits t past e n enough run.0 run.1 (waits_is t past n enough run.0))
 
@@ -181,9 +182,9 @@ acquiring_stage (part.Core c) is = stage c.edt is
     stage other is = cc is
 acquiring_stage other is = cc is
 
-acquiring_made : (m : Option Made) (t : ℕ) (cs : List edt.EdtCall) (loans : List (ℕ × Kept)) (step : Core → Core) → is_acquiring (on_core (core m t cs loans) step) ≡ true → is_edt_made m ≡ true
-acquiring_made (Some (MadeEdt f ps n)) t cs loans step is = refl
-acquiring_made other t cs loans step is = cc is
+acquiring_made : (m : Option Made) (i : Identity) (cs : List edt.EdtCall) (loans : List (ℕ × Kept)) (step : Core → Core) → is_acquiring (on_core (core m i cs loans) step) ≡ true → is_edt_made m ≡ true
+acquiring_made (Some (MadeEdt f ps n)) i cs loans step is = refl
+acquiring_made other i cs loans step is = cc is
 
 chosen_on : {A : Type 0} (b : Bool) (x y : A) → b ≡ true → (if b then x else y) ≡ x
 chosen_on true x y is = refl
@@ -192,7 +193,7 @@ chosen_on false x y is = cc is
 pub ready_made : (s : history.Setting) (past : History) (n : ℕ) → is_acquiring ((ready_at n (plan_of s past n) (parts_of s past)).core n) ≡ true → is_edt_made (made s past n) ≡ true
 ready_made s past n is =
     let step : Core → Core = with_phase (made_ready (plan_of s past n)) in
-    acquiring_made (made s past n) n (edt_calls s past n) (loans_of s past n) step
+    acquiring_made (made s past n) (identity_of past n) (edt_calls s past n) (loans_of s past n) step
     (ap is_acquiring (sym (chosen_on (n == n) (on_core ((parts_of s past).core n) step) ((parts_of s past).core n) (number_same n))) ∙ is)
 
 -- WHO RUNS has started and not ended

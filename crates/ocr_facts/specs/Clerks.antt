@@ -1,10 +1,12 @@
 -- What a clerk knows of every history that fits its view, and what it may enter.
-use Rattle.std.specs.Prelude.{◌≡◌, ◌<◌, ◌≤◌, ◌-◌, ◌^◌, ℕ, List, [], ◌∷◌, ◌++◌, true, false, reverse}
+use Rattle.std.specs.Prelude.{◌≡◌, ◌<◌, ◌≤◌, ◌+◌, ◌-◌, ◌^◌, ◌==◌, ℕ, List, [], ◌∷◌, ◌++◌, Bool, true, false, reverse}
 use mathlib.Core.Option.{some}
 use lib.ListN.{get_elem?}
 use Rattle.ocr_acquire.specs.declared.Mode.{Mode}
 use Rattle.ocr_code.specs.Checked.{checked_tree}
 use Rattle.ocr_tree.specs.Runnable.{IsRunnable}
+use Rattle.ocr_finish.specs.declared.TheConstants.{MOST_MEMBERS}
+use Rattle.ocr_guid.specs.declared.Code.TheVariants as code
 use Rattle.ocr_history.specs.declared.entry.Entry.{Entry}
 use Rattle.ocr_history.specs.declared.entry.Entry.TheVariants.{Deliver}
 use Rattle.ocr_history.specs.declared.entry.Message.{Message}
@@ -14,15 +16,16 @@ use Rattle.ocr_history.specs.History as history
 use Rattle.ocr_parts.specs.declared.part.Part.{Part}
 use Rattle.ocr_parts.specs.Effects.{changed}
 use Rattle.ocr_parts.specs.Footprint.{Covers}
-use Rattle.ocr_parts.specs.Kinds.{counted_on}
+use Rattle.ocr_parts.specs.Kinds.{counted_on, home_on, is_running}
 use Rattle.ocr_parts.specs.Legal.{AreFacts, IsSaid, is_stop}
-use Rattle.ocr_parts.specs.LegalOn.{IsLegalOn, IsSatisfiable, delivery_code}
+use Rattle.ocr_parts.specs.LegalOn.{HasMember, IsAtHome, IsLegalOn, IsSatisfiable, delivery_code}
 use Rattle.ocr_parts.specs.Messages.{sends}
 use Rattle.ocr_parts.specs.Parts.{parts_of}
-use Rattle.ocr_parts.specs.Taken.{face_in, has, is_within, keys, look, parts_in, seen}
+use Rattle.ocr_parts.specs.Taken.{core_in, face_in, has, is_within, keys, look, parts_in, seen}
 use Rattle.ocr_standing.specs.Kept.{IsPlanFor, kept_ready}
 use Rattle.ocr_turns.specs.Contract.{Legal}
 use Rattle.ocr_turns.specs.Meaning.{Open}
+use Rattle.ocr_turns.specs.Owing.{times}
 use Rattle.ocr_turns.specs.Rule.{FactsOf, Fits}
 use Rattle.ocr_turns.specs.Steps.{deed}
 use Rattle.ocr_turns.specs.Sums.{one_at, weigh}
@@ -134,3 +137,67 @@ abbrev pub DeliverLaw : Type 0
 DeliverLaw = (t : OcrTerms) (v : OcrView) (m : Message) (e slot payload : ℕ)
     (hand : List (ℕ × Part)) → HasEvent t v m e slot payload hand
     → MayEnter t v (Deliver m (delivery_code (face_in t.limit hand e) payload)) [] hand
+
+-- OWED LEAVES. The clerk owes a message that leaves this scope
+abbrev pub OwesLeave : OcrView → ℕ → Type 0
+OwesLeave v x = (k : ℕ) × (place : ℕ) × (index : ℕ)
+    × (get_elem? v.owed k ≡ some (place, index, what.Leave x))
+
+-- the scope is an object, and has a member that can leave it
+pub record CanLeave (t : OcrTerms) (J : List Entry) (x : ℕ) : Type 0 where
+  pub within : is_within t.limit x ≡ true
+  pub member : HasMember ((parts_of (of_terms t) (reverse J)).face x)
+
+-- so it is after every history that fits the view
+abbrev pub KnowsMember : Type 0
+KnowsMember = (t : OcrTerms) (v : OcrView) (J : List Entry) (x : ℕ) → OwesLeave v x
+    → Fits meaning t J v → CanLeave t J x
+
+-- and of the scope as it is at hand
+abbrev pub HandMember : Type 0
+HandMember = (t : OcrTerms) (v : OcrView) (J : List Entry) (hand : List (ℕ × Part)) (x : ℕ)
+    → OwesLeave v x → Fits meaning t J v → AreAtHand t.limit hand v.parts → has hand x ≡ true
+    → HasMember (face_in t.limit hand x)
+
+-- The clerk owes the message, which leaves this scope, and has the scope's face
+pub record HasScope (t : OcrTerms) (v : OcrView) (m : Message) (x : ℕ) (hand : List (ℕ × Part))
+    : Type 0 where
+  pub runnable : IsRunnable (checked_tree t.setting.value.program)
+  pub owed : (k : ℕ) × (get_elem? v.owed k ≡ some (m.place, m.index, m.what))
+  pub brings : m.what ≡ what.Leave x
+  pub fitting : (J : List Entry) × Fits meaning t J v
+  pub at_hand : AreAtHand t.limit hand v.parts
+  pub here : has hand x ≡ true
+
+-- so it may enter the delivery
+abbrev pub LeaveLaw : Type 0
+LeaveLaw = (t : OcrTerms) (v : OcrView) (m : Message) (x : ℕ) (hand : List (ℕ × Part))
+    → HasScope t v m x hand → MayEnter t v (Deliver m code.Done) [] hand
+
+-- HOMES. After every history that fits, the home of a running EDT takes one member more, where the
+-- clerk has a number for it
+abbrev pub KnowsHome : Type 0
+KnowsHome = (t : OcrTerms) (v : OcrView) (J : List Entry) (u g : ℕ) (done : Bool)
+    → Fits meaning t J v → t.limit ≤ MOST_MEMBERS
+    → is_running ((parts_of (of_terms t) (reverse J)).core u) ≡ true
+    → (done ≡ true → 1 ≤ times g v.drawn)
+    → IsAtHome (parts_of (of_terms t) (reverse J)) u
+    (home_on ((parts_of (of_terms t) (reverse J)).core u)) done
+
+-- The clerk has the core of a running EDT, its home's face, and a number for what it makes
+pub record HasHome (t : OcrTerms) (v : OcrView) (u g : ℕ) (done : Bool) (hand : List (ℕ × Part))
+    : Type 0 where
+  pub most : t.limit ≤ MOST_MEMBERS
+  pub fitting : (J : List Entry) × Fits meaning t J v
+  pub at_hand : AreAtHand t.limit hand v.parts
+  pub here : has hand (t.limit + u) ≡ true
+  pub running : is_running (core_in t.limit hand u) ≡ true
+  pub home : (home_on (core_in t.limit hand u) == 0) ≡ false
+      → has hand (home_on (core_in t.limit hand u)) ≡ true
+  pub drawn : done ≡ true → 1 ≤ times g v.drawn
+
+-- so the EDT is at home on the parts at hand
+abbrev pub HandHome : Type 0
+HandHome = (t : OcrTerms) (v : OcrView) (u g : ℕ) (done : Bool) (hand : List (ℕ × Part))
+    → HasHome t v u g done hand
+    → IsAtHome (parts_in t.limit hand) u (home_on (core_in t.limit hand u)) done

@@ -4,9 +4,11 @@ use Rattle.ocr_slots.specs.declared.Slot.{Slot}
 use Rattle.ocr_edt.specs.Phases.{Progress}
 use Rattle.ocr_tree.specs.Tree.{FunctionTree}
 use Rattle.ocr_meaning.specs.Body.{Body}
+use Rattle.ocr_meaning.specs.declared.call.Call as body
 use Rattle.ocr_meaning.specs.Holds.{Holds}
 use Rattle.ocr_history.specs.declared.entry.Entry.{Entry}
-use Rattle.ocr_history.specs.declared.entry.Entry.TheVariants.{Start}
+use Rattle.ocr_history.specs.declared.entry.Entry.TheVariants.{Start, Stop}
+use Rattle.ocr_history.specs.declared.entry.Stop.TheVariants as by
 use Rattle.ocr_history.specs.Edts.{is_started}
 use Rattle.ocr_history.specs.History.{History, Setting}
 use Rattle.ocr_history.specs.Made.{is_edt}
@@ -17,9 +19,10 @@ use Rattle.ocr_parts.specs.Bodies.{body_of, body_with, hold_of}
 use Rattle.ocr_parts.specs.Calls.{depc_of, depv_in, payload_of, payloads_of}
 use Rattle.ocr_parts.specs.Effects.{settled_core, started_edt, with_phase}
 use Rattle.ocr_parts.specs.Kinds.{core_progress, kept_on, mode_on}
+use Rattle.ocr_parts.specs.Legal.{IsCreating}
 use Rattle.ocr_parts.specs.Taken.{look}
 use Rattle.ocr_facts.specs.declared.fact.Fact.{Fact}
-use Rattle.ocr_facts.specs.declared.fact.Fact.TheVariants.{Count, IsSet, Began}
+use Rattle.ocr_facts.specs.declared.fact.Fact.TheVariants.{Count, IsSet, Began, Short}
 use Rattle.ocr_standing.specs.Kept.{filled}
 
 -- THE BODY of an EDT by the face and the core from which it starts: what it holds, what it found
@@ -55,10 +58,17 @@ pub record HasBegun (s : Setting) (past : History) (t : ℕ) (face : List Slot) 
     pub started : is_started past t ≡ true
     pub body : body_of s past t ≡ body_by s.program face c (payloads_of s past t)
 
+-- the run ended for want of numbers, where the body of this EDT, which ran, said this creation next
+pub record EndsShort (s : Setting) (past : History) (t : ℕ) (c : body.Call) : Type 0 where
+  pub before : History
+  pub stopped : past ≡ Stop by.Objects ∷ before
+  pub creating : IsCreating s before t c
+
 abbrev pub Stands : Setting → History → Fact → Type 0
 Stands s past (Count t n) = IsCount s past t n
 Stands s past (IsSet t k p) = IsPayload past t k p
 Stands s past (Began t face c) = HasBegun s past t face c
+Stands s past (Short t c) = EndsShort s past t c.value
 
 -- WHAT AN ENTRY TELLS whoever keeps these parts: a start tells the face and the core from which the
 -- EDT started, as they are seen

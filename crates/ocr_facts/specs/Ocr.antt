@@ -1,10 +1,12 @@
 -- The OCR machine, as a table of turns sees it.
-use Rattle.std.specs.Prelude.{ℕ, ◌+◌, List, [], ◌∷◌, Bool, false, ◌&&◌, ◌==◌, if◌then◌else◌, reverse, Option, Some, None}
+use Rattle.std.specs.Prelude.{ℕ, ◌+◌, List, [], ◌∷◌, ◌++◌, Bool, false, ◌&&◌, ◌==◌, if◌then◌else◌, reverse, Option, Some, None}
 use Rattle.ocr_code.specs.Checked.{checked_tree}
 use Rattle.ocr_template.specs.Template.{count_meant}
 use Rattle.ocr_tree.specs.Runnable.{IsRunnable}
 use Rattle.ocr_meaning.specs.Call.{is_creation}
 use Rattle.ocr_meaning.specs.Holds.{is_done}
+use Rattle.ocr_meaning.specs.declared.call.Answer.{Answer}
+use Rattle.ocr_meaning.specs.declared.call.Call as body
 use Rattle.ocr_meaning.specs.declared.call.Call.TheVariants as call
 use Rattle.ocr_history.specs.declared.entry.Entry.{Entry}
 use Rattle.ocr_history.specs.declared.entry.Entry.TheVariants.{Call, Deliver, Wait, Start, End}
@@ -54,9 +56,18 @@ sent g limit J e = sends e (parts_of (setting_of g limit) (reverse J))
 abbrev pub touches : ℕ → Entry → ℕ → ℕ
 touches limit e p = sum_of (one_at p) (footprint_of limit e)
 
--- the numbers that an entry makes
+-- a number, where it is not NULL_GUID
+abbrev pub some_number : ℕ → List ℕ
+some_number n = if n == 0 then [] else n ∷ []
+
+-- the numbers of the scope and of the output event of an EDT that a call makes
+abbrev pub beside : body.Call → Answer → List ℕ
+beside (call.EdtCreate from pc ps dc ds fl o) a = some_number a.scope ++ some_number a.output
+beside other a = []
+
+-- the numbers that an entry makes, an EDT's own before those beside it
 abbrev pub makes : Entry → List ℕ
-makes (Call t home c a w) = if is_creation c && is_done a.code then a.value ∷ [] else []
+makes (Call t home c a w) = if is_creation c && is_done a.code then a.value ∷ beside c a else []
 makes other = []
 
 -- an EDT's first entry and its last

@@ -1,7 +1,7 @@
 // The laws that a table of turns asks.
 ghost use Rattle.ocr_turns.specs.Counting.{CountingLaws};
 ghost use Rattle.ocr_turns.specs.Meaning.{Lawful};
-ghost use Rattle.ocr_facts.specs.Clerks.{DeliverLaw, EntryLaw, HandCounted, HandSatisfiable, KnowsCounted, KnowsSatisfiable};
+ghost use Rattle.ocr_facts.specs.Clerks.{DeliverLaw, EntryLaw, HandCounted, HandHome, HandMember, HandSatisfiable, KnowsCounted, KnowsHome, KnowsMember, KnowsSatisfiable, LeaveLaw};
 ghost use Rattle.ocr_facts.specs.Ocr.{meaning};
 
 /// The machine obeys the laws of the table of turns, and those of the words that count an EDT's
@@ -29,4 +29,18 @@ pub fn owing_laws()
 pub fn counted_laws()
     ensures counted { KnowsCounted }
     ensures at_hand { HandCounted }
+{}
+
+/// The scope that a clerk owes a leave has a member; so the clerk may enter the delivery once it
+/// has the scope's face at hand.
+pub fn leaving_laws()
+    ensures member { KnowsMember }
+    ensures at_hand { HandMember }
+    ensures leave { LeaveLaw }
+{}
+
+/// The home of a running EDT takes one member more, where the clerk has a number for it.
+pub fn home_laws()
+    ensures home { KnowsHome }
+    ensures at_hand { HandHome }
 {}

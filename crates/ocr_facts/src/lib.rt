@@ -7,5 +7,5 @@ mod laws;
 mod setting;
 
 pub use fact::Fact;
-pub use laws::{clerk_laws, counted_laws, owing_laws, table_laws};
+pub use laws::{clerk_laws, counted_laws, home_laws, leaving_laws, owing_laws, table_laws};
 pub use setting::Setting;

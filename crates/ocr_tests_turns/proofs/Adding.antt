@@ -76,6 +76,6 @@ may_add t v p found n after d ps ms least most are light has changed sum sent =
 pub taken_part : (p x found : ℕ) → (if p == p then Some (Some x) else None) ≡ Some (Some found) → x ≡ found
 taken_part p x found at = grind (arith, common_steps, at, same_is p)
 
-pub may_stop : (t : Terms ℕ) (v : View ℕ Entry ℕ ℕ ℕ) → MayClose meaning t v Stop
+pub may_stop : (t : Terms ℕ) (v : View ℕ Entry ℕ ℕ ℕ) → MayClose meaning t v Stop []
 unfolding legal
-may_stop t v = record { stops = refl; legal = λ J goes fits. tt }
+may_stop t v = record { stops = refl; legal = λ J goes fits. tt; facts = λ J goes fits k f there. tt }

@@ -140,7 +140,7 @@ fn stop(turns: &Turns<Toy>, clerk: &mut Clerk<Toy>) -> bool
     requires { IsIdle turns.now clerk.old }
     ensures { IsOut turns.now clerk.new }
 {
-    matches!(turns.close(clerk, Entry::Stop), Committed::At(_))
+    matches!(turns.close(clerk, Entry::Stop, &[]), Committed::At(_))
 }
 
 /// Does a job.

@@ -122,7 +122,7 @@ module _ {G E P N F : Type 0} (m : Meaning G E P N F) (t : Terms G) where
 
       pub sees_end : 0 < v.root + v.seat → Ended m.stops J → SeesEnd m v
       sees_end is_out ended t' terms = subst (λ q. (K : List E) × Over m q K v) (same_terms t t' (sym ((k.seated id v at).terms is_out) ∙ terms))
-          (J, record { run = k.ledger.run; log = (k.seated id v at).log; joined = (k.seated id v at).joined; ended = ended; sole = lone })
+          (J, record { run = k.ledger.run; log = (k.seated id v at).log; joined = (k.seated id v at).joined; ended = ended; facts = (k.seated id v at).facts; sole = lone })
 
 -- whatever slot a seat carries, it may rely on the same
 pub fits_carried : {G E P N F : Type 0} (m : Meaning G E P N F) (t : Terms G) (J : List E) (v : View G E P N F) (o q : Option ℕ) → Fits m t J record v { carried = o } → Fits m t J record v { carried = q }

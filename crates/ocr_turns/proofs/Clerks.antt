@@ -82,8 +82,8 @@ module _ {G E P N F : Type 0} where
     pub logged_true : (n : ℕ) (d : Deed E P N F) → AreInRange (limit_of me.0.terms) d.debts [] → IsTrueTo (logged me.0 n d, me.1) (log ++ (n, d.entry) ∷ []) joined (replace_all (as_some d.parts) parts) (without d.delivers owed ++ named n 0 d.sends) (weight + d.weight) closed full
     logged_true n d adds = record { log_is = ap (λ l. l ++ (n, d.entry) ∷ []) old.log_is; joined_are = old.joined_are; keeps = keys_replace_all (as_some d.parts) parts ∙ (old.keeps ∙ sym (keys_replace_all d.parts me.0.parts)); owed_are = ap (λ l. without d.delivers l ++ named n 0 d.sends) old.owed_are; weight_is = ap (λ w. w + d.weight) old.weight_is; closed_is = old.closed_is; full_is = old.full_is; past_end = old.past_end; past_limit = old.past_limit; rests = old.rests; ranges = entered_owed (limit_of me.0.terms) me.0.debts d.debts me.0.claims d.leaves old.ranges adds; seat = old.seat }
 
-    pub ended_true : (n : ℕ) (e : E) → IsTrueTo (ended_by me.0 n e, me.1) (log ++ (n, e) ∷ []) joined parts owed weight closed full
-    ended_true n e = record { log_is = ap (λ l. l ++ (n, e) ∷ []) old.log_is; joined_are = old.joined_are; keeps = old.keeps; owed_are = old.owed_are; weight_is = old.weight_is; closed_is = old.closed_is; full_is = old.full_is; past_end = old.past_end; past_limit = old.past_limit; rests = old.rests; ranges = old.ranges; seat = old.seat }
+    pub ended_true : (n : ℕ) (e : E) (fs : List F) → IsTrueTo (ended_by me.0 n e fs, me.1) (log ++ (n, e) ∷ []) joined parts owed weight closed full
+    ended_true n e fs = record { log_is = ap (λ l. l ++ (n, e) ∷ []) old.log_is; joined_are = old.joined_are; keeps = old.keeps; owed_are = old.owed_are; weight_is = old.weight_is; closed_is = old.closed_is; full_is = old.full_is; past_end = old.past_end; past_limit = old.past_limit; rests = old.rests; ranges = old.ranges; seat = old.seat }
 
     pub drew_true : (n : ℕ) → IsTrueTo (with_drawn me.0 n, me.1) log joined parts owed weight closed full
     drew_true n = record { log_is = old.log_is; joined_are = old.joined_are; keeps = old.keeps; owed_are = old.owed_are; weight_is = old.weight_is; closed_is = old.closed_is; full_is = old.full_is; past_end = old.past_end; past_limit = old.past_limit; rests = old.rests; ranges = old.ranges; seat = old.seat }

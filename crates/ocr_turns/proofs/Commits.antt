@@ -337,9 +337,9 @@ module _ {G E P N F : Type 0} (m : Meaning G E P N F) (laws : Lawful m) (claws :
           k.ledger.word
 
     -- A CLOSE
-    module _ (c : List (ℕ × Option P)) (may : MayClose m t v e) where
+    module _ (c : List (ℕ × Option P)) (fs : List F) (may : MayClose m t v e fs) where
       abbrev pub CloseGoal : Type 0
-      CloseGoal = (w : View G E P N F) × (Holds m t (stepped s 0 ((slice_index s.words 0 + 281474976710657) % 18446744073709551616) id c w keeps) × closes m (Some e) (v, c) (slice_index s.words 0) (w, c))
+      CloseGoal = (w : View G E P N F) × (Holds m t (stepped s 0 ((slice_index s.words 0 + 281474976710657) % 18446744073709551616) id c w keeps) × closes m (Some (e, fs)) (v, c) (slice_index s.words 0) (w, c))
 
       no_mail : (f : ℕ × ℕ → ℕ) → tally f (mail m t (J ++ e ∷ [])) ≡ tally f (mail m t J)
       no_mail f =
@@ -347,16 +347,16 @@ module _ {G E P N F : Type 0} (m : Meaning G E P N F) (laws : Lawful m) (claws :
           let new = mail_more m t f J e [] (bare.sends t.setting.value t.limit J) in
           let same = ap (λ o. tally f (without o (mail m t J))) bare.delivers in omega arith
 
-      counted_stopped : Open m.stops J → Counted m t (reverse (J ++ e ∷ [])) (after s (grown s.words 281474976710657) s.homes id (ended_by v (slice_index s.words 0) e))
+      counted_stopped : Open m.stops J → Counted m t (reverse (J ++ e ∷ [])) (after s (grown s.words 281474976710657) s.homes id (ended_by v (slice_index s.words 0) e fs))
       counted_stopped op =
           let bare : IsBare m e = laws.bare e may.stops in let twice = reverse_twice J in
           let can = fits m t J s k id v at cnt was_open in
           let wakes = bare.resumes t.setting.value t.limit (reverse (reverse J)) in
-          subst (λ l. Counted m t l (after s (grown s.words 281474976710657) s.homes id (ended_by v (slice_index s.words 0) e))) (sym (reverse-append J (e ∷ [])))
+          subst (λ l. Counted m t l (after s (grown s.words 281474976710657) s.homes id (ended_by v (slice_index s.words 0) e fs))) (sym (reverse-append J (e ∷ [])))
           (entered_kept m claws laws t (reverse J) e
           (record { limits = k.limits.0; run = subst (Run (m.legal t.setting.value t.limit)) (sym twice) k.ledger.run; legal = subst (λ l. m.legal t.setting.value t.limit l e) (sym twice) (may.legal J op can) })
           (λ n has. let none = ap (sum_of (one_at n)) bare.makes in absurd (omega arith))
-          s cnt id v (ended_by v (slice_index s.words 0) e) at is_out (grown s.words 281474976710657) (same_length s.words 281474976710657)
+          s cnt id v (ended_by v (slice_index s.words 0) e fs) at is_out (grown s.words 281474976710657) (same_length s.words 281474976710657)
           (λ i beyond. get_or-set_other s.words 0 i ((slice_index s.words 0 + 281474976710657) % 18446744073709551616) 0 (λ z. absurd (omega arith)))
           (adds_none m e v.debts (m.counting.resumes t.setting.value t.limit (reverse (reverse J)) e) (m.counting.creates t.setting.value t.limit (reverse (reverse J)) e) (bare.creates t.setting.value t.limit (reverse (reverse J))) bare.sets wakes)
           (without_none (leaves m e) v.claims (λ n. ap (λ b. b && m.ends e n) (bare.runs n)))
@@ -373,7 +373,7 @@ module _ {G E P N F : Type 0} (m : Meaning G E P N F) (laws : Lawful m) (claws :
       stopped : slice_index s.words 0 ≡ length J → Open m.stops J → total (λ (u : View G E P N F). u.ended) s.views ≡ 0 → CloseGoal
       stopped len op none_ended =
           let n = slice_index s.words 0 in let ws = grown s.words 281474976710657 in
-          let w : View G E P N F = ended_by v n e in
+          let w : View G E P N F = ended_by v n e fs in
           let seat = k.seated id v at in let bare : IsBare m e = laws.bare e may.stops in
           let ok : m.legal t.setting.value t.limit J e = may.legal J op (fits m t J s k id v at cnt was_open) in
           let lim = short m t J s k in let sh = k.share in
@@ -386,7 +386,7 @@ module _ {G E P N F : Type 0} (m : Meaning G E P N F) (laws : Lawful m) (claws :
             rises = rises_more J e v.log n len seat.log seat.rises;
             all_rise = seat.all_rise;
             parts = λ is_open j p x there. stays ok p (bare.touches t.limit p) ∙ seat.parts is_open j p x there;
-            facts = λ j f there. laws.lasting t.setting.value t.limit J e f k.ledger.run ok (seat.facts j f there);
+            facts = λ j f there. ⊎_elim (λ h. laws.lasting t.setting.value t.limit J e f k.ledger.run ok (seat.facts j f h)) (λ h. may.facts J op (fits m t J s k id v at cnt was_open) h.0 f h.1) (at_append v.facts fs j f there);
             sent = sent_later m t J e v.owed seat.sent;
             own = λ q runs. let o = seat.own q (ran m.starts m.ends e n v.log q (no_start m laws e q (bare.runs q)) runs) in (own_both m t J e n v.log q o.0, o.1);
             weight = let a = seat.weight in let b = load_snoc m.heavy v.log n e in let z = bare.weightless in omega arith;

@@ -12,14 +12,14 @@ use Rattle.ocr_turns.specs.Counting.{Counted}
 use Rattle.ocr_turns.specs.Meaning.{Meaning}
 use Rattle.ocr_turns.specs.Rule.{Seated, Kept, Holds}
 use Rattle.ocr_turns.specs.Steps.{limit_of, with_drawn, filled_by, draws_from}
-use Rattle.ocr_turns.specs.Sums.{total, sum_of, up_to}
+use Rattle.ocr_turns.specs.Sums.{AreBelow, one_at, sum_of, total, up_to}
 use Rattle.ocr_turns.specs.declared.view.View.{View}
 use Rattle.ocr_turns.specs.declared.view.Terms.{Terms}
 use Rattle.ocr_turns.proofs.Bounds.{filled_most, sees, stepped_at}
 use Rattle.ocr_turns.proofs.Commits.{elsewhere}
 use Rattle.ocr_turns.proofs.Same.{Reached, after, ledger_same, places_same, roster_same, owed_same, seated_each}
 use Rattle.ocr_turns.proofs.Apart.{counted_beside}
-use Rattle.ocr_turns.proofs.Totals.{total_set, sum_append}
+use Rattle.ocr_turns.proofs.Totals.{sum_append, total_one, total_set, up_to_range}
 
 next_number : (f : ℕ → ℕ) (n : ℕ) → up_to f (n + 1) ≡ f (n + 1) + up_to f n
 next_number f n = rw (plus n) refl
@@ -75,6 +75,12 @@ module _ {G E P N F : Type 0} (m : Meaning G E P N F) (t : Terms G) where
         still None h = tt
         still (Some x) h = omega arith
 
+    -- what the seat drew before
+    drawn_below : AreBelow (k.numbers.drawn + 1) v.drawn
+    drawn_below x has =
+        let one = total_one (λ (u : View G E P N F). sum_of (one_at x) u.drawn) s.views id v at in let sum = k.numbers.numbers (one_at x) in
+        let range = up_to_range x k.numbers.drawn (omega (arith, has, one, sum)) in omega (arith, range)
+
     pub draw_at : DrawGoal
     draw_at =
         let seat = k.seated id v at in
@@ -112,6 +118,7 @@ module _ {G E P N F : Type 0} (m : Meaning G E P N F) (t : Terms G) where
                 omega arith,
                 refl,
                 sees m t J (after s next s.homes id (with_drawn v (n + 1))) now id (with_drawn v (n + 1)) (stepped_at s.views id v (with_drawn v (n + 1)) at) counted is_out,
+                subst (λ (x : ℕ). AreBelow (x + 1) v.drawn) (sym is) drawn_below,
               ),
             ),
           ),

@@ -229,6 +229,7 @@ module _ {G E P N F : Type 0} (m : Meaning G E P N F) (t : Terms G) where
         ends = ⊎_elim (λ z. inl z.1) (λ z. inr z.1) k.ledger.word;
         closed = seat.over (omega arith);
         logs_are = refl;
+        facts = seat.facts;
         counted = λ n lo hi. (slice_index s.words (state_at (length s.homes) n), found m t h.history s k h.counted id v at n lo hi);
         once = λ f. lone m t h.history s k id v at is_root none_out f;
         of_run = each_of (LogOf h.history) v.log v.joined seat.log seat.joined;

@@ -7,7 +7,7 @@ use Rattle.ocr_turns.specs.Owing.{listed, times}
 use Rattle.ocr_turns.specs.Meaning.{Meaning, Run, Open, Ended}
 use Rattle.ocr_turns.specs.Rule.{Fits, PartsOf, FactsOf, RunsIn, LogsOf, AllRise, OPEN}
 use Rattle.ocr_turns.specs.Steps.{Deed, deed, Sees, SeesBoth, SeesOpen, SeesEnd, logged, ended_by, shut_by, with_drawn, filled_by, with_part, without_part}
-use Rattle.ocr_turns.specs.Sums.{weigh, weigh_all, below, one_at, sum_of, made_sum, up_to, find, replace_all, remove_at, as_some, HasAll}
+use Rattle.ocr_turns.specs.Sums.{AreBelow, weigh, weigh_all, below, one_at, sum_of, made_sum, up_to, find, replace_all, remove_at, as_some, HasAll}
 use Rattle.ocr_turns.specs.declared.answers.Committed.{Committed}
 use Rattle.ocr_turns.specs.declared.answers.Committed.TheVariants as committed
 use Rattle.ocr_turns.specs.declared.answers.Drawn.{Drawn}
@@ -78,9 +78,16 @@ module _ {G E P N F : Type 0} (m : Meaning G E P N F) (t : Terms G) where
     pub claims : Claims v (deed m t.limit v e ps ms)
     pub legal : Legal v (deed m t.limit v e ps ms)
 
-  pub record MayClose (v : View G E P N F) (e : E) : Type 0 where
+  -- the facts stand once the entry has come
+  abbrev pub WillStand : View G E P N F → E → List F → Type 0
+  WillStand v e fs = (J : List E) → Open m.stops J → Fits m t J v → FactsOf
+      (m.stands t.setting.value t.limit (J ++ e ∷ [])) fs
+
+  -- what a close asks of an entry, and of the facts that the clerk learns with it
+  pub record MayClose (v : View G E P N F) (e : E) (fs : List F) : Type 0 where
     pub stops : m.stops e ≡ true
     pub legal : MayStop v e
+    pub facts : WillStand v e fs
 
   -- the part is seen as the one that the view keeps at the place
   pub record SeenAs (v : View G E P N F) (p : ℕ) (x : P) : Type 0 where
@@ -123,15 +130,16 @@ module _ {G E P N F : Type 0} where
   CommitTells m (committed.Closed n) old new d = ClosedBy m n old new
 
   abbrev pub CloseTells : Meaning G E P N F → Committed → Known G E P N F → Known G E P N F → E
-      → Type 0
-  CloseTells m (committed.At n) old new e = (old.view.closed ≡ None) × (n < OPEN) ×
-      (new.table ≡ old.table) × (new.view ≡ ended_by old.view n e) × (new.parts ≡ old.parts)
+      → List F → Type 0
+  CloseTells m (committed.At n) old new e fs = (old.view.closed ≡ None) × (n < OPEN) ×
+      (new.table ≡ old.table) × (new.view ≡ ended_by old.view n e fs) × (new.parts ≡ old.parts)
       × SeesEnd m new.view
-  CloseTells m (committed.Closed n) old new e = ClosedBy m n old new
+  CloseTells m (committed.Closed n) old new e fs = ClosedBy m n old new
 
   abbrev pub DrawTells : Meaning G E P N F → ℕ → Drawn → Known G E P N F → Known G E P N F → Type 0
   DrawTells m limit (drawn.Place n) old new = (old.view.full ≡ None) × (1 ≤ n) × (n ≤ limit)
       × SameHand old new × (new.view ≡ with_drawn old.view n) × Sees m new.view
+      × AreBelow n old.view.drawn
   DrawTells m limit (drawn.Full n) old new = (limit ≤ n) × SameHand old new
       × MatchOption old.view.full (new.view ≡ filled_by old.view n) (λ w. (w ≡ n) ×
       (new.view ≡ old.view))
@@ -157,8 +165,8 @@ module _ {G E P N F : Type 0} where
 
 -- THE ENDS
 -- The logs by number are one run, each number once, each log rises, and nothing comes after an
--- entry that ends the run. Where no number was left, each up to the limit is made or stands as
--- drawn in the root.
+-- entry that ends the run. The facts that were learnt stand. Where no number was left, each up to
+-- the limit is made or stands as drawn in the root.
 pub record Finished {G E P N F : Type 0} (m : Meaning G E P N F) (t : Terms G) (v : View G E P N F)
     (logs : List (List (ℕ × E))) : Type 0 where
   pub history : List E
@@ -167,6 +175,7 @@ pub record Finished {G E P N F : Type 0} (m : Meaning G E P N F) (t : Terms G) (
   pub ends : Open m.stops history ⊎ Ended m.stops history
   pub closed : MatchOption v.closed (Unit {0}) (λ _. Ended m.stops history)
   pub logs_are : logs ≡ v.log ∷ v.joined
+  pub facts : FactsOf (m.stands t.setting.value t.limit history) v.facts
   -- the words of each number are those of the history, and the root's view has all that was owed,
   -- claimed and counted
   pub counted : (n : ℕ) → 1 ≤ n → n ≤ t.limit → (word : ℕ) × Found m t (reverse history) v n word

@@ -115,6 +115,7 @@ module _ {G E P N F : Type 0} (m : Meaning G E P N F) (t : Terms G) where
     pub log : LogOf J v.log
     pub joined : LogsOf J v.joined
     pub ended : Ended m.stops J
+    pub facts : FactsOf (m.stands t.setting.value t.limit J) v.facts
     -- while no other seat is out, the root's logs are the whole history
     pub sole : v.root ≡ 1 → v.out ≡ 0 → (f : ℕ → ℕ) → weighed f v ≡ below f (length J)
 

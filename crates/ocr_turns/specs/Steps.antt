@@ -5,7 +5,7 @@ use Rattle.atomic_table.specs.Table.{Me, Step, rest}
 use Rattle.ocr_mail.specs.Mail.{named, without}
 use Rattle.ocr_turns.specs.Meaning.{Meaning, Open}
 use Rattle.ocr_turns.specs.Rule.{Fits, Over, OPEN}
-use Rattle.ocr_turns.specs.Sums.{less_all, remove_at, replace_all}
+use Rattle.ocr_turns.specs.Sums.{AreBelow, less_all, remove_at, replace_all}
 use Rattle.ocr_turns.specs.Counting.{TURNS, debts_by, leaves}
 use Rattle.ocr_turns.specs.Owing.{no_debts, both_debts, without_all, AreInRange}
 use Rattle.ocr_turns.specs.declared.debts.Debts.{Debts}
@@ -86,9 +86,13 @@ module _ {G E P N F : Type 0} where
     claims = without_all d.leaves v.claims;
   }
 
-  -- after an entry that ends the run
-  abbrev pub ended_by : View G E P N F → ℕ → E → View G E P N F
-  ended_by v n e = record v { log = v.log ++ (n, e) ∷ []; ended = v.ended + 1 }
+  -- after an entry that ends the run, with the facts that it tells
+  abbrev pub ended_by : View G E P N F → ℕ → E → List F → View G E P N F
+  ended_by v n e fs = record v {
+    log = v.log ++ (n, e) ∷ [];
+    facts = v.facts ++ fs;
+    ended = v.ended + 1;
+  }
 
   -- once the commit word was read as n, past the end of the run
   abbrev pub shut_by : View G E P N F → ℕ → View G E P N F
@@ -215,19 +219,21 @@ module _ {G E P N F : Type 0} where
   commits mg (Some d) m n w = tries mg (logged m.0 n d) (Sees mg w.0 ×
       AreInRange (limit_of m.0.terms) d.debts []) m n w
 
-  abbrev pub closes : Meaning G E P N F → Option E → Me (Option P) (View G E P N F) → ℕ → Me
-      (Option P) (View G E P N F) → Type 0
+  abbrev pub closes : Meaning G E P N F → Option (E × List F) → Me (Option P) (View G E P N F) → ℕ
+      → Me (Option P) (View G E P N F) → Type 0
   closes mg None m n w = Unit {0}
-  closes mg (Some e) m n w = tries mg (ended_by m.0 n e) (SeesEnd mg w.0) m n w
+  closes mg (Some c) m n w = tries mg (ended_by m.0 n c.0 c.1) (SeesEnd mg w.0) m n w
 
   abbrev pub looks : Meaning G E P N F → Me (Option P) (View G E P N F) → ℕ → Me (Option P)
       (View G E P N F) → Type 0
   looks mg m n w = tries mg m.0 (SeesOpen mg w.0) m n w
 
+  -- A number that is drawn comes after those that the seat drew before and did not use.
   abbrev pub draws_from : Meaning G E P N F → Me (Option P) (View G E P N F) → ℕ → Me (Option P)
       (View G E P N F) → Type 0
   draws_from mg m n w = (w.1 ≡ m.1) × (((n < limit_of m.0.terms) × (w.0 ≡ with_drawn m.0 (n + 1))
-      × Sees mg w.0) ⊎ ((limit_of m.0.terms ≤ n) × (w.0 ≡ filled_by m.0 n)))
+      × Sees mg w.0 × AreBelow (n + 1) m.0.drawn)
+      ⊎ ((limit_of m.0.terms ≤ n) × (w.0 ≡ filled_by m.0 n)))
 
   -- A try to take a part: where the word was 0 the place is kept, with the part that stands there,
   -- and its slot is carried. The history is the same before and after.

@@ -92,6 +92,10 @@ abbrev pub HasAll : List ℕ → List ℕ → Type 0
 HasAll [] ks = Unit {0}
 HasAll (n ∷ ns) ks = (1 ≤ sum_of (one_at n) ks) × HasAll ns (less_one n ks)
 
+-- each number of the list is below n
+abbrev pub AreBelow : ℕ → List ℕ → Type 0
+AreBelow n ks = (k : ℕ) → 1 ≤ sum_of (one_at k) ks → k < n
+
 abbrev pub is_free : ℕ → ℕ
 is_free zero = 1
 is_free (suc n) = 0

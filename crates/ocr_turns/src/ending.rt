@@ -13,18 +13,19 @@ use atomic_table::Seat;
 use std::marker::Brand;
 
 impl<M: Machine> Turns<M> {
-    /// Enters an entry that ends the run, by one step, which also tells all clerks so.
-    pub fn close(&self, clerk: &mut Clerk<M>, entry: M::Entry) -> Committed
+    /// Enters an entry that ends the run, by one step, which also tells all clerks so. The clerk
+    /// learns facts that stand from then on; only clauses keep these.
+    pub fn close(&self, clerk: &mut Clerk<M>, entry: M::Entry, learns: &[M::Fact]) -> Committed
         requires table { IsOf self.now clerk.old }
         requires room { 1 ≤ clerk.old.room }
         requires may { clerk.old.view.closed ≡ None → MayClose M.meaning self.now.1 clerk.old.view
-            entry }
-        ensures { CloseTells M.meaning result clerk.old clerk.new entry }
+            entry learns.now }
+        ensures { CloseTells M.meaning result clerk.old clerk.new entry learns.now }
     {
         if let Some(word) = clerk.closed {
             return Committed::Closed(word);
         }
-        let found = self.step_close::<Brand>(&mut clerk.seat, &entry);
+        let found = self.step_close::<Brand>(&mut clerk.seat, &entry, learns);
         if found >= ENDED {
             clerk.closed = Some(found);
             return Committed::Closed(found);
@@ -33,18 +34,20 @@ impl<M: Machine> Turns<M> {
         Committed::At(found)
     }
 
-    fn step_close<W: Stops<M::Entry>>(
+    fn step_close<W: Stops<M::Entry, M::Fact>>(
         &self,
         seat: &mut Seat<Option<M::Part>, View<M::Setting, M::Entry, M::Part, M::Message, M::Fact>>,
         entry: &M::Entry,
+        learns: &[M::Fact],
     ) -> u64
-        requires told { W.stop ≡ Some entry.now }
+        requires told { W.stop ≡ Some (entry.now, learns.now) }
         requires table { seat.old.table_id ≡ self.now.0 }
         requires open { seat.old.me.0.closed ≡ None }
         requires seat { 0 < seat.old.me.0.root + seat.old.me.0.seat }
-        requires may { MayClose M.meaning self.now.1 seat.old.me.0 entry.now }
+        requires may { MayClose M.meaning self.now.1 seat.old.me.0 entry.now learns.now }
         ensures table { (seat.new.table_id ≡ seat.old.table_id) × (seat.new.id ≡ seat.old.id) }
-        ensures told { steps.closes M.meaning (Some entry.now) seat.old.me result seat.new.me }
+        ensures told { steps.closes M.meaning (Some (entry.now, learns.now)) seat.old.me result
+            seat.new.me }
     {
         self.table
             .shared

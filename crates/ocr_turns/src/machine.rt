@@ -18,7 +18,7 @@ pub trait Machine {
     type Entry: Drop;
 
     type Message: Drop;
-    /// A standing fact, which no later entry undoes. No value of it is made.
+    /// A standing fact, which no later entry undoes. Only clauses read its values.
     type Fact;
 
     ghost meaning: { Meaning Self.Setting Self.Entry Self.Part Self.Message Self.Fact };

@@ -47,14 +47,14 @@ impl<M: Machine, W: Told<M::Entry, M::Part, M::Message, M::Fact>> Play<
     ghost then = { λ s m n w. steps.commits M.meaning W.deed m n w };
 }
 
-// The entry with which a close ends the run, for the proof alone.
-pub(crate) trait Stops<E> {
-    ghost use Rattle.std.specs.Prelude.{Option};
+// The entry with which a close ends the run, and the facts that it tells, for the proof alone.
+pub(crate) trait Stops<E, F> {
+    ghost use Rattle.std.specs.Prelude.{List, Option};
 
-    ghost stop: { Option E };
+    ghost stop: { Option (E × List F) };
 }
 
-impl<E> Stops<E> for Brand {
+impl<E, F> Stops<E, F> for Brand {
     ghost stop = { None };
 }
 
@@ -63,7 +63,7 @@ pub(crate) struct Closes<M, W> {
     told: PhantomData<W>,
 }
 
-impl<M: Machine, W: Stops<M::Entry>> Play<
+impl<M: Machine, W: Stops<M::Entry, M::Fact>> Play<
     Option<M::Part>,
     View<M::Setting, M::Entry, M::Part, M::Message, M::Fact>,
 > for Closes<M, W> {

@@ -1,18 +1,9 @@
-use Rattle.ocr_clerks.proofs.Ending.{may_close}
-use Rattle.ocr_clerks.proofs.Going.{close_left, close_stays}
+use Rattle.ocr_clerks.proofs.Ending.{no_facts}
+use Rattle.ocr_clerks.proofs.Going.{own_plain}
 use Rattle.ocr_clerks.proofs.closing.close.Goals as goal
 
-pub close-requires-clause-may : goal.close-requires-clause-may
-close-requires-clause-may g c = λ _. may_close c.args.job.now.turns.now c.args.job.now.program.now c.args.clerk.now c.args.why c.requires.work c.requires.may
+pub close_telling-requires-clause-stand : goal.close_telling-requires-clause-stand
+close_telling-requires-clause-stand g c = no_facts c.args.job.now.turns.now.1 c.args.clerk.now.view c.args.why
 
-pub returns-in-At-clause-stays : goal.returns-in-At-clause-stays
-returns-in-At-clause-stays g c = close_stays c.args.job.now.turns.now c.args.job.now.program.now c.args.why c.close.result c.args.clerk.now c.close.new.clerk c.requires.work c.close.ensures
-
-pub returns-in-At-clause-gone : goal.returns-in-At-clause-gone
-returns-in-At-clause-gone g c = close_left c.args.job.now.turns.now c.args.job.now.program.now c.args.worker c.args.why c.close.result c.args.clerk.now c.close.new.clerk c.requires.work c.requires.own c.close.ensures
-
-pub returns-in-Closed-clause-stays : goal.returns-in-Closed-clause-stays
-returns-in-Closed-clause-stays g c = close_stays c.args.job.now.turns.now c.args.job.now.program.now c.args.why c.close.result c.args.clerk.now c.close.new.clerk c.requires.work c.close.ensures
-
-pub returns-in-Closed-clause-gone : goal.returns-in-Closed-clause-gone
-returns-in-Closed-clause-gone g c = close_left c.args.job.now.turns.now c.args.job.now.program.now c.args.worker c.args.why c.close.result c.args.clerk.now c.close.new.clerk c.requires.work c.requires.own c.close.ensures
+pub close_telling-requires-clause-own : goal.close_telling-requires-clause-own
+close_telling-requires-clause-own g c = own_plain c.args.job.now.turns.now.1 c.args.worker c.args.clerk.now.view c.args.why c.requires.own

@@ -1,4 +1,4 @@
-use Rattle.std.proofs.Common.{◌≡◌, ◌≤◌, ◌+◌, arith}
+use Rattle.std.proofs.Common.{◌≤◌, ◌+◌, arith}
 use Rattle.ocr_history.specs.Weight.{weight_of}
 use Rattle.ocr_clerks.proofs.Entries.{enters_as, may_commit}
 use Rattle.ocr_clerks.proofs.Going.{commit_left, commit_stays, commit_work}

@@ -2,7 +2,7 @@ use Rattle.std.proofs.Common.{List, ℕ, length, Option, ap, ◌≡◌, ◌∙�
 use Rattle.ocr_parts.specs.declared.part.Part.{Part}
 use Rattle.ocr_facts.specs.Clerks.{OcrView}
 use Rattle.ocr_facts.specs.Ocr.{wakes}
-use Rattle.ocr_clerks.proofs.Whole.{kept_on, lifted_can, lifted_length, lifted_work, stays_from, whole_after, whole_once}
+use Rattle.ocr_clerks.proofs.Whole.{kept_on, lifted_can, lifted_length, lifted_work, whole_once}
 use Rattle.ocr_clerks.proofs.keeping.enter_kept.Goals as goal
 
 pub lift_parts-requires-clause-once : goal.lift_parts-requires-clause-once

@@ -1,4 +1,4 @@
-use Rattle.std.proofs.Common.{◌≡◌, ◌≤◌, ◌<◌, ◌+◌, ℕ, get_or, length, take, refl, ap, sym, subst, arith, ◌∙◌, Some, None, suc}
+use Rattle.std.proofs.Common.{◌≡◌, ◌+◌, ℕ, get_or, take, ap, sym, arith, ◌∙◌, Some, None, suc}
 use Rattle.ocr_turns.specs.Sums.{find, replace}
 use Rattle.ocr_clerks.specs.Work.{in_hand}
 use Rattle.ocr_clerks.proofs.Hands.{lifted_all, next_of, some_from}

@@ -1,5 +1,4 @@
-use Rattle.std.proofs.Common.{◌≡◌, ◌≤◌, ◌<◌, ◌+◌, ℕ, suc, get_or, length, take, ap, sym, ◌∙◌, subst, arith}
-use Rattle.ocr_facts.specs.Clerks.{OcrTerms}
+use Rattle.std.proofs.Common.{◌≡◌, ◌+◌, ℕ, suc, get_or, take, ap, sym, ◌∙◌, subst, arith}
 use Rattle.ocr_clerks.specs.Work.{Took}
 use Rattle.ocr_clerks.proofs.Going.{stays_both, stays_self}
 use Rattle.ocr_clerks.proofs.Hands.{take_short, take_next, took_length, took_more, took_none}

@@ -1,6 +1,7 @@
-use Rattle.std.proofs.Common.{sym, ap, ◌∙◌, arith, ⊎_elim, ◌≡◌, ◌<◌, ◌≤◌, ◌+◌, refl}
+use Rattle.std.proofs.Common.{sym, ap, subst, ◌∙◌, arith, ⊎_elim, ◌≡◌, ◌<◌, ◌≤◌, ◌+◌, refl}
 use Rattle.atomic_table.specs.Table.{keeps}
 use Rattle.ocr_turns.specs.Steps.{filled_by, limit_of, with_drawn, Sees}
+use Rattle.ocr_turns.specs.Sums.{AreBelow}
 use Rattle.ocr_turns.proofs.Draws.{draw_at}
 use Rattle.ocr_turns.proofs.Clerks.{drew_true, filled_true, out_of, true_same}
 use Rattle.ocr_turns.proofs.turns.Turns.draw.Goals as goal
@@ -43,11 +44,13 @@ returns g c =
     let under : n < c.args.self.now.1.limit = omega (arith, c.if-found-self.false) in
     let new = c.fetch_add-found.new.seat.me.0 in
     let drew : new ≡ with_drawn c.args.clerk.now.view (n + 1) = ⊎_elim (λ h. h.1 ∙ ap (λ v. with_drawn v (n + 1)) view) (λ h. let past = h.0 in absurd (omega arith)) old.2.1 in
-    let seen : Sees m new = ⊎_elim (λ h. h.2) (λ h. let past = h.0 in absurd (omega arith)) old.2.1 in (
+    let seen : Sees m new = ⊎_elim (λ h. h.2) (λ h. let past = h.0 in absurd (omega arith)) old.2.1 in
+    let before : AreBelow (n + 1) c.clerk.inside.seat.me.0.drawn = ⊎_elim (λ h. h.3) (λ h. let past = h.0 in absurd (omega arith)) old.2.1 in (
       sym (ap (λ v. v.full) view) ∙ (sym c.clerk.invariant.full_is ∙ c.in_default.is),
       omega arith,
       omega arith,
       (old.0 ∙ ap (λ x. x.table) is, ap (λ x. x.parts) is, (ap (λ x. x.room) is, ap (λ x. x.spare) is, ap (λ x. x.space) is)),
       drew,
       seen,
+      subst (λ v. AreBelow (n + 1) v.drawn) view before,
     )

@@ -8,12 +8,12 @@ use Rattle.ocr_turns.proofs.turns.Turns.step_close.Goals as goal
 
 pub fetch_add-requires : goal.fetch_add-requires
 fetch_add-requires g c =
-    let m = g.M.Machine.meaning in let laws = g.met.M.Machine.laws in let me = c.args.seat.now.me in let e = c.args.entry.now in
+    let m = g.M.Machine.meaning in let laws = g.met.M.Machine.laws in let me = c.args.seat.now.me in let e = c.args.entry.now in let fs = c.args.learns.now in
     let key = c.self.inside.table.shared.key in let is = sym (ap (λ x. x.1) c.self.view_is) in
-    let may : MayClose m key me.0 e = subst (λ t. MayClose m t me.0 e) is c.requires.may in (
+    let may : MayClose m key me.0 e fs = subst (λ t. MayClose m t me.0 e fs) is c.requires.may in (
       c.requires.table ∙ sym (ap (λ x. x.0) c.self.view_is),
       omega (arith, c.self.invariant.words),
       λ s k len at lt.
-          let r = close_at m laws g.met.M.Machine.counting_laws key k.history s k.kept k.counted c.args.seat.now.id me.0 at c.requires.open c.requires.seat e me.1 may in
+          let r = close_at m laws g.met.M.Machine.counting_laws key k.history s k.kept k.counted c.args.seat.now.id me.0 at c.requires.open c.requires.seat e me.1 fs may in
           (r.0, keeps, tt, r.1.0, subst (λ o. closes m o me (slice_index s.words 0) (r.0, me.1)) (sym c.requires.told) r.1.1),
     )
