@@ -6,6 +6,7 @@ use native.Mathlib.Decide.{dec_le, ℕ_discrete}
 use mathlib.Core.Option.{some, some-injective, some-ne-none}
 use lib.ListN.{get_elem?}
 use Rattle.ocr_edt.specs.Edt as edt
+use Rattle.ocr_edt.specs.declared.Identity.{Identity}
 use Rattle.ocr_facts.specs.Clerks.{OcrTerms, of_terms}
 use Rattle.ocr_facts.specs.Ocr.{meaning, part_of}
 use Rattle.ocr_history.specs.Made.{Made, MadeEdt, made}
@@ -13,7 +14,7 @@ use Rattle.ocr_parts.specs.declared.part.Part.{Part}
 use Rattle.ocr_parts.specs.declared.part.Part.TheVariants as part
 use Rattle.ocr_parts.specs.Calls.{edt_calls}
 use Rattle.ocr_parts.specs.Effects.{settled}
-use Rattle.ocr_parts.specs.Parts.{Parts, core, parts_of}
+use Rattle.ocr_parts.specs.Parts.{Parts, core, parts_of, plain_identity}
 use Rattle.ocr_parts.specs.Taken.{ArePlaced, as_core, as_face, is_within, keys, look, parts_in, place_of, seen}
 use Rattle.ocr_turns.specs.Contract.{OpensWith, faces}
 use Rattle.ocr_turns.specs.Rule.{PartsOf}
@@ -21,9 +22,9 @@ use Rattle.ocr_turns.specs.Sums.{one_at, sum_of, weigh}
 use Rattle.ocr_turns.proofs.Totals.{one_else, one_here, one_most, weigh_at}
 
 -- nothing was stored in a loan yet
-core_settled : (m : Option Made) (t : ℕ) (calls : List edt.EdtCall) → settled (core m t calls []) ≡ core m t calls []
-core_settled (Some (MadeEdt f ps n)) t calls = refl
-core_settled other t calls = refl
+core_settled : (m : Option Made) (i : Identity) (calls : List edt.EdtCall) → settled (core m i calls []) ≡ core m i calls []
+core_settled (Some (MadeEdt f ps n)) i calls = refl
+core_settled other i calls = refl
 
 face_twice : (x : Part) → as_face (as_face x) ≡ as_face x
 face_twice (part.Core c) = refl
@@ -104,7 +105,7 @@ module _ (t : OcrTerms) (parts : List (ℕ × Part)) (told : parts_in t.limit pa
 
   core_seen : (m : ℕ) (x : Part) → is_within limit m ≡ true → all.core m ≡ x → all.core m ≡ settled (as_core x)
   core_seen m x w e =
-      sym (core_settled (made (of_terms t) [] m) m (edt_calls (of_terms t) [] m))
+      sym (core_settled (made (of_terms t) [] m) (plain_identity m) (edt_calls (of_terms t) [] m))
       ∙ ap settled (core_is m w ∙ (sym (core_twice (look parts (limit + m))) ∙ ap as_core (sym (core_is m w) ∙ e)))
 
   seen_is : (n : ℕ) (x : Part) → place_of limit all n ≡ x → place_of limit all n ≡ seen limit n x

@@ -1,16 +1,18 @@
 -- Clerks that are made, work and come home.
-use Rattle.std.proofs.Common.{◌≡◌, ℕ, get_or, zero, suc, ◌+◌, ◌*◌, ◌<◌, ◌≤◌, ◌⊎◌, inl, inr, ⊎_elim, List, [], ◌∷◌, ◌++◌, length, refl, ap, sym, subst, ◌∙◌, arith, true, Option, Some, None, Result, Ok, Err, IfOk, All, is_some, length-append}
+use Rattle.std.proofs.Common.{◌≡◌, ℕ, get_or, zero, suc, ◌+◌, ◌<◌, ◌≤◌, ◌⊎◌, inl, inr, ⊎_elim, List, [], ◌∷◌, ◌++◌, length, refl, ap, sym, subst, ◌∙◌, arith, true, Option, Some, None, Result, Ok, Err, IfOk, All, is_some, length-append}
 use Rattle.std.specs.Prelude.{MatchOption}
 use Rattle.std.specs.Option.{option_or}
 use Rattle.std.proofs.lemmas.List.Elements.{All-append}
 use mathlib.Core.Option.{some, some-injective, some-ne-none}
 use lib.ListN.{get_elem?}
+use Rattle.atomic_table.proofs.Lists.{at_longer}
 use Rattle.crossbeam_utils.specs.Padded.{padded_value}
 use Rattle.crossbeam_utils.specs.declared.cache_padded.CachePadded.{CachePadded}
 use Rattle.ocr_clerks.specs.Entering.{OcrKnown}
-use Rattle.ocr_clerks.specs.Work.{HasLeft, IsOwnStop, OcrTable, OwesNoCount, Stays, stop_in}
+use Rattle.ocr_clerks.specs.Work.{HasLeft, IsOwnStop, LacksNumbers, OcrTable, OwesNoCount, Stays, stop_in}
 use Rattle.ocr_code.specs.declared.checked.Checked.{Checked}
 use Rattle.ocr_facts.specs.Clerks.{OcrView}
+use Rattle.ocr_facts.specs.declared.fact.Fact.TheVariants.{Short}
 use Rattle.ocr_history.specs.declared.entry.Entry.{Entry}
 use Rattle.ocr_history.specs.declared.entry.Stop as run
 use Rattle.ocr_history.specs.declared.entry.Stop.TheVariants as by
@@ -29,7 +31,7 @@ use Rattle.ocr_worker.specs.Leaving.{DrainLeaves, WorkLeaves}
 use Rattle.ocr_worker.specs.Working.{IsBetween}
 use Rattle.ocr_worker.specs.declared.leaving.Leave.{Leave}
 use Rattle.ocr_worker.specs.declared.leaving.Leave.TheVariants as leave
-use Rattle.ocr_crew.specs.Logs.{EndsBy, HasLogs, IsAnyShort, IsLog, KnowsEnd, read, quiet}
+use Rattle.ocr_crew.specs.Logs.{EndsBy, HasLogs, IsAnyShort, IsLog, KnowsEnd, LacksAmong, read, quiet}
 use Rattle.ocr_crew.specs.Seats.{IsBack, IsGathering, IsHired, IsHiring, IsHome, IsLast, LeavesSo, together}
 
 owes_same : (v w : OcrView) → w.debts ≡ v.debts → OwesNoCount v → OwesNoCount w
@@ -50,7 +52,6 @@ hired table program out root clerk is same view bare room spare =
           limits = is.between.work.limits;
           program_is = is.between.work.program_is;
           runnable = is.between.work.runnable;
-          built = is.between.work.built;
           is_open = refl;
           unstopped = refl;
           room = room;
@@ -85,7 +86,6 @@ hires table program out root after is same view =
           limits = work.limits;
           program_is = work.program_is;
           runnable = work.runnable;
-          built = work.built;
           is_open = work.is_open;
           unstopped = work.unstopped;
           room = omega (arith, room, work.room);
@@ -138,7 +138,6 @@ between_gathered table program root clerk after is other same parts room spare =
         limits = work.limits;
         program_is = work.program_is;
         runnable = work.runnable;
-        built = work.built;
         is_open = or_none root.view.closed clerk.view.closed work.is_open other.work.is_open;
         unstopped = work.unstopped;
         room = omega (arith, room, work.room);
@@ -184,6 +183,11 @@ front_short log logs more (suc j, l, at, is) = ⊎_elim
     last zero here = ap stop_in (some-injective more l here) ∙ is
     last (suc i) here = absurd (some-ne-none l (sym here))
 
+-- what stands in a list that comes behind another
+at_right : {A : Type 0} (xs ys : List A) (k : ℕ) (x : A) → get_elem? ys k ≡ some x → (j : ℕ) × (get_elem? (xs ++ ys) j ≡ some x)
+at_right [] ys k x at = (k, at)
+at_right (y ∷ xs) ys k x at = let r = at_right xs ys k x at in (suc r.0, r.1)
+
 module _ (table : OcrTable) (program : Checked) (workers back : ℕ) (left : Leave) (root clerk : OcrKnown) (has : HasLogs workers table.1.share back root.view) (home : IsHome table program workers left clerk) where
   logs_gathered : HasLogs workers table.1.share (back + 1) (gathered root.view clerk.view)
   logs_gathered =
@@ -196,8 +200,20 @@ module _ (table : OcrTable) (program : Checked) (workers back : ℕ) (left : Lea
         many = (let a = length-append v.joined (w.log ∷ w.joined) in let b = ap (λ (l : List (List (ℕ × Entry))). length l) alone in let m = has.many in omega arith);
         few = (let f = has.few in omega arith);
         short = λ any. ⊎_elim
-            (λ h. let old = has.short h in let bound = old.0 in ((omega arith), or_left v.reached w.reached old.1))
-            (λ h. let own = home.short h in let none = ap (λ (ns : List ℕ). length ns) own.0 in let f = has.few in ((omega arith), or_right v.reached w.reached own.1))
+            (λ h. let old = has.short h in record {
+              edt = old.edt;
+              call = old.call;
+              known = (old.known.0, at_longer v.facts w.facts old.known.0 (Short old.edt old.call) old.known.1);
+              few = (let f = old.few in omega (arith, f, len, few));
+              reached = or_left v.reached w.reached old.reached;
+            })
+            (λ h. let own = home.short h in record {
+              edt = own.edt;
+              call = own.call;
+              known = at_right v.facts w.facts own.known.0 (Short own.edt own.call) own.known.1;
+              few = (let f = own.few in let g = has.few in omega (arith, f, g, len));
+              reached = or_right v.reached w.reached own.reached;
+            })
             (front_short v.log v.joined w.log (subst (λ (l : List (List (ℕ × Entry))). IsAnyShort (v.log ∷ (v.joined ++ l))) alone any));
       }
 
@@ -255,7 +271,7 @@ ends_own table workers worker v None low high weighs own = tt
 ends_own table workers worker v (Some (by.Events w k)) low high weighs own = (let a = own.0 in let b = own.1 in ((omega arith), (omega arith), (omega arith)))
 ends_own table workers worker v (Some other) low high weighs own = tt
 
-short_own : (table : OcrTable) (worker : ℕ) (v : OcrView) → MatchOption (stop_in v.log) (Unit {0}) (IsOwnStop table.1 worker v) → stop_in v.log ≡ Some by.Objects → (v.drawn ≡ []) × (is_some v.reached ≡ true)
+short_own : (table : OcrTable) (worker : ℕ) (v : OcrView) → MatchOption (stop_in v.log) (Unit {0}) (IsOwnStop table.1 worker v) → stop_in v.log ≡ Some by.Objects → LacksNumbers v
 short_own table worker v own stops = subst (λ o. MatchOption o (Unit {0}) (IsOwnStop table.1 worker v)) stops own
 
 left_home : (table : OcrTable) (program : Checked) (workers worker : ℕ) (left : Leave) (c : OcrKnown) → 1 ≤ worker → worker ≤ workers → HasLeft table worker c → c.view.root ≡ 0 → c.view.joined ≡ [] → LeavesSo table program left c → IsHome table program workers left c
@@ -326,7 +342,7 @@ begins_gathering table program workers out root is =
     }
 
 -- THE LAST
-last_logs : (table : OcrTable) (workers : ℕ) (old new : OcrView) → 1 ≤ workers → HasLogs workers table.1.share workers old → (IsAnyShort (old.log ∷ old.joined) → ⊥) → new.joined ≡ old.joined → IsLog workers table.1.share new.log → length new.drawn ≤ 3 → (stop_in new.log ≡ Some by.Objects → (new.drawn ≡ []) × (is_some new.reached ≡ true)) → HasLogs workers table.1.share workers new
+last_logs : (table : OcrTable) (workers : ℕ) (old new : OcrView) → 1 ≤ workers → HasLogs workers table.1.share workers old → (IsAnyShort (old.log ∷ old.joined) → ⊥) → new.joined ≡ old.joined → IsLog workers table.1.share new.log → length new.drawn ≤ 3 → (stop_in new.log ≡ Some by.Objects → LacksNumbers new) → HasLogs workers table.1.share workers new
 last_logs table workers old new most has going same log few short = record {
   each = each;
   many = ap (λ (l : List (List (ℕ × Entry))). length l) same ∙ has.many;
@@ -338,11 +354,17 @@ last_logs table workers old new most has going same log few short = record {
     each zero d lt = log
     each (suc k) d lt = subst (λ (l : List (List (ℕ × Entry))). All (IsLog workers table.1.share) l) (sym same) (λ n e below. has.each (suc n) e (omega (arith, below))) k d (omega (arith, lt))
 
-    shorts : IsAnyShort (new.log ∷ new.joined) → (length new.drawn + 3 ≤ 3 * workers) × (is_some new.reached ≡ true)
-    shorts (zero, l, at, stops) = let own = short (ap stop_in (some-injective new.log l at) ∙ stops) in let none = ap (λ (ns : List ℕ). length ns) own.0 in ((omega arith), own.1)
+    shorts : IsAnyShort (new.log ∷ new.joined) → LacksAmong workers new
+    shorts (zero, l, at, stops) = let own = short (ap stop_in (some-injective new.log l at) ∙ stops) in record {
+      edt = own.edt;
+      call = own.call;
+      known = own.known;
+      few = (let f = own.few in omega (arith, f, most));
+      reached = own.reached;
+    }
     shorts (suc j, l, at, stops) = absurd (going (suc j, l, subst (λ (ls : List (List (ℕ × Entry))). get_elem? ls j ≡ some l) same at, stops))
 
-ends_last : (table : OcrTable) (program : Checked) (workers : ℕ) (root new : OcrKnown) → 1 ≤ workers → IsGathering table program workers 0 workers leave.Idle root → Stays root new → IsLog workers table.1.share new.view.log → length new.view.drawn ≤ 3 → (stop_in new.view.log ≡ Some by.Objects → (new.view.drawn ≡ []) × (is_some new.view.reached ≡ true)) → KnowsEnd table.1 new.view → IsLast table workers new
+ends_last : (table : OcrTable) (program : Checked) (workers : ℕ) (root new : OcrKnown) → 1 ≤ workers → IsGathering table program workers 0 workers leave.Idle root → Stays root new → IsLog workers table.1.share new.view.log → length new.view.drawn ≤ 3 → (stop_in new.view.log ≡ Some by.Objects → LacksNumbers new.view) → KnowsEnd table.1 new.view → IsLast table workers new
 ends_last table program workers root new most is stays log few short knows = record {
   table_is = stays.table ∙ is.table_is;
   terms = stays.terms ∙ is.terms;

@@ -6,9 +6,8 @@ use Rattle.std.proofs.lemmas.List.{reverse-reverse}
 use mathlib.Core.Option.{some, some-injective, some-ne-none}
 use lib.ListN.{get_elem?}
 use Rattle.atomic_table.proofs.Lists.{at_last}
-use Rattle.ocr_meaning.specs.Call.{is_creation}
+use Rattle.std.specs.declared.snapshot.Snapshot.{Snapshot}
 use Rattle.ocr_meaning.specs.declared.call.Call as body
-use Rattle.ocr_meaning.specs.declared.call.Call.TheVariants as call
 use Rattle.ocr_history.specs.declared.entry.Entry.{Entry}
 use Rattle.ocr_history.specs.declared.entry.Entry.TheVariants as an
 use Rattle.ocr_history.specs.declared.entry.Stop as run
@@ -16,22 +15,23 @@ use Rattle.ocr_history.specs.declared.entry.Stop.TheVariants as by
 use Rattle.ocr_history.specs.History.{History, is_stopped}
 use Rattle.ocr_history.specs.History as history
 use Rattle.ocr_history.specs.Weight.{weight}
-use Rattle.ocr_parts.specs.Legal.{IsRun, IsStop, is_stop}
+use Rattle.ocr_parts.specs.Legal.{IsCreating, IsRun, IsStop, is_stop}
 use Rattle.ocr_parts.specs.Runs.{IsQuiet}
 use Rattle.ocr_turns.specs.Contract.{Finished}
 use Rattle.ocr_turns.specs.Meaning.{Ended, Open}
-use Rattle.ocr_turns.specs.Rule.{Fits, LogOf, LogsOf}
+use Rattle.ocr_turns.specs.Rule.{FactsOf, Fits, LogOf, LogsOf}
 use Rattle.ocr_turns.specs.Sums.{made_sum, sum_of, up_to}
 use Rattle.ocr_turns.proofs.Totals.{at_less, at_snoc_at, made_snoc}
 use Rattle.ocr_facts.specs.Clerks.{OcrTerms, OcrView, of_terms}
-use Rattle.ocr_facts.specs.Ocr.{makes, meaning}
+use Rattle.ocr_facts.specs.Ocr.{makes, meaning, stands}
+use Rattle.ocr_facts.specs.declared.fact.Fact.TheVariants.{Short}
 use Rattle.ocr_facts.proofs.Entered.{goes_on}
 use Rattle.ocr_facts.proofs.Runs.{reverse_snoc, run_is}
 use Rattle.ocr_clerks.specs.Work.{stop_in, stop_of}
 use Rattle.ocr_journal.specs.Numbered.{AreByNumber}
 use Rattle.ocr_journal.proofs.Numbering.{number_there, same_list}
 use Rattle.ocr_crew.specs.Ended.{IsFinished, IsWhole}
-use Rattle.ocr_crew.specs.Limits.{IsLimitCause, IsLimitedBy, object_count}
+use Rattle.ocr_crew.specs.Limits.{IsLimitCause, IsLimitedBy}
 use Rattle.ocr_crew.specs.Logs.{EndsBy, HasLogs, IsLog, KnowsEnd, read, quiet}
 use Rattle.ocr_crew.proofs.Numbers.{free_few}
 use Rattle.ocr_crew.proofs.Weights.{load_within, loads_of, loads_within, run_weight}
@@ -111,15 +111,6 @@ all_at P (x ∷ xs) zero y all at = subst P (some-injective x y at) (all 0 x (om
 all_at P (x ∷ xs) (suc j) y all at = all_at P xs j y (λ k d lt. all (suc k) d (omega (arith, lt))) at
 
 -- THE CAUSES
-makes_one : (c : body.Call) → is_creation c ≡ true → 1 ≤ object_count c
-makes_one (call.DbCreate n flags) is = omega arith
-makes_one (call.EventCreate kind flags) is = omega arith
-makes_one (call.EventCreateParams kind flags max sat deps) is = omega arith
-makes_one (call.TemplateCreate function pc dc) is = omega arith
-makes_one (call.EdtCreate from pc params dc deps flags true) is = omega arith
-makes_one (call.EdtCreate from pc params dc deps flags false) is = omega arith
-makes_one other is = absurd (cc is)
-
 -- what is known of the history before the Stop
 record Before (t : OcrTerms) (v : OcrView) (workers : ℕ) (before : List Entry) (why : run.Stop) : Type 0 where
   run : IsRun (of_terms t) (reverse before)
@@ -127,19 +118,25 @@ record Before (t : OcrTerms) (v : OcrView) (workers : ℕ) (before : List Entry)
   weighs : weight (reverse before) ≡ loads_of (v.log ∷ v.joined)
   numbers : is_some v.reached ≡ true → (f : ℕ → ℕ) → sum_of f v.drawn + (up_to f 2 + made_sum makes f (reverse (reverse before))) ≡ up_to f t.limit
   has : HasLogs workers t.share workers v
+  facts : FactsOf (stands t.setting.value t.limit (before ++ an.Stop why ∷ [])) v.facts
   stops : StopsIn (v.log ∷ v.joined) why
 
 ends_by : (workers share : ℕ) (log : List (ℕ × Entry)) (why : run.Stop) → IsLog workers share log → stop_in log ≡ Some why → EndsBy workers share log why
 ends_by workers share log why is ends = subst (λ o. MatchOption o (Unit {0}) (EndsBy workers share log)) ends is.ends
 
+-- what the run was short of could come before its Stop
+could_come : (t : OcrTerms) (before : List Entry) (edt : ℕ) (c : Snapshot body.Call) → stands t.setting.value t.limit (before ++ an.Stop by.Objects ∷ []) (Short edt c) → IsCreating (of_terms t) (reverse before) edt c.value
+unfolding stands
+could_come t before edt c st =
+    let same : an.Stop by.Objects ∷ st.before ≡ an.Stop by.Objects ∷ reverse before = sym st.stopped ∙ reverse_snoc before (an.Stop by.Objects) in
+    subst (λ (past : History). IsCreating (of_terms t) past edt c.value) (cc same) st.creating
+
 caused : (t : OcrTerms) (v : OcrView) (workers : ℕ) (before : List Entry) (why : run.Stop) → 1 ≤ workers → Before t v workers before why → IsLimitCause (of_terms t) workers t.share (reverse before) why
 caused t v workers before by.Objects most b =
-    let creates = b.cause in
-    let one = makes_one creates.1 creates.2.creation in
-    let short = b.has.short (b.stops.j, b.stops.log, b.stops.here, b.stops.ends) in
-    let few = free_few (of_terms t) (reverse before) v.drawn b.run (b.numbers short.1) in
-    let held = short.0 in
-    (creates.0, creates.1, record { creating = creates.2; short = omega arith })
+    let lacks = b.has.short (b.stops.j, b.stops.log, b.stops.here, b.stops.ends) in
+    let free = free_few (of_terms t) (reverse before) v.drawn b.run (b.numbers lacks.reached) in
+    let held = lacks.few in
+    (lacks.edt, lacks.call.value, record { creating = could_come t before lacks.edt lacks.call (b.facts lacks.known.0 (Short lacks.edt lacks.call) lacks.known.1); short = omega arith })
 caused t v workers before (by.Events worker k) most b =
     let weighed = b.cause in
     let own = ends_by workers t.share b.stops.log (by.Events worker k) (all_at (IsLog workers t.share) (v.log ∷ v.joined) b.stops.j b.stops.log b.has.each b.stops.here) b.stops.ends in
@@ -175,6 +172,7 @@ module _ (t : OcrTerms) (v : OcrView) (workers : ℕ) (logs : List (List (ℕ ×
             ap (made_sum makes g) whole ∙ (made_snoc makes g before (an.Stop why) ∙ (let r = ap (made_sum makes g) (reverse-reverse before) in omega arith)) in
             omega arith;
         has = has;
+        facts = subst (λ (H : List Entry). FactsOf (stands t.setting.value t.limit H) v.facts) whole f.facts;
         stops = stops_in (v.log ∷ v.joined) before why is_open here;
       }
 

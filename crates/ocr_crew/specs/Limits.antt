@@ -1,9 +1,8 @@
 -- The limits of a run by several workers: how many objects it makes, and how much its entries
 -- weigh.
-use Rattle.std.specs.Prelude.{◌≤◌, ◌<◌, ℕ, ◌+◌, ◌-◌, ◌*◌, List, [], ◌∷◌, length, not, is_some, if◌then◌else◌}
+use Rattle.std.specs.Prelude.{◌≤◌, ◌<◌, ℕ, ◌+◌, ◌-◌, ◌*◌, List, [], ◌∷◌, length, not, is_some}
 use Rattle.std.specs.List.{filter, range_with_len}
 use Rattle.ocr_meaning.specs.declared.call.Call as body
-use Rattle.ocr_meaning.specs.declared.call.Call.TheVariants as call
 use Rattle.ocr_history.specs.declared.entry.Entry.{Entry}
 use Rattle.ocr_history.specs.declared.entry.Entry.TheVariants.{Stop}
 use Rattle.ocr_history.specs.declared.entry.Stop as run
@@ -12,15 +11,7 @@ use Rattle.ocr_history.specs.History.{History, Setting}
 use Rattle.ocr_history.specs.Made.{made}
 use Rattle.ocr_parts.specs.Legal.{IsCreating, IsWeighed}
 use Rattle.ocr_history.specs.Weight.{weight}
-
--- how many objects a call makes where it is accepted
-abbrev pub object_count : body.Call → ℕ
-object_count (call.DbCreate n flags) = 1
-object_count (call.EventCreate kind flags) = 1
-object_count (call.EventCreateParams kind flags max sat deps) = 1
-object_count (call.TemplateCreate function pc dc) = 1
-object_count (call.EdtCreate from pc params dc deps flags output) = if output then 2 else 1
-object_count other = 0
+use Rattle.ocr_clerks.specs.Drawing.{object_count}
 
 -- the numbers from 1 to the limit that no object has
 unfoldable pub free_numbers : Setting → History → List ℕ

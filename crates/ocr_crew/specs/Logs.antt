@@ -1,11 +1,15 @@
 -- What the logs of workers have to do with the limits of the run.
+use Rattle.std.specs.declared.snapshot.Snapshot.{Snapshot}
 use Rattle.std.specs.Prelude.{◌≡◌, ◌≤◌, ◌<◌, ℕ, ◌+◌, ◌*◌, List, ◌∷◌, length, true, Some, is_some, reverse, MatchOption}
 use Rattle.std.specs.List.{All}
 use mathlib.Core.Option.{some}
 use lib.ListN.{get_elem?}
+use Rattle.ocr_clerks.specs.Drawing.{object_count}
 use Rattle.ocr_clerks.specs.Work.{stop_in}
 use Rattle.ocr_facts.specs.Clerks.{OcrTerms, OcrView, of_terms}
 use Rattle.ocr_facts.specs.Ocr.{meaning}
+use Rattle.ocr_facts.specs.declared.fact.Fact.TheVariants.{Short}
+use Rattle.ocr_meaning.specs.declared.call.Call as body
 use Rattle.ocr_history.specs.declared.entry.Entry.{Entry}
 use Rattle.ocr_history.specs.declared.entry.Stop as run
 use Rattle.ocr_history.specs.declared.entry.Stop.TheVariants as by
@@ -25,10 +29,19 @@ pub record IsLog (workers share : ℕ) (log : List (ℕ × Entry)) : Type 0 wher
   pub light : load_of weight_of log ≤ share
   pub ends : MatchOption (stop_in log) (Unit {0}) (EndsBy workers share log)
 
--- one of the logs ends the run since no number was left
+-- one of the logs ends the run since the numbers left were too few
 abbrev pub IsAnyShort : List (List (ℕ × Entry)) → Type 0
 IsAnyShort logs = (j : ℕ) × (log : List (ℕ × Entry)) × (get_elem? logs j ≡ some log)
     × (stop_in log ≡ Some by.Objects)
+
+-- The view knows whose creation the numbers that were left were too few for. Together with those
+-- that the others of so many workers drew, three each at most, fewer are drawn than it needs.
+pub record LacksAmong (workers : ℕ) (v : OcrView) : Type 0 where
+  pub edt : ℕ
+  pub call : Snapshot body.Call
+  pub known : (k : ℕ) × (get_elem? v.facts k ≡ some (Short edt call))
+  pub few : length v.drawn + 3 < object_count call.value + 3 * workers
+  pub reached : is_some v.reached ≡ true
 
 -- What the root knows of so many joined logs, and of its own: each is a worker's, and where one of
 -- them ends the run for want of numbers, the others hold back three each at most.
@@ -36,8 +49,7 @@ pub record HasLogs (workers share joined : ℕ) (v : OcrView) : Type 0 where
   pub each : All (IsLog workers share) (v.log ∷ v.joined)
   pub many : length v.joined ≡ joined
   pub few : length v.drawn ≤ 3 * joined
-  pub short : IsAnyShort (v.log ∷ v.joined) → (length v.drawn + 3 ≤ 3 * joined)
-      × (is_some v.reached ≡ true)
+  pub short : IsAnyShort (v.log ∷ v.joined) → LacksAmong joined v
 
 -- what the root knows of the end: it was told that the run has ended, or it is quiet
 pub data KnowsEnd (t : OcrTerms) (v : OcrView) : Type 0 where

@@ -3,7 +3,7 @@ use Rattle.std.specs.Prelude.{◌≡◌, ◌≤◌, ◌<◌, ℕ, ◌+◌, List,
 use Rattle.crossbeam_utils.specs.Padded.{padded_value}
 use Rattle.crossbeam_utils.specs.declared.cache_padded.CachePadded.{CachePadded}
 use Rattle.ocr_clerks.specs.Entering.{OcrKnown}
-use Rattle.ocr_clerks.specs.Work.{OcrTable, stop_in}
+use Rattle.ocr_clerks.specs.Work.{LacksNumbers, OcrTable, stop_in}
 use Rattle.ocr_code.specs.declared.checked.Checked.{Checked}
 use Rattle.ocr_history.specs.declared.entry.Stop.TheVariants as by
 use Rattle.ocr_steal.specs.declared.pool.Pool.{Pool}
@@ -53,8 +53,7 @@ pub record IsHome (table : OcrTable) (program : Checked) (workers : ℕ) (left :
   pub alone : c.view.joined ≡ []
   pub log : IsLog workers table.1.share c.view.log
   pub few : length c.view.drawn ≤ 3
-  pub short : stop_in c.view.log ≡ Some by.Objects
-      → (c.view.drawn ≡ []) × (is_some c.view.reached ≡ true)
+  pub short : stop_in c.view.log ≡ Some by.Objects → LacksNumbers c.view
   pub leaves : LeavesSo table program left c
 
 -- a worker that comes home, with the hand of this number

@@ -1,3 +1,5 @@
 pub mod Owed
 pub mod Delivered
+mod Faced
+mod Left
 mod Satisfied

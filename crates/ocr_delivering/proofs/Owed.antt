@@ -100,9 +100,3 @@ idle_hand c idle = record {
   kept = ap (λ (ps : List (ℕ × Part)). keys ps) idle.kept;
   hand = ap (λ (ps : List (ℕ × Option Part)). keys ps) idle.hand;
 }
-
--- NO OTHER MESSAGE is sent
-pub owed_leave : (t : OcrTerms) (J : List Entry) (v : OcrView) (m : Message) (scope : ℕ) → Fits meaning t J v → IsFirstOwed m v → m.what ≡ what.Leave scope → ⊥
-owed_leave t J v m scope fits first is =
-    let at = subst (λ (x : What). IsFirstOwed (record m { what = x }) v) is first in
-    sent_law (of_terms t) (reverse J) (run_is t.setting.value t.limit J fits.run) (m.place, m.index, what.Leave scope) (owed_is t v J 0 m.place m.index (what.Leave scope) fits at)

@@ -12,8 +12,8 @@ use Rattle.ocr_history.specs.declared.entry.What.{What}
 use Rattle.ocr_history.specs.declared.entry.What.TheVariants as what
 use Rattle.ocr_mail.specs.Mail.{named, without}
 use Rattle.ocr_parts.specs.declared.part.Part.{Part}
-use Rattle.ocr_parts.specs.LegalOn.{IsSatisfiable, delivery_code}
-use Rattle.ocr_parts.specs.Messages.{satisfied}
+use Rattle.ocr_parts.specs.LegalOn.{HasMember, IsSatisfiable, delivery_code}
+use Rattle.ocr_parts.specs.Messages.{satisfied, sent_by_leave}
 use Rattle.ocr_parts.specs.Parts.{parts_of}
 use Rattle.ocr_steal.specs.declared.hand.Hand.{Hand}
 use Rattle.ocr_steal.specs.Hand.{own}
@@ -43,6 +43,11 @@ abbrev pub SatisfiesEvent : What → Type 0
 SatisfiesEvent (what.Satisfy event slot payload) = Unit {0}
 SatisfiesEvent other = ⊥
 
+-- or leaves a scope
+abbrev pub LeavesScope : What → Type 0
+LeavesScope (what.Leave scope) = Unit {0}
+LeavesScope other = ⊥
+
 -- some message that the clerk owes satisfies this event
 abbrev pub OwesTo : ℕ → OcrView → Type 0
 OwesTo event v = (slot : ℕ) × (payload : ℕ) × OwesSatisfaction v event slot payload
@@ -61,14 +66,22 @@ pub record IsAnswered (face : Part) (slot payload : ℕ) (answer : Code) (sent :
     pub code : answer ≡ delivery_code face payload
     pub sends : sent ≡ (if is_done answer then satisfied face slot payload else [])
 
+-- a scope of this face is left by a member, and sends these messages
+pub record IsLeft (face : Part) (answer : Code) (sent : List What) : Type 0 where
+  pub member : HasMember face
+  pub code : answer ≡ code.Done
+  pub sends : sent ≡ sent_by_leave face
+
 -- What a delivery is answered and sends: nothing is sent by a slot that is set; an event answers by
--- its face after a history that the view fits.
+-- its face after a history that the view fits, and so does a scope.
 abbrev pub Answers : OcrTerms → OcrView → What → Code → List What → Type 0
 Answers t v (what.Set edt slot payload) answer sent = (answer ≡ code.Done) × (sent ≡ [])
 Answers t v (what.Satisfy event slot payload) answer sent =
     (J : List Entry) × Fits meaning t J v
     × IsAnswered ((parts_of (of_terms t) (reverse J)).face event) slot payload answer sent
-Answers t v other answer sent = ⊥
+Answers t v (what.Leave scope) answer sent =
+    (J : List Entry) × Fits meaning t J v
+    × IsLeft ((parts_of (of_terms t) (reverse J)).face scope) answer sent
 
 -- It is the clerk's newest entry. The clerk owes the message no more, every other as it did, and
 -- what the delivery sends; it knows no fact more.

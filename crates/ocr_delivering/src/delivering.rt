@@ -6,6 +6,7 @@ ghost use Rattle.ocr_turns.specs.Words.{OwesPayload};
 ghost use Rattle.ocr_clerks.specs.Work.{AtWork, EntersKept, IsGone, IsIdle, Stays};
 ghost use Rattle.ocr_delivering.specs.Delivering.{Delivers, IsFirstOwed, IsOwed, PushesReady, SetsSlot, Settles, delivery_of, no_parts};
 
+use crate::leaving::deliver_leave;
 use crate::pushing::push_ready;
 use crate::satisfying::deliver_satisfaction;
 use ocr_clerks::{Gate, Job, Ocr, Over, enter_kept};
@@ -103,8 +104,8 @@ fn settle<R: Wait, G: Gate>(
     }
 }
 
-/// Delivers the first message that the clerk owes. It answers as `deliver_set` and
-/// `deliver_satisfaction` do.
+/// Delivers the first message that the clerk owes. It answers as `deliver_set`,
+/// `deliver_satisfaction` and `deliver_leave` do.
 pub fn deliver_owed<R: Wait, G: Gate>(
     alloc: Global,
     job: &Job<R, G>,
@@ -129,11 +130,7 @@ pub fn deliver_owed<R: Wait, G: Gate>(
     match message.what {
         What::Set { .. } => deliver_set(alloc, job, worker, clerk, hand, message),
         What::Satisfy { .. } => deliver_satisfaction(alloc, job, worker, clerk, message),
-        // No entry sends it.
-        What::Leave { .. } => match job.turns.look(clerk) {
-            Some(word) => Err(Over(word)),
-            None => unreachable!(),
-        },
+        What::Leave { .. } => deliver_leave(alloc, job, worker, clerk, message),
     }
 }
 

@@ -1,5 +1,5 @@
 -- A load or a store of a word that the running EDT shares, as it is entered.
-use Rattle.std.proofs.Common.{◌≡◌, ◌⊎◌, inl, inr, ℕ, ◌+◌, ◌≤◌, true, false, List, [], ◌∷◌, ◌++◌, take, reverse, Option, refl, ap, sym, ◌∙◌, subst, arith}
+use Rattle.std.proofs.Common.{◌≡◌, ◌⊎◌, inl, inr, ℕ, ◌+◌, ◌≤◌, Bool, true, false, List, [], ◌∷◌, ◌++◌, take, reverse, Option, refl, ap, sym, ◌∙◌, subst, arith}
 use Rattle.ocr_body.specs.Serving.{answer_with}
 use Rattle.ocr_code.specs.declared.checked.Checked.{Checked}
 use Rattle.ocr_guid.specs.declared.Code.TheVariants.{Done}
@@ -31,8 +31,8 @@ use Rattle.ocr_facts.proofs.Places.{within_is}
 use Rattle.ocr_clerks.specs.Entering.{CanMake, OcrKnown}
 use Rattle.ocr_clerks.specs.Work.{AtWork, EntersAs, HasAllAtHand, HasTakenOn, KeepsFaces, OcrTable, Took, in_hand, lifted}
 use Rattle.ocr_running.specs.Accesses.{HasWord, IsAccessOf, second_in, word_at}
-use Rattle.ocr_running.specs.Calls.{faces_of}
-use Rattle.ocr_running.specs.Running.{AreOthers, HasEntered, HasLifted, HasTaken, IsCalled, Runs, drawn_for, first_in, holds_at, places_made}
+use Rattle.ocr_running.specs.Calls.{IsNextTo, drawn_for, faces_of, home_for, makes_output, makes_scope}
+use Rattle.ocr_running.specs.Running.{AreOthers, HasEntered, HasLifted, HasTaken, IsCalled, Runs, first_in, holds_at, home_at, places_made}
 use Rattle.ocr_running.specs.Serving.{holds_in, own_log}
 use Rattle.ocr_running.proofs.Asked.{lifted_is, once_in, taken_at_hand, taken_once, took_is}
 use Rattle.ocr_running.proofs.Back.{has_taken, holds_again, keeps_faces, runs_again}
@@ -48,7 +48,7 @@ no_creation holds d value x (call.Load e k) is = refl
 no_creation holds d value x (call.Store e k v) is = refl
 no_creation holds d value x other is = absurd is
 
-its_face : (limit : ℕ) (holds : Holds) (d value : ℕ) (x : Part) (c : body.Call) → IsAccessOf holds d c value x → faces_of limit c ≡ and_face limit d []
+its_face : (limit : ℕ) (holds : Holds) (d value : ℕ) (x : Part) (c : body.Call) → IsAccessOf holds d c value x → faces_of limit 0 c ≡ and_face limit d []
 its_face limit holds d value x (call.Load e k) is = ap (λ (n : ℕ). and_face limit n []) is.0
 its_face limit holds d value x (call.Store e k v) is = ap (λ (n : ℕ). and_face limit n []) is.0
 its_face limit holds d value x other is = absurd is
@@ -93,6 +93,17 @@ answers_so limit f edt d value holds x other is shared loaded = absurd is
 
 none_made : (limit : ℕ) (c : body.Call) (value : ℕ) → is_creation c ≡ false → places_made limit c (answer_with value) ≡ []
 none_made limit c value off = rw off refl
+
+-- and has no home
+its_home : (holds : Holds) (d value : ℕ) (x core : Part) (c : body.Call) → IsAccessOf holds d c value x → 0 ≡ home_for c core
+its_home holds d value x core (call.Load e k) is = refl
+its_home holds d value x core (call.Store e k v) is = refl
+its_home holds d value x core other is = absurd is
+
+none_beside : (holds : Holds) (d value : ℕ) (x : Part) (c : body.Call) → IsAccessOf holds d c value x → (makes_scope c ≡ false) × (makes_output c ≡ false)
+none_beside holds d value x (call.Load e k) is = (refl, refl)
+none_beside holds d value x (call.Store e k v) is = (refl, refl)
+none_beside holds d value x other is = absurd is
 
 none_drawn : (c : body.Call) (value : ℕ) → is_creation c ≡ false → drawn_for c (answer_with value) ≡ []
 none_drawn c value off = rw off refl
@@ -174,8 +185,8 @@ module _ (table : OcrTable) (program : Checked) (edt d : ℕ) (b : Body) (old ne
     off : is_creation c ≡ false
     off = no_creation (holds_at old) d value (second_in ps) c access
 
-    places_are : d ∷ [] ≡ faces_of table.1.limit c ++ places_made table.1.limit c (answer_with value)
-    places_are = sym (ap (λ (l : List ℕ). faces_of table.1.limit c ++ l) (none_made table.1.limit c value off) ∙ ap (λ (l : List ℕ). l ++ []) (its_face table.1.limit (holds_at old) d value (second_in ps) c access ∙ one_face table.1.limit d (within_block (word_of_call c) enters)))
+    places_are : d ∷ [] ≡ faces_of table.1.limit 0 c ++ places_made table.1.limit c (answer_with value)
+    places_are = sym (ap (λ (l : List ℕ). faces_of table.1.limit 0 c ++ l) (none_made table.1.limit c value off) ∙ ap (λ (l : List ℕ). l ++ []) (its_face table.1.limit (holds_at old) d value (second_in ps) c access ∙ one_face table.1.limit d (within_block (word_of_call c) enters)))
       where
         one_face : (limit d : ℕ) → is_within limit d ≡ true → and_face limit d [] ≡ d ∷ []
         one_face limit d is = rw is refl
@@ -183,12 +194,20 @@ module _ (table : OcrTable) (program : Checked) (edt d : ℕ) (b : Body) (old ne
     drawn_are : ◌≡◌ {A = List ℕ} [] (drawn_for c (answer_with value))
     drawn_are = sym (none_drawn c value off)
 
-    lift_call : HasLifted table.1 edt old new (faces_of table.1.limit c ++ places_made table.1.limit c (answer_with value)) (drawn_for c (answer_with value)) ps
-    lift_call = subst (λ (l : List ℕ). HasLifted table.1 edt old new (faces_of table.1.limit c ++ places_made table.1.limit c (answer_with value)) l ps) drawn_are
+    lift_call : HasLifted table.1 edt old new (faces_of table.1.limit 0 c ++ places_made table.1.limit c (answer_with value)) (drawn_for c (answer_with value)) ps
+    lift_call = subst (λ (l : List ℕ). HasLifted table.1 edt old new (faces_of table.1.limit 0 c ++ places_made table.1.limit c (answer_with value)) l ps) drawn_are
         (subst (λ (l : List ℕ). HasLifted table.1 edt old new l [] ps) places_are lift)
 
     numbered : IsNumbered new.view c (answer_with value)
-    numbered = record { new = λ on. cc (on, off); refused = λ on. cc (on, off); no_scope = refl; no_output = refl }
+    numbered = record {
+      drawn = ap (λ (v : OcrView). v.drawn) lift.view ∙ drawn_are;
+      refused = λ on. cc (on, off);
+      scope = subst (λ (b : Bool). IsNextTo b new.view value 0) (sym (none_beside (holds_at old) d value (second_in ps) c access).0) refl;
+      output = subst (λ (b : Bool). IsNextTo b new.view value 0) (sym (none_beside (holds_at old) d value (second_in ps) c access).1) refl;
+    }
+
+    home_is : 0 ≡ home_at old c
+    home_is = its_home (holds_at old) d value (second_in ps) (first_in old.parts) c access
 
     so : (J : List Entry) → Fits meaning table.1 J new.view → AnswersSo table.1.limit (parts_of (of_terms table.1) (reverse J)) edt c (answer_with value)
     so J fits =
@@ -198,13 +217,13 @@ module _ (table : OcrTable) (program : Checked) (edt d : ℕ) (b : Body) (old ne
         (λ word. loaded_there table.1 new.view J fits edt d k lift.core rest within at_hand enters found.0 value (word ∙ ap (word_at k) (sym found.1)))
 
     can_plain : CanMake table.1 new.view entry (record { members = []; parts = ps }) ps
-    can_plain = can_answer table program edt b old new c (answer_with value) [] [] ps work runs lift_call next numbered (λ J fits found. so J fits) (its_code (holds_at old) d value edt (second_in ps) (face_in table.1.limit ps) c access) refl
+    can_plain = can_answer table program edt b old new 0 c (answer_with value) [] [] ps work runs home_is lift_call next numbered (λ J fits found. so J fits) (its_code (holds_at old) d value edt (second_in ps) (face_in table.1.limit ps) c access) refl
 
     pub can_access : CanMake table.1 new.view (Call edt 0 c a w) (record { members = []; parts = ps }) ps
     can_access = subst (λ (e : Entry). CanMake table.1 new.view e (record { members = []; parts = ps }) ps) (sym entry_is) can_plain
 
     others : AreOthers table.1 edt (d ∷ [])
-    others = subst (AreOthers table.1 edt) (sym places_are) (others_in table program edt b old new c (answer_with value) [] [] ps work runs lift_call next numbered (λ J fits found. so J fits) (its_code (holds_at old) d value edt (second_in ps) (face_in table.1.limit ps) c access) refl)
+    others = subst (AreOthers table.1 edt) (sym places_are) (others_in table program edt b old new 0 c (answer_with value) [] [] ps work runs home_is lift_call next numbered (λ J fits found. so J fits) (its_code (holds_at old) d value edt (second_in ps) (face_in table.1.limit ps) c access) refl)
 
     -- and what it leaves
     module _ (later : OcrKnown) (done_so : EntersAs table.1 new later (Call edt 0 c a w) (record { members = []; parts = ps })) where
@@ -214,9 +233,9 @@ module _ (table : OcrTable) (program : Checked) (edt d : ℕ) (b : Body) (old ne
       pub access_leaves : HasEntered table.1 edt b later (d ∷ []) [] []
       access_leaves =
           subst (λ (l : List ℕ). HasEntered table.1 edt b later l [] []) (sym places_are)
-          (subst (λ (m : List (ℕ × ℕ)). HasEntered table.1 edt b later (faces_of table.1.limit c ++ places_made table.1.limit c (answer_with value)) m []) (none_counted table.1.limit edt (holds_at old) d value (second_in ps) c new.view.parts access)
-          (subst (λ (r : List ℕ). HasEntered table.1 edt b later (faces_of table.1.limit c ++ places_made table.1.limit c (answer_with value)) (listed (counts table.1.limit entry new.view.parts)) r) (none_woken table.1.limit edt (holds_at old) d value (second_in ps) c new.view.parts access)
-          (call_leaves table edt b old new later c (answer_with value) [] ps runs lift_call can_plain done)))
+          (subst (λ (m : List (ℕ × ℕ)). HasEntered table.1 edt b later (faces_of table.1.limit 0 c ++ places_made table.1.limit c (answer_with value)) m []) (none_counted table.1.limit edt (holds_at old) d value (second_in ps) c new.view.parts access)
+          (subst (λ (r : List ℕ). HasEntered table.1 edt b later (faces_of table.1.limit 0 c ++ places_made table.1.limit c (answer_with value)) (listed (counts table.1.limit entry new.view.parts)) r) (none_woken table.1.limit edt (holds_at old) d value (second_in ps) c new.view.parts access)
+          (call_leaves table edt b old new later 0 c (answer_with value) [] ps runs lift_call can_plain done)))
 
       pub access_taken : HasTakenOn table.1 edt later
       access_taken = has_taken table.1 edt b later (d ∷ []) access_leaves
@@ -231,7 +250,7 @@ module _ (table : OcrTable) (program : Checked) (edt d : ℕ) (b : Body) (old ne
 
         pub access_called : IsCalled edt c (answer_with value) old last
         access_called =
-            let called = call_done table edt b old new later c (answer_with value) [] ps runs lift_call can_plain done in
+            let called = call_done table edt b old new later 0 c (answer_with value) [] ps runs lift_call can_plain done in
             record {
               log = ap (λ (v : OcrView). own_log v.log edt) view ∙ called.log;
               holds = holds_again table.1 edt b later last (d ∷ []) access_leaves hand ∙ called.holds;

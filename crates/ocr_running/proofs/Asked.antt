@@ -8,11 +8,12 @@ use Rattle.ocr_meaning.specs.Body.{Body}
 use Rattle.ocr_meaning.specs.Call.{is_creation}
 use Rattle.ocr_meaning.specs.declared.call.Answer.{Answer}
 use Rattle.ocr_meaning.specs.declared.call.Call as body
+use Rattle.ocr_meaning.specs.declared.call.Call.TheVariants as call
 use Rattle.ocr_history.specs.declared.entry.Entry.TheVariants.{Call}
 use Rattle.ocr_parts.specs.declared.part.Part.{Part}
 use Rattle.ocr_parts.specs.declared.part.Part.TheVariants as part
 use Rattle.ocr_parts.specs.Codes.{Sort, wanted}
-use Rattle.ocr_parts.specs.Footprint.{and_core, and_face, and_made, and_wanted, footprint_of, makes_core}
+use Rattle.ocr_parts.specs.Footprint.{and_beside, and_core, and_face, and_made, and_wanted, footprint_of, makes_core}
 use Rattle.ocr_parts.specs.Taken.{is_within}
 use Rattle.ocr_history.specs.Numbers.{placed}
 use Rattle.ocr_turns.specs.Steps.{Sees}
@@ -25,7 +26,7 @@ use Rattle.ocr_facts.proofs.Places.{places_good}
 use Rattle.ocr_clerks.specs.Entering.{OcrKnown}
 use Rattle.ocr_clerks.specs.Work.{AtWork, HasAllAtHand, OcrTable, Took, in_hand, lifted}
 use Rattle.ocr_clerks.proofs.Hands.{in_hand_some, some_keys, take_all}
-use Rattle.ocr_running.specs.Calls.{faces_of}
+use Rattle.ocr_running.specs.Calls.{faces_of, home_for}
 use Rattle.ocr_running.specs.Running.{HasLifted, HasTaken, Runs}
 
 -- THE FACES that a call wants
@@ -35,19 +36,26 @@ blank_made limit c a null = elim (is_creation c) as (λ b. (if b then and_face l
   | false ↦ refl
 ]
 
-pub blank_places : (limit : ℕ) (c : body.Call) (a : Answer) (w : List (ℕ × ℕ)) → a.value ≡ 0 → footprint_of limit (Call 0 0 c a w) ≡ faces_of limit c
-blank_places limit c a w null = ap (and_wanted limit (wanted c)) (blank_made limit c a null)
-
 abbrev pub blank : Answer
 blank = record { code = code.Enoent; value = 0; scope = 0; output = 0 }
+
+abbrev named : ℕ → body.Call → List ℕ
+named limit c = and_wanted limit (wanted c) (and_made limit c blank [])
+
+pub blank_places : (limit home : ℕ) (c : body.Call) → (makes_core c ≡ false → home ≡ 0) → footprint_of limit (Call 0 home c blank []) ≡ faces_of limit home c
+blank_places limit home c none = beside_none c none ∙ ap (λ (ns : List ℕ). and_face limit home (and_wanted limit (wanted c) ns)) (blank_made limit c blank refl)
+  where
+    beside_none : (d : body.Call) → (makes_core d ≡ false → home ≡ 0) → and_beside limit home d blank (named limit d) ≡ and_face limit home (named limit d)
+    beside_none (call.EdtCreate from pc ps dc ds fl o) none = refl
+    beside_none other none = rw (none refl) refl
 
 pub all_from : (P : ℕ → Type 0) (ns : List ℕ) → ((p : ℕ) → 1 ≤ sum_of (one_at p) ns → P p) → All P ns
 all_from P [] each = All-nil P
 all_from P (n ∷ ns) each = All-cons P n ns (each n (let one = one_here n in omega (arith, one))) (all_from P ns (λ p some. each p (omega (arith, some))))
 
-pub faces_low : (limit : ℕ) (c : body.Call) → All (λ p. p ≤ limit + limit) (faces_of limit c)
-faces_low limit c = subst (All (λ p. p ≤ limit + limit)) (blank_places limit c blank [] refl)
-    (all_from (λ p. p ≤ limit + limit) (footprint_of limit (Call 0 0 c blank [])) (λ p some. let r = (places_good limit (Call 0 0 c blank [])).range p some in let high = r.1 in omega (arith, high)))
+pub faces_low : (limit home : ℕ) (c : body.Call) → (makes_core c ≡ false → home ≡ 0) → All (λ p. p ≤ limit + limit) (faces_of limit home c)
+faces_low limit home c none = subst (All (λ p. p ≤ limit + limit)) (blank_places limit home c none)
+    (all_from (λ p. p ≤ limit + limit) (footprint_of limit (Call 0 home c blank [])) (λ p some. let r = (places_good limit (Call 0 home c blank [])).range p some in let high = r.1 in omega (arith, high)))
 
 placed_length : (n : ℕ) (ns : List ℕ) → length (placed n ns) ≤ length ns + 1
 placed_length n [] = omega arith
@@ -66,8 +74,15 @@ wanted_length limit (one ∷ rest) = elim (is_within limit one.0) as (λ b. leng
   | false ↦ let r = wanted_length limit rest in omega (arith, r)
 ]
 
-pub faces_few : (limit : ℕ) (c : body.Call) → length (wanted c) ≤ 33 → length (faces_of limit c) ≤ 33
-faces_few limit c few = let r = wanted_length limit (wanted c) in omega (arith, r, few)
+pub faces_few : (limit home : ℕ) (c : body.Call) → length (wanted c) ≤ 33 → length (faces_of limit home c) ≤ 34
+faces_few limit home c few = elim (is_within limit home) as (λ b. length (if b then placed home (and_wanted limit (wanted c) []) else and_wanted limit (wanted c) []) ≤ 34) [
+  | true ↦ let a = placed_length home (and_wanted limit (wanted c) []) in let r = wanted_length limit (wanted c) in omega (arith, a, r, few)
+  | false ↦ let r = wanted_length limit (wanted c) in omega (arith, r, few)
+]
+
+-- the home that a call joins, by whatever core: none where it makes no EDT
+pub home_none : (c : body.Call) (core : Part) → makes_core c ≡ false → home_for c core ≡ 0
+home_none c core off = rw off refl
 
 -- WHAT WAS TAKEN stands behind the core
 some_taken : (ps : List (ℕ × Part)) (places : List ℕ) (x : ℕ × Part) (rest : List (ℕ × Part)) → ps ≡ x ∷ rest → keys ps ≡ places → 1 ≤ length places

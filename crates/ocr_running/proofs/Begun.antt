@@ -1,5 +1,5 @@
 -- What the Start of an EDT tells whoever keeps its face and its core.
-use Rattle.std.proofs.Common.{◌≡◌, ℕ, List, [], ◌∷◌, length, Bool, true, Option, Some, None, refl, sym, ◌∙◌, ap, subst}
+use Rattle.std.proofs.Common.{◌≡◌, ℕ, List, [], ◌∷◌, length, true, Option, Some, None, refl, sym, ◌∙◌, ap, subst}
 use Rattle.ocr_acquire.specs.declared.Mode.{Mode}
 use Rattle.ocr_acquire.specs.Mode.{mode_in}
 use Rattle.ocr_datablock.specs.Block as block
@@ -11,33 +11,35 @@ use Rattle.ocr_slots.specs.declared.Slot.{Slot}
 use Rattle.ocr_slots.specs.Slots as slot
 use Rattle.ocr_history.specs.declared.entry.Entry.TheVariants.{Start}
 use Rattle.ocr_history.specs.History.{History, Setting}
-use Rattle.ocr_history.specs.Made.{Made, MadeBlock, MadeTemplate, MadeEdt, depc_in, function_in, is_edt, is_edt_made, made, params_in}
+use Rattle.ocr_history.specs.Made.{Made, MadeEdt, depc_in, function_in, is_edt, is_edt_made, made, params_in}
 use Rattle.ocr_guid.specs.Target.{EventCall}
 use Rattle.ocr_parts.specs.declared.loans.Kept.{Kept}
 use Rattle.ocr_parts.specs.declared.part.Core.{Core}
 use Rattle.ocr_parts.specs.declared.part.Part.{Part}
 use Rattle.ocr_parts.specs.declared.part.Part.TheVariants as part
 use Rattle.ocr_parts.specs.Bodies.{body_with, first_holds, hold_of, holds_on}
-use Rattle.ocr_parts.specs.Calls.{block_calls, depv_in, edt_calls, event_calls, link_calls, loans_of, payloads_of, plan_of, slots_now, with_plan}
+use Rattle.ocr_parts.specs.Calls.{block_calls, depv_in, edt_calls, event_calls, link_calls, loans_of, payloads_of, plan_of, slots_now, with_plan, scope_calls}
 use Rattle.ocr_parts.specs.Effects.{made_ready, ready_at, started_edt, with_phase}
 use Rattle.ocr_parts.specs.Kinds.{core_progress, holds_of, is_acquiring, is_acquiring_edt, kept_on, mode_on, on_core, progress_in, work_in, work_of}
 use Rattle.ocr_parts.specs.Legal.{IsLegal, IsRun}
-use Rattle.ocr_parts.specs.Parts.{Parts, core, face, parts_of}
+use Rattle.ocr_parts.specs.Parts.{Parts, core, face, parts_of, identity_of}
 use Rattle.ocr_parts.proofs.After.{after_law}
 use Rattle.ocr_quiet.proofs.Edts.{edts_law}
 use Rattle.ocr_standing.specs.Kept.{AreSet, IsFilled, filled}
 use Rattle.ocr_standing.proofs.Filled.{filled_law, many}
 use Rattle.ocr_facts.specs.Facts.{HasBegun, IsCount, holds_by, stale_in}
 use Rattle.ocr_facts.proofs.Slots.{number_same}
+use Rattle.ocr_finish.specs.Scope.{ScopeCall}
+use Rattle.ocr_edt.specs.declared.Identity.{Identity}
 
 -- THE FACE tells how many slots the EDT has
 abbrev slots_on : Part → List Slot
 slots_on (part.Edt slots) = slots
 slots_on other = []
 
-pub face_edt : (m : Option Made) (links : List slot.SlotCall) (blocks : List block.BlockCall) (events : List EventCall) (slots : List Slot) → face m links blocks events ≡ part.Edt slots → (is_edt_made m ≡ true) × (depc_in m ≡ length slots)
-face_edt (Some (MadeEdt f ps n)) links blocks events slots is = (refl, sym (many links [] n 0) ∙ ap (λ (x : Part). length (slots_on x)) is)
-face_edt other links blocks events slots is = cc is
+pub face_edt : (m : Option Made) (links : List slot.SlotCall) (blocks : List block.BlockCall) (events : List EventCall) (scopes : List ScopeCall) (slots : List Slot) → face m links blocks events scopes ≡ part.Edt slots → (is_edt_made m ≡ true) × (depc_in m ≡ length slots)
+face_edt (Some (MadeEdt f ps n)) links blocks events scopes slots is = (refl, sym (many links [] n 0) ∙ ap (λ (x : Part). length (slots_on x)) is)
+face_edt other links blocks events scopes slots is = cc is
 
 -- THE CORE tells the function and the parameters
 abbrev function_on : Part → ℕ
@@ -48,9 +50,9 @@ abbrev params_on : Part → List ℕ
 params_on (part.Core c) = c.params
 params_on other = []
 
-pub core_made : (m : Option Made) (t : ℕ) (calls : List edt.EdtCall) (loans : List (ℕ × Kept)) (c : Core) → core m t calls loans ≡ part.Core c → (function_in m ≡ c.function) × (params_in m ≡ c.params)
-core_made (Some (MadeEdt f ps n)) t calls loans c is = (ap function_on is, ap params_on is)
-core_made other t calls loans c is = cc is
+pub core_made : (m : Option Made) (i : Identity) (calls : List edt.EdtCall) (loans : List (ℕ × Kept)) (c : Core) → core m i calls loans ≡ part.Core c → (function_in m ≡ c.function) × (params_in m ≡ c.params)
+core_made (Some (MadeEdt f ps n)) i calls loans c is = (ap function_on is, ap params_on is)
+core_made other i calls loans c is = cc is
 
 -- THE START of a core
 abbrev started : List (ℕ × Mode) → Core → Core
@@ -76,9 +78,9 @@ started_stale (phase.Filling i) ms is = refl
 started_stale (phase.Acquiring p) ms is = refl
 started_stale other ms is = cc is
 
-core_stale : (m : Option Made) (t : ℕ) (calls before : List edt.EdtCall) (loans : List (ℕ × Kept)) → is_edt_made m ≡ true → calls ≡ edt.Start ∷ before → work_stale (work_of (core m t calls loans)) ≡ edt.stale_of calls
-core_stale (Some (MadeEdt f ps n)) t calls before loans made is = subst (λ (l : List edt.EdtCall). work_stale (work_of (core (Some (MadeEdt f ps n)) t l loans)) ≡ edt.stale_of l) (sym is) refl
-core_stale other t calls before loans made is = cc made
+core_stale : (m : Option Made) (i : Identity) (calls before : List edt.EdtCall) (loans : List (ℕ × Kept)) → is_edt_made m ≡ true → calls ≡ edt.Start ∷ before → work_stale (work_of (core m i calls loans)) ≡ edt.stale_of calls
+core_stale (Some (MadeEdt f ps n)) i calls before loans made is = subst (λ (l : List edt.EdtCall). work_stale (work_of (core (Some (MadeEdt f ps n)) i l loans)) ≡ edt.stale_of l) (sym is) refl
+core_stale other i calls before loans made is = cc made
 
 -- what it holds
 started_mode : (e : Edt) (ms : List (ℕ × Mode)) (d : ℕ) → is_acquiring_edt (made_ready ms e) ≡ true → mode_in d (holds_of (work_in (started_edt (made_ready ms e)))) ≡ mode_in d (holds_of (work_in (started_edt e)))
@@ -92,15 +94,15 @@ start_facts s past t slots payloads c run legal is_face is_core len set =
     let m = made s past t in
     let ms = plan_of s past t in
     let later = edt_calls s (Start t ∷ past) t in
-    let one = face_edt m (link_calls past t) (block_calls s past t) (event_calls s past t) slots is_face in
+    let one = face_edt m (link_calls past t) (block_calls s past t) (event_calls s past t) (scope_calls past t) slots is_face in
     let edt_is : is_edt past t ≡ true = sym (edts_law s past run t) ∙ one.0 in
     let full : IsFilled s past t slots payloads = filled_law s past t slots payloads is_face len set in
-    let own = core_made m t (edt_calls s past t) (loans_of s past t) c is_core in
+    let own = core_made m (identity_of past t) (edt_calls s past t) (loans_of s past t) c is_core in
     let after = core_after s past t c run legal is_core in
     let acquiring = acquires s past t c legal is_core in
     let calls : later ≡ edt.Start ∷ with_plan ms (edt_calls s past t) = rw (number_same t) refl in
     let stale : edt.stale_of later ≡ stale_in (core_progress (part.Core c)) =
-    sym (core_stale m t later (with_plan ms (edt_calls s past t)) (loans_of s (Start t ∷ past) t) one.0 calls) ∙ (ap (λ (x : Part). work_stale (work_of x)) after ∙ started_stale c.edt ms acquiring) in
+    sym (core_stale m (identity_of past t) later (with_plan ms (edt_calls s past t)) (loans_of s (Start t ∷ past) t) one.0 calls) ∙ (ap (λ (x : Part). work_stale (work_of x)) after ∙ started_stale c.edt ms acquiring) in
     let slots_are : slots_now s past t ≡ filled slots (payloads_of s past t) = full.slots_are ∙ ap (filled slots) (sym full.payloads_are) in
     let first : first_holds s (Start t ∷ past) t ≡ holds_on (parts_of s (Start t ∷ past)) t = rw (number_same t) refl in
     let each : (d : ℕ) → holds_on (parts_of s (Start t ∷ past)) t d ≡ holds_by c d = λ d.

@@ -1,10 +1,10 @@
 -- A call of a running EDT, on the parts at hand.
-use Rattle.std.proofs.Common.{◌≡◌, ℕ, ◌≤◌, true, false, List, [], reverse, None, refl, sym, ◌∙◌, ap, subst}
-use Rattle.std.proofs.lemmas.List.{reverse-reverse}
+use Rattle.std.proofs.Common.{◌≡◌, ℕ, ◌≤◌, Bool, true, false, ◌==◌, ◌&&◌, List, [], ◌∷◌, reverse, None, refl, sym, ◌∙◌, ap, subst, arith}
 use Rattle.ocr_guid.specs.Code.{number_of}
 use Rattle.ocr_meaning.specs.Behaviour.{Asks, Behaviour, Ends, IsNextWith, Stops}
 use Rattle.ocr_meaning.specs.Call.{is_access, is_creation}
-use Rattle.ocr_meaning.specs.Laws.{IsBuilt, MakesOnly}
+use Rattle.ocr_meaning.specs.Holds.{is_done}
+use Rattle.ocr_meaning.specs.Laws.{IsServed, MakesOnly}
 use Rattle.ocr_meaning.specs.declared.call.Answer.{Answer}
 use Rattle.ocr_meaning.specs.declared.call.Call as body
 use Rattle.ocr_meaning.specs.declared.call.Call.TheVariants as call
@@ -17,64 +17,59 @@ use Rattle.ocr_parts.specs.declared.part.Part.TheVariants as part
 use Rattle.ocr_parts.specs.Codes.{code_of}
 use Rattle.ocr_parts.specs.Footprint.{Covers}
 use Rattle.ocr_parts.specs.Kinds.{is_running}
-use Rattle.ocr_parts.specs.LegalOn.{IsLegalOn, IsNamed}
+use Rattle.ocr_finish.specs.declared.TheConstants.{MOST_MEMBERS}
+use Rattle.ocr_parts.specs.LegalOn.{HasOutput, IsBeside, IsFresh, IsHome, IsLegalOn, IsNamed, IsScoped, last_of}
 use Rattle.ocr_parts.specs.Parts.{parts_of}
 use Rattle.ocr_parts.specs.Taken.{face_in}
 use Rattle.ocr_parts.proofs.Local.{code_law}
-use Rattle.ocr_legality.specs.Tests.{AnswersSo}
+use Rattle.ocr_legality.specs.Tests.{AnswersSo, IsCallSo}
 use Rattle.ocr_legality.proofs.Calls.{call_on}
 use Rattle.ocr_standing.specs.Kept.{kept_ready}
 use Rattle.ocr_turns.specs.Owing.{times}
-use Rattle.ocr_turns.specs.Rule.{Fits, IsUnmade}
-use Rattle.ocr_turns.specs.Sums.{made_sum, one_at}
+use Rattle.ocr_turns.specs.Rule.{Fits}
+use Rattle.ocr_turns.proofs.Totals.{one_here}
 use Rattle.ocr_facts.specs.Clerks.{AreAtHand, OcrTerms, OcrView, of_terms}
-use Rattle.ocr_facts.specs.Ocr.{meaning}
-use Rattle.ocr_facts.specs.Ocr as ocr
-use Rattle.ocr_running.specs.Calls.{IsAnswer, IsCoded}
+use Rattle.ocr_facts.specs.Ocr.{beside, meaning}
+use Rattle.ocr_facts.proofs.Homes.{drawn_free, drawn_fresh, knows_home}
+use Rattle.ocr_running.specs.Calls.{IsAnswer, IsCoded, IsNextTo, drawn_for, home_for, makes_output, makes_scope}
 use Rattle.ocr_running.proofs.Parts.{hand_alike, is_run, legal_on_hand}
-use Rattle.ocr_running.proofs.Unmade.{unmade}
 
 -- A BODY of a program that may be run makes, besides loads and stores, only calls of the kinds that
 -- there are
-pub built_coded : (c : body.Call) → IsBuilt c → is_access c ≡ false → IsCoded c
-built_coded (call.EdtCreate from pc ps dc ds fl output) built plain = built
-built_coded (call.Load d k) built plain = cc plain
-built_coded (call.Store d k v) built plain = cc plain
-built_coded call.Shutdown built plain = absurd built
-built_coded (call.Abort c) built plain = absurd built
-built_coded other built plain = tt
+pub served_coded : (functions : ℕ) (c : body.Call) → IsServed functions c → is_access c ≡ false → IsCoded c
+served_coded functions (call.Load d k) served plain = cc plain
+served_coded functions (call.Store d k v) served plain = cc plain
+served_coded functions call.Shutdown served plain = absurd served
+served_coded functions (call.Abort c) served plain = absurd served
+served_coded functions other served plain = tt
 
 pub next_of : (IsSuch : body.Call → Type 0) (b : Behaviour) (c : body.Call) (private : List (ℕ × ℕ)) → MakesOnly IsSuch b → IsNextWith c private b → IsSuch c
 next_of IsSuch (Ends g holds) c private only next = absurd next
 next_of IsSuch (Stops why) c private only next = absurd next
 next_of IsSuch (Asks call writes go) c private only next = subst IsSuch next.0 only.0
 
--- A DRAWN NUMBER names nothing
-pub drawn_free : (t : OcrTerms) (v : OcrView) (J : List Entry) (n : ℕ) → Fits meaning t J v → 1 ≤ times n v.drawn → made (of_terms t) (reverse J) n ≡ None
-drawn_free t v J n fits drew =
-    let free = fits.unmade n drew in
-    unmade (of_terms t) (reverse J) n free.unopened (ap (made_sum ocr.makes (one_at n)) (reverse-reverse J) ∙ free.unmade)
-
-no_face : (t : OcrTerms) (past : History) (n : ℕ) → made (of_terms t) past n ≡ None → (parts_of (of_terms t) past).face n ≡ part.Vacant
-no_face t past n none = rw none refl
-
 no_core : (t : OcrTerms) (past : History) (n : ℕ) → made (of_terms t) past n ≡ None → (parts_of (of_terms t) past).core n ≡ part.Vacant
 no_core t past n none = rw none refl
 
 -- THE CODE that was found on the faces at hand is that of the history
-pub code_in : (t : OcrTerms) (v : OcrView) (J : List Entry) (hand : List (ℕ × Part)) (edt : ℕ) (c : body.Call) (a : Answer) (w : List (ℕ × ℕ)) → Fits meaning t J v → AreAtHand t.limit hand v.parts → Covers t.limit (Call edt 0 c a w) hand
+pub code_in : (t : OcrTerms) (v : OcrView) (J : List Entry) (hand : List (ℕ × Part)) (edt home : ℕ) (c : body.Call) (a : Answer) (w : List (ℕ × ℕ)) → Fits meaning t J v → AreAtHand t.limit hand v.parts → Covers t.limit (Call edt home c a w) hand
     → code_of edt (face_in t.limit hand) c ≡ code_of edt (parts_of (of_terms t) (reverse J)).face c
-code_in t v J hand edt c a w fits at_hand covers =
-    code_law edt 0 c a w (face_in t.limit hand) (parts_of (of_terms t) (reverse J)).face (λ g on. sym ((hand_alike t v J fits hand (Call edt 0 c a w) at_hand covers).faces g on))
+code_in t v J hand edt home c a w fits at_hand covers =
+    code_law edt home c a w (face_in t.limit hand) (parts_of (of_terms t) (reverse J)).face (λ g on. sym ((hand_alike t v J fits hand (Call edt home c a w) at_hand covers).faces g on))
 
 -- THE ANSWER
+pub drawn_value : (v : OcrView) (c : body.Call) (a : Answer) → v.drawn ≡ drawn_for c a → is_creation c ≡ true → is_done a.code ≡ true → 1 ≤ times a.value v.drawn
+drawn_value v c a drew creates done =
+    let is : drawn_for c a ≡ a.value ∷ beside c a = rw (creates, done) refl in
+    subst (λ (ns : List ℕ). 1 ≤ times a.value ns) (sym (drew ∙ is)) (let one = one_here a.value in omega (arith, one))
+
 module _ (t : OcrTerms) (v : OcrView) (J : List Entry) (fits : Fits meaning t J v) where
+  fresh : (n : ℕ) → 1 ≤ times n v.drawn → IsFresh t.limit (parts_of (of_terms t) (reverse J)) n
+  fresh n drew = drawn_fresh t v J n fits drew
+
   named : (c : body.Call) (a : Answer) → is_creation c ≡ true → IsAnswer v c a → IsNamed t.limit (parts_of (of_terms t) (reverse J)) a
   named c a creates answer = record {
-    fresh = λ done.
-        let drew = answer.new creates done in
-        let free : IsUnmade meaning t J a.value = fits.unmade a.value drew in
-        record { some = free.least; within = free.most; vacant = no_face t (reverse J) a.value (drawn_free t v J a.value fits drew) };
+    fresh = λ done. fresh a.value (drawn_value v c a answer.drawn creates done);
     refused = λ off. answer.refused creates off;
   }
 
@@ -84,8 +79,7 @@ module _ (t : OcrTerms) (v : OcrView) (J : List Entry) (fits : Fits meaning t J 
   answers edt (call.DbCreate n fl) a coded is answer = named (call.DbCreate n fl) a refl answer
   answers edt (call.EdtCreate from pc ps dc ds fl output) a coded is answer = record {
     named = named (call.EdtCreate from pc ps dc ds fl output) a refl answer;
-    no_core = λ done. no_core t (reverse J) a.value (drawn_free t v J a.value fits (answer.new refl done));
-    no_output = coded;
+    no_core = λ done. no_core t (reverse J) a.value (drawn_free t v J a.value fits (drawn_value v (call.EdtCreate from pc ps dc ds fl output) a answer.drawn refl done));
   }
   answers edt (call.DbRelease d) a coded is answer = answer.number refl
   answers edt (call.DbDestroy d) a coded is answer = answer.number refl
@@ -97,10 +91,37 @@ module _ (t : OcrTerms) (v : OcrView) (J : List Entry) (fits : Fits meaning t J 
   answers edt (call.Satisfy e p slot) a coded is answer = answer.number refl
   answers edt other a coded is answer = absurd coded
 
+  -- THE SCOPE and the output event of an EDT that is made
+  next_to : (b : Bool) (other n : ℕ) → IsNextTo b v other n → IsBeside b t.limit (parts_of (of_terms t) (reverse J)) other n
+  next_to true other n is = (fresh n is.0, is.1)
+  next_to false other n is = is
+
+  pub scoped : (c : body.Call) (a : Answer) → IsNextTo (is_done a.code && makes_scope c) v a.value a.scope → IsScoped t.limit (parts_of (of_terms t) (reverse J)) c a
+  scoped (call.EdtCreate from pc ps dc ds fl output) a is = next_to (is_done a.code && (fl == 1)) a.value a.scope is
+  scoped other a is = none_wanted (is_done a.code) is
+    where
+      none_wanted : (b : Bool) → IsNextTo (b && false) v a.value a.scope → a.scope ≡ 0
+      none_wanted true is = is
+      none_wanted false is = is
+
+  pub has_output : (c : body.Call) (a : Answer) → IsNextTo (is_done a.code && makes_output c) v (last_of a) a.output → HasOutput t.limit (parts_of (of_terms t) (reverse J)) c a
+  has_output (call.EdtCreate from pc ps dc ds fl output) a is = next_to (is_done a.code && output) (last_of a) a.output is
+  has_output other a is = none_wanted (is_done a.code) is
+    where
+      none_wanted : (b : Bool) → IsNextTo (b && false) v (last_of a) a.output → a.output ≡ 0
+      none_wanted true is = is
+      none_wanted false is = is
+
+  -- THE HOME of the running EDT, which takes one member more
+  pub at_home : (edt : ℕ) (c : body.Call) (a : Answer) → t.limit ≤ MOST_MEMBERS → is_running ((parts_of (of_terms t) (reverse J)).core edt) ≡ true → (is_creation c ≡ true → is_done a.code ≡ true → 1 ≤ times a.value v.drawn)
+      → IsHome (parts_of (of_terms t) (reverse J)) edt (home_for c ((parts_of (of_terms t) (reverse J)).core edt)) c a
+  at_home edt (call.EdtCreate from pc ps dc ds fl output) a most running drew = knows_home t v J edt a.value (is_done a.code) fits most running (drew refl)
+  at_home edt other a most running drew = refl
+
   -- LEGAL on the parts at hand
-  pub call_legal : (hand : List (ℕ × Part)) (edt : ℕ) (c : body.Call) (a : Answer) (w : List (ℕ × ℕ)) → AreAtHand t.limit hand v.parts → Covers t.limit (Call edt 0 c a w) hand
-      → is_running ((parts_of (of_terms t) (reverse J)).core edt) ≡ true → a.code ≡ code_of edt (parts_of (of_terms t) (reverse J)).face c → AnswersSo t.limit (parts_of (of_terms t) (reverse J)) edt c a → a.scope ≡ 0 → a.output ≡ 0
-      → IsLegalOn t.limit (kept_ready t.limit [] (Call edt 0 c a w) hand) (Call edt 0 c a w)
-  call_legal hand edt c a w at_hand covers running is so no_scope no_output =
-      legal_on_hand t v J fits hand (Call edt 0 c a w) [] at_hand covers (λ never. absurd never)
-      (call_on (of_terms t) (reverse J) edt 0 c a w (is_run t v J fits) (record { running = running; code = is; value = so; no_scope = no_scope; no_output = no_output; no_home = refl }))
+  pub call_legal : (hand : List (ℕ × Part)) (edt home : ℕ) (c : body.Call) (a : Answer) (w : List (ℕ × ℕ)) → AreAtHand t.limit hand v.parts → Covers t.limit (Call edt home c a w) hand
+      → IsCallSo t.limit (parts_of (of_terms t) (reverse J)) edt home c a
+      → IsLegalOn t.limit (kept_ready t.limit [] (Call edt home c a w) hand) (Call edt home c a w)
+  call_legal hand edt home c a w at_hand covers so =
+      legal_on_hand t v J fits hand (Call edt home c a w) [] at_hand covers (λ never. absurd never)
+      (call_on (of_terms t) (reverse J) edt home c a w (is_run t v J fits) so)

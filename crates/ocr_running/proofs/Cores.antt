@@ -12,7 +12,7 @@ use Rattle.ocr_parts.specs.declared.part.Core.{Core}
 use Rattle.ocr_parts.specs.declared.part.Part.{Part}
 use Rattle.ocr_parts.specs.declared.part.Part.TheVariants as part
 use Rattle.ocr_parts.specs.Bodies.{holds_on}
-use Rattle.ocr_parts.specs.Effects.{called, changed, creating_core, dropped_edt, dropping_core, holding_core, holding_edt}
+use Rattle.ocr_parts.specs.Effects.{called, changed, creating_core, dropped_edt, dropping_core, holding_core, holding_edt, joined}
 use Rattle.ocr_parts.specs.Kinds.{is_running, on_core, work_in}
 use Rattle.ocr_parts.specs.LegalOn.{IsCallOn}
 use Rattle.ocr_parts.specs.Parts.{Parts}
@@ -51,13 +51,16 @@ done_or : (b : Bool) (f g : Parts) (t : ℕ) → is_running (f.core t) ≡ true 
 done_or true f g t was now = now refl
 done_or false f g t was now = was
 
+called_runs : (limit : ℕ) (f : Parts) (t home : ℕ) (c : body.Call) (a : Answer) (w : List (ℕ × ℕ)) → IsCallOn limit f t home c a w → is_done a.code ≡ true → is_running ((called t c a w f).core t) ≡ true
+called_runs limit f t home (call.DbCreate n fl) a w legal done = rw (number_same t) (creating_runs (f.core t) fl a.value (n / 8) legal.running)
+called_runs limit f t home (call.DbRelease d) a w legal done = rw (number_same t) (dropping_runs (f.core t) d legal.running)
+called_runs limit f t home (call.DbDestroy d) a w legal done = rw (number_same t) (dropping_runs (f.core t) d legal.running)
+called_runs limit f t home (call.EdtCreate from pc ps dc ds fl o) a w legal done = ap is_running (deps_core a.value 0 ds _ t) ∙ rw (apart f a.value t (legal.value.no_core done) legal.running) legal.running
+called_runs limit f t home (call.AddDependence from x i m) a w legal done = ap is_running (linked_core (not (from == 0)) from _ _ t) ∙ legal.running
+called_runs limit f t home other a w legal done = legal.running
+
 pub call_runs : (limit : ℕ) (f : Parts) (t home : ℕ) (c : body.Call) (a : Answer) (w : List (ℕ × ℕ)) → IsCallOn limit f t home c a w → is_running ((changed (Call t home c a w) f).core t) ≡ true
-call_runs limit f t home (call.DbCreate n fl) a w legal = done_or (is_done a.code) f (called t (call.DbCreate n fl) a w f) t legal.running (λ _. rw (number_same t) (creating_runs (f.core t) fl a.value (n / 8) legal.running))
-call_runs limit f t home (call.DbRelease d) a w legal = done_or (is_done a.code) f (called t (call.DbRelease d) a w f) t legal.running (λ _. rw (number_same t) (dropping_runs (f.core t) d legal.running))
-call_runs limit f t home (call.DbDestroy d) a w legal = done_or (is_done a.code) f (called t (call.DbDestroy d) a w f) t legal.running (λ _. rw (number_same t) (dropping_runs (f.core t) d legal.running))
-call_runs limit f t home (call.EdtCreate from pc ps dc ds fl o) a w legal = done_or (is_done a.code) f (called t (call.EdtCreate from pc ps dc ds fl o) a w f) t legal.running (λ done. ap is_running (deps_core a.value 0 ds _ t) ∙ rw (apart f a.value t (legal.value.no_core done) legal.running) legal.running)
-call_runs limit f t home (call.AddDependence from x i m) a w legal = done_or (is_done a.code) f (called t (call.AddDependence from x i m) a w f) t legal.running (λ _. ap is_running (linked_core (not (from == 0)) from _ _ t) ∙ legal.running)
-call_runs limit f t home other a w legal = done_or (is_done a.code) f (called t other a w f) t legal.running (λ _. legal.running)
+call_runs limit f t home c a w legal = done_or (is_done a.code) f (joined c home (called t c a w f)) t legal.running (λ done. called_runs limit f t home c a w legal done)
 
 pub free_runs : (f : Parts) (t d : ℕ) (w : List (ℕ × ℕ)) → is_running (f.core t) ≡ true → is_running ((changed (Free t d w) f).core t) ≡ true
 free_runs f t d w running = rw (number_same t) (dropping_runs (f.core t) d running)

@@ -1,9 +1,8 @@
 -- What the entry of a call leaves.
 use Rattle.std.specs.Prelude.{IfOk, OnOk}
-use Rattle.std.proofs.Common.{◌≡◌, ℕ, ◌+◌, Bool, true, false, ◌&&◌, if◌then◌else◌, List, [], ◌∷◌, ◌++◌, Option, Result, Ok, Err, refl, ap, sym, ◌∙◌, subst}
+use Rattle.std.proofs.Common.{◌≡◌, ℕ, ◌+◌, true, List, [], ◌∷◌, ◌++◌, Option, Result, Ok, Err, refl, ap, sym, ◌∙◌, subst}
 use Rattle.ocr_meaning.specs.Body.{Body}
-use Rattle.ocr_meaning.specs.Call.{is_creation}
-use Rattle.ocr_meaning.specs.Holds.{after_call, is_done}
+use Rattle.ocr_meaning.specs.Holds.{after_call}
 use Rattle.ocr_meaning.specs.declared.call.Answer.{Answer}
 use Rattle.ocr_meaning.specs.declared.call.Call as body
 use Rattle.ocr_history.specs.declared.entry.Entry.{Entry}
@@ -26,22 +25,22 @@ use Rattle.ocr_clerks.specs.Work.{EntersAs, EntersKept, OcrTable, RunsOnly}
 use Rattle.ocr_clerks.proofs.Entries.{turns_keys}
 use Rattle.ocr_clerks.proofs.Hands.{lifted_keys, some_keys}
 use Rattle.ocr_clerks.proofs.Whole.{entered_whole}
-use Rattle.ocr_running.specs.Calls.{faces_of}
-use Rattle.ocr_running.specs.Running.{HasEntered, HasLifted, IsCalled, Runs, drawn_for, first_in, places_made}
+use Rattle.ocr_running.specs.Calls.{drawn_for, faces_of}
+use Rattle.ocr_running.specs.Running.{HasEntered, HasLifted, IsCalled, Runs, first_in, places_made}
 use Rattle.ocr_running.specs.Serving.{holds_in, own_log}
 use Rattle.ocr_running.proofs.Cores.{HasCoreFirst, call_holds, call_runs, core_first, first_core}
 use Rattle.ocr_running.proofs.Logs.{claims_stay, own_call, runs_back, serves_on}
 
--- a number that was drawn and is made
-less_same : (b : Bool) (n : ℕ) → less_all (if b then n ∷ [] else []) (if b then n ∷ [] else []) ≡ []
-less_same true n = rw (number_same n) refl
-less_same false n = refl
+-- numbers that were drawn and are made
+less_same : (ns : List ℕ) → less_all ns ns ≡ []
+less_same [] = refl
+less_same (n ∷ ns) = rw (number_same n) (less_same ns)
 
-module _ (table : OcrTable) (edt : ℕ) (b : Body) (first old new : OcrKnown) (c : body.Call) (a : Answer) (w : List (ℕ × ℕ)) (ps : List (ℕ × Part)) (runs : Runs table.1 edt b first)
-    (lift : HasLifted table.1 edt first old (faces_of table.1.limit c ++ places_made table.1.limit c a) (drawn_for c a) ps) (can : CanMake table.1 old.view (Call edt 0 c a w) (record { members = []; parts = ps }) ps)
-    (done : EntersAs table.1 old new (Call edt 0 c a w) (record { members = []; parts = ps })) where
+module _ (table : OcrTable) (edt : ℕ) (b : Body) (first old new : OcrKnown) (home : ℕ) (c : body.Call) (a : Answer) (w : List (ℕ × ℕ)) (ps : List (ℕ × Part)) (runs : Runs table.1 edt b first)
+    (lift : HasLifted table.1 edt first old (faces_of table.1.limit home c ++ places_made table.1.limit c a) (drawn_for c a) ps) (can : CanMake table.1 old.view (Call edt home c a w) (record { members = []; parts = ps }) ps)
+    (done : EntersAs table.1 old new (Call edt home c a w) (record { members = []; parts = ps })) where
   abbrev entry : Entry
-  entry = Call edt 0 c a w
+  entry = Call edt home c a w
 
   abbrev core_part : ℕ × Part
   core_part = (table.1.limit + edt, part.Core lift.core)
@@ -55,14 +54,14 @@ module _ (table : OcrTable) (edt : ℕ) (b : Body) (first old new : OcrKnown) (c
   listed_view : keys old.view.parts ≡ keys ps
   listed_view = ap (λ (v : OcrView). keys v.parts) lift.view ∙ sym (ap keys lift.parts)
 
-  whole : EntersKept table.1 old new (Call edt 0 c a w) (record { members = []; parts = ps })
-  whole = entered_whole table.1 old new (Call edt 0 c a w) (record { members = []; parts = ps }) listed_hand listed_view can.may.at_hand.once done
+  whole : EntersKept table.1 old new (Call edt home c a w) (record { members = []; parts = ps })
+  whole = entered_whole table.1 old new (Call edt home c a w) (record { members = []; parts = ps }) listed_hand listed_view can.may.at_hand.once done
 
-  legal : IsCallOn table.1.limit (parts_in table.1.limit ps) edt 0 c a w
+  legal : IsCallOn table.1.limit (parts_in table.1.limit ps) edt home c a w
   legal = can.may.on_hand
 
   running_later : is_running ((parts_in table.1.limit whole.later).core edt) ≡ true
-  running_later = ap (λ (f : Parts). is_running (f.core edt)) whole.step.parts ∙ call_runs table.1.limit (parts_in table.1.limit ps) edt 0 c a w legal
+  running_later = ap (λ (f : Parts). is_running (f.core edt)) whole.step.parts ∙ call_runs table.1.limit (parts_in table.1.limit ps) edt home c a w legal
 
   after : HasCoreFirst (table.1.limit + edt) lift.taken whole.later
   after = core_first table.1.limit edt lift.core lift.taken whole.later within (whole.step.same_keys ∙ ap taken.keys lift.parts) running_later
@@ -76,10 +75,10 @@ module _ (table : OcrTable) (edt : ℕ) (b : Body) (first old new : OcrKnown) (c
   only_one : RunsOnly new.view edt
   only_one u on = runs.taken.only u (runs_back first.view.log whole.number u entry refl (subst (λ (l : List (ℕ × Entry)). RunsIn starts ends l u) log_is on))
 
-  pub call_leaves : HasEntered table.1 edt b new (faces_of table.1.limit c ++ places_made table.1.limit c a) (listed (counts table.1.limit entry old.view.parts)) (wakes table.1.limit entry old.view.parts)
+  pub call_leaves : HasEntered table.1 edt b new (faces_of table.1.limit home c ++ places_made table.1.limit c a) (listed (counts table.1.limit entry old.view.parts)) (wakes table.1.limit entry old.view.parts)
   call_leaves = record {
     claims = ap (λ (v : OcrView). v.claims) whole.view ∙ (claims_stay entry old.view.claims (λ n. refl) ∙ (ap (λ (v : OcrView). v.claims) lift.view ∙ runs.taken.claims));
-    drawn = ap (λ (v : OcrView). v.drawn) whole.view ∙ (ap (λ (v : OcrView). less_all (makes entry) v.drawn) lift.view ∙ less_same (is_creation c && is_done a.code) a.value);
+    drawn = ap (λ (v : OcrView). v.drawn) whole.view ∙ (ap (λ (v : OcrView). less_all (makes entry) v.drawn) lift.view ∙ less_same (drawn_for c a));
     only = only_one;
     unput = ap (λ (v : OcrView). v.debts.unput) whole.view ∙ (ap (λ (v : OcrView). v.debts.unput ++ []) lift.view ∙ ap (λ (l : List (ℕ × ℕ × ℕ)). l ++ []) runs.taken.owes.unput);
     put = ap (λ (v : OcrView). v.debts.put) whole.view ∙ (ap (λ (v : OcrView). v.debts.put ++ []) lift.view ∙ ap (λ (l : List (ℕ × ℕ × ℕ)). l ++ []) runs.taken.owes.put);
@@ -103,10 +102,10 @@ module _ (table : OcrTable) (edt : ℕ) (b : Body) (first old new : OcrKnown) (c
 
   pub call_done : IsCalled edt c a first new
   call_done = record {
-    log = ap (λ (l : List (ℕ × Entry)). own_log l edt) log_is ∙ own_call first.view.log whole.number edt 0 c a w;
+    log = ap (λ (l : List (ℕ × Entry)). own_log l edt) log_is ∙ own_call first.view.log whole.number edt home c a w;
     holds =
         ap (λ (l : List (ℕ × Option Part)). holds_in (first_in l)) (whole.hand ∙ ap as_some after.is)
-        ∙ (call_holds table.1.limit (parts_in table.1.limit ps) (parts_in table.1.limit whole.later) edt 0 c a w lift.core after.core legal whole.step.parts core_was core_now
+        ∙ (call_holds table.1.limit (parts_in table.1.limit ps) (parts_in table.1.limit whole.later) edt home c a w lift.core after.core legal whole.step.parts core_was core_now
         ∙ ap (λ (l : List (ℕ × Option Part)). after_call c a (holds_in (first_in l))) (sym lift.was));
   }
 

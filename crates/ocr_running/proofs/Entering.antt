@@ -51,9 +51,9 @@ no_facts P k f at = absurd (some-ne-none f (sym at))
 
 module _ (t : OcrTerms) (v : OcrView) (edt : ℕ) (b : Body) (hand : List (ℕ × Part)) (runnable : IsRunnable (checked_tree t.setting.value.program)) (serves : Serves t v edt b) (at_hand : AreAtHand t.limit hand v.parts) where
   -- A CALL that is legal on the parts at hand and comes next
-  pub call_may : (c : body.Call) (a : Answer) (private w : List (ℕ × ℕ)) → Covers t.limit (Call edt 0 c a w) hand → IsLegalOn t.limit (kept_ready t.limit [] (Call edt 0 c a w) hand) (Call edt 0 c a w) → IsNextWith c private (says b (own_log v.log edt)) → w ≡ carried (is_done a.code) private
-      → MayEnter t v (Call edt 0 c a w) [] hand
-  call_may c a private w covers legal next is = record {
+  pub call_may : (home : ℕ) (c : body.Call) (a : Answer) (private w : List (ℕ × ℕ)) → Covers t.limit (Call edt home c a w) hand → IsLegalOn t.limit (kept_ready t.limit [] (Call edt home c a w) hand) (Call edt home c a w) → IsNextWith c private (says b (own_log v.log edt)) → w ≡ carried (is_done a.code) private
+      → MayEnter t v (Call edt home c a w) [] hand
+  call_may home c a private w covers legal next is = record {
     runnable = runnable;
     at_hand = at_hand;
     covers = covers;

@@ -7,6 +7,7 @@ pub mod Called
 pub mod Calls
 pub mod Coded
 pub mod Cores
+pub mod Drawn
 pub mod Ended
 pub mod Entered
 pub mod Entering
@@ -26,4 +27,3 @@ pub mod Starting
 pub mod Stops
 pub mod Stored
 pub mod Taken
-pub mod Unmade

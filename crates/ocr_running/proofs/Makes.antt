@@ -6,6 +6,7 @@ use Rattle.ocr_base.specs.declared.limits.TheConstants.{MOST_PARAMETERS, MOST_DE
 use Rattle.ocr_code.specs.Checked.{checked_tree}
 use Rattle.ocr_code.specs.declared.checked.Checked.{Checked}
 use Rattle.ocr_edt.specs.declared.Edt.{Edt}
+use Rattle.ocr_edt.specs.Edt.{identity_of}
 use Rattle.ocr_guid.specs.declared.Code.TheVariants as code
 use Rattle.ocr_template.specs.declared.Template.{Template}
 use Rattle.ocr_template.specs.Template.{count_meant, counts_of, is_refused}
@@ -26,7 +27,7 @@ use Rattle.ocr_parts.specs.declared.part.Part.TheVariants as part
 use Rattle.ocr_parts.specs.Codes.{ABlock, Sort, Source, code_of, counted_code, creation_code, wanted, wanted_payload, wanted_source, wanted_sources}
 use Rattle.ocr_parts.specs.Calls.{is_object}
 use Rattle.ocr_parts.specs.Effects.{settled_core}
-use Rattle.ocr_parts.specs.Footprint.{Covers}
+use Rattle.ocr_parts.specs.Footprint.{Covers, makes_core}
 use Rattle.ocr_parts.specs.Kinds.{work_in}
 use Rattle.ocr_parts.specs.Taken.{as_face, face_in, has, is_within, look}
 use Rattle.ocr_parts.proofs.After.{accepted, done_is}
@@ -36,8 +37,9 @@ use Rattle.ocr_facts.specs.Clerks.{OcrTerms, OcrView}
 use Rattle.ocr_facts.specs.Ocr.{counts, slots_meant}
 use Rattle.ocr_clerks.specs.Entering.{OcrKnown}
 use Rattle.ocr_clerks.specs.Work.{AtWork, OcrTable}
+use Rattle.ocr_running.specs.Calls.{home_for}
 use Rattle.ocr_running.specs.Making.{HasListed, HasMore, IsLet, LetsMake}
-use Rattle.ocr_running.specs.Running.{HasLifted, IsCalled, IsCoreOf, Runs, first_in, holds_at}
+use Rattle.ocr_running.specs.Running.{HasLifted, IsCalled, IsCoreOf, Runs, first_in, holds_at, home_at}
 use Rattle.ocr_running.specs.Serving.{holds_in, own_log}
 use Rattle.ocr_running.proofs.Asked.{blank}
 use Rattle.ocr_running.proofs.Called.{runnable_in}
@@ -93,10 +95,10 @@ face_more limit g ps more there = elim (is_within limit g) as (λ b. is_within l
 ] refl
 
 -- its code is the same
-pub code_more : (limit edt : ℕ) (c : body.Call) (ps now : List (ℕ × Part)) → Covers limit (Call edt 0 c blank []) ps → HasMore ps now → code_of edt (face_in limit now) c ≡ code_of edt (face_in limit ps) c
-code_more limit edt c ps now covers more =
+pub code_more : (limit edt home : ℕ) (c : body.Call) (ps now : List (ℕ × Part)) → Covers limit (Call edt home c blank []) ps → HasMore ps now → code_of edt (face_in limit now) c ≡ code_of edt (face_in limit ps) c
+code_more limit edt home c ps now covers more =
     ap (λ (l : List (ℕ × Part)). code_of edt (face_in limit l) c) more.1
-    ∙ code_law edt 0 c blank [] (face_in limit (ps ++ more.0)) (face_in limit ps) (λ g on. face_more limit g ps more.0 (λ within. covers g (rw within on)))
+    ∙ code_law edt home c blank [] (face_in limit (ps ++ more.0)) (face_in limit ps) (λ g on. face_more limit g ps more.0 (λ within. covers g (rw within on)))
 
 -- THE WRITES are listed in the core at hand
 abbrev head_of : List (ℕ × Part) → ℕ × Part
@@ -125,16 +127,16 @@ slots_first n from dc x y rest = elim (n == from) as (λ b. slots_meant (if b th
   | false ↦ refl
 ]
 
-counts_first : (limit n edt : ℕ) (c : body.Call) (a : Answer) (v w : List (ℕ × ℕ)) (x y : Core) (rest : List (ℕ × Part)) → counts limit (Call edt 0 c a v) ((n, part.Core x) ∷ rest) ≡ counts limit (Call edt 0 c a w) ((n, part.Core y) ∷ rest)
-counts_first limit n edt (call.EdtCreate from pc ps dc ds fl o) a v w x y rest = ap (λ (s : ℕ). if is_done a.code then Some (a.value, s) else None) (slots_first n from dc x y rest)
-counts_first limit n edt other a v w x y rest = refl
+counts_first : (limit n edt home : ℕ) (c : body.Call) (a : Answer) (v w : List (ℕ × ℕ)) (x y : Core) (rest : List (ℕ × Part)) → counts limit (Call edt 0 c a v) ((n, part.Core x) ∷ rest) ≡ counts limit (Call edt home c a w) ((n, part.Core y) ∷ rest)
+counts_first limit n edt home (call.EdtCreate from pc ps dc ds fl o) a v w x y rest = ap (λ (s : ℕ). if is_done a.code then Some (a.value, s) else None) (slots_first n from dc x y rest)
+counts_first limit n edt home other a v w x y rest = refl
 
 module _ (t : OcrTerms) (edt : ℕ) (b : Body) (old new : OcrKnown) (places drawn : List ℕ) (ps : List (ℕ × Part)) (runs : Runs t edt b old) (lift : HasLifted t edt old new places drawn ps) where
   -- the EDT that it makes, told by the parts at hand
-  pub counts_kept : (c : body.Call) (a : Answer) (w : List (ℕ × ℕ)) → counts t.limit (Call edt 0 c a []) ps ≡ counts t.limit (Call edt 0 c a w) new.view.parts
-  counts_kept c a w =
+  pub counts_kept : (home : ℕ) (c : body.Call) (a : Answer) (w : List (ℕ × ℕ)) → counts t.limit (Call edt 0 c a []) ps ≡ counts t.limit (Call edt home c a w) new.view.parts
+  counts_kept home c a w =
       ap (counts t.limit (Call edt 0 c a [])) lift.parts
-      ∙ (counts_first t.limit (t.limit + edt) edt c a [] w lift.core lift.kept lift.taken ∙ sym (ap (λ (v : OcrView). counts t.limit (Call edt 0 c a w) v.parts) lift.view))
+      ∙ (counts_first t.limit (t.limit + edt) edt home c a [] w lift.core lift.kept lift.taken ∙ sym (ap (λ (v : OcrView). counts t.limit (Call edt home c a w) v.parts) lift.view))
 
   pub holds_first : holds_in (first_in (as_some ps)) ≡ holds_at old
   holds_first = ap (λ (l : List (ℕ × Part)). holds_in (first_in (as_some l))) lift.parts ∙ sym (ap (λ (l : List (ℕ × Option Part)). holds_in (first_in l)) lift.was)
@@ -192,6 +194,13 @@ module _ (t : OcrTerms) (edt : ℕ) (b : Body) (old new : OcrKnown) (places draw
       parts = now_is;
       sees = lift.sees;
     }
+
+    -- its home
+    pub home_listed : (c : body.Call) → home_at (with_first old now) c ≡ home_at old c
+    home_listed c =
+        ap (λ (l : List (ℕ × Option Part)). home_for c (first_in l)) hand_now
+        ∙ (ap (λ (e : Edt). if makes_core c then (identity_of e).scope else 0) (lists.edt ∙ ap (λ (x : Core). x.edt) core_is)
+        ∙ sym (ap (λ (l : List (ℕ × Option Part)). home_for c (first_in l)) lift.was))
 
     -- what the EDT holds, and the call's code, are the same
     pub holds_same : holds_at (with_first old now) ≡ holds_at old

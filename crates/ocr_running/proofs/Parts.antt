@@ -1,6 +1,5 @@
 -- The parts at hand of a clerk that runs an EDT, by the history that it saw last.
-use Rattle.std.proofs.Common.{◌≡◌, ℕ, ◌+◌, ◌-◌, true, false, List, reverse, refl, sym, ◌∙◌, ap, arith}
-use Rattle.std.proofs.lemmas.Grind.{common_steps}
+use Rattle.std.proofs.Common.{◌≡◌, ℕ, ◌+◌, true, List, reverse, refl, sym, ◌∙◌, ap}
 use Rattle.ocr_history.specs.declared.entry.Entry.{Entry}
 use Rattle.ocr_parts.specs.declared.part.Core.{Core}
 use Rattle.ocr_parts.specs.declared.part.Part.{Part}
@@ -10,8 +9,8 @@ use Rattle.ocr_parts.specs.Footprint.{Covers, IsAlike}
 use Rattle.ocr_parts.specs.Kinds.{is_running}
 use Rattle.ocr_parts.specs.Legal.{IsOnParts, IsRun}
 use Rattle.ocr_parts.specs.LegalOn.{IsLegalOn}
-use Rattle.ocr_parts.specs.Parts.{Parts, parts_of}
-use Rattle.ocr_parts.specs.Taken.{ArePartsOf, has, is_within, look, parts_in, place_of, seen}
+use Rattle.ocr_parts.specs.Parts.{parts_of}
+use Rattle.ocr_parts.specs.Taken.{ArePartsOf, has, is_within, look, parts_in, seen}
 use Rattle.ocr_parts.proofs.Within.{within_law}
 use Rattle.ocr_acquire.specs.declared.Mode.{Mode}
 use Rattle.ocr_standing.specs.Kept.{IsPlanFor, kept_ready}
@@ -20,6 +19,7 @@ use Rattle.ocr_turns.specs.Rule.{Fits}
 use Rattle.ocr_facts.specs.Clerks.{AreAtHand, OcrTerms, OcrView, of_terms}
 use Rattle.ocr_facts.specs.Ocr.{meaning}
 use Rattle.ocr_facts.proofs.Entered.{fitting_parts}
+use Rattle.ocr_facts.proofs.Homes.{core_place, placed_core, running_settled}
 use Rattle.ocr_facts.proofs.Runs.{run_is}
 
 module _ (t : OcrTerms) (v : OcrView) (J : List Entry) (fits : Fits meaning t J v) where
@@ -38,19 +38,8 @@ module _ (t : OcrTerms) (v : OcrView) (J : List Entry) (fits : Fits meaning t J 
       → IsOnParts (of_terms t) (reverse J) e → IsLegalOn t.limit (kept_ready t.limit members e hand) e
   legal_on_hand hand e members at_hand covers plan legal = back_law (of_terms t) (reverse J) e hand members (record { enough = fits.limits; run = is_run; covers = covers; parts = at_hand_of hand at_hand; plan = plan }) legal
 
--- THE PLACE of a core
-pub core_place : (limit t : ℕ) → is_within limit t ≡ true → (is_within limit (limit + t) ≡ false) × ((limit + t) - limit ≡ t)
-core_place limit t is = (grind (arith, common_steps), omega arith)
-
 pub seen_core : (limit t : ℕ) (c : Core) → is_within limit t ≡ true → seen limit (limit + t) (part.Core c) ≡ settled (part.Core c)
 seen_core limit t c within = let w = core_place limit t within in rw (w.0, w.1, within) refl
-
-pub placed_core : (limit t : ℕ) (f : Parts) → is_within limit t ≡ true → place_of limit f (limit + t) ≡ f.core t
-placed_core limit t f within = let w = core_place limit t within in rw (w.0, w.1, within) refl
-
-running_settled : (x : Part) → is_running (settled x) ≡ is_running x
-running_settled (part.Core c) = refl
-running_settled other = refl
 
 -- the EDT whose core is at hand has it in the history
 pub core_of : (t : OcrTerms) (v : OcrView) (J : List Entry) (hand : List (ℕ × Part)) (edt : ℕ) (c : Core) → Fits meaning t J v → AreAtHand t.limit hand v.parts → is_within t.limit edt ≡ true

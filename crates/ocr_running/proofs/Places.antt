@@ -6,12 +6,13 @@ use native.Mathlib.Decide.{dec_le}
 use Rattle.ocr_meaning.specs.Call.{is_creation}
 use Rattle.ocr_meaning.specs.declared.call.Call as body
 use Rattle.ocr_meaning.specs.declared.call.Answer.{Answer}
+use Rattle.ocr_meaning.specs.declared.call.Call.TheVariants as call
 use Rattle.ocr_history.specs.Numbers.{placed}
 use Rattle.ocr_history.specs.declared.entry.Entry.{Entry}
 use Rattle.ocr_history.specs.declared.entry.Entry.TheVariants.{Call}
 use Rattle.ocr_parts.specs.Codes.{Sort, wanted}
 use Rattle.ocr_parts.specs.declared.part.Part.{Part}
-use Rattle.ocr_parts.specs.Footprint.{Covers, and_core, and_face, and_made, and_wanted, makes_core}
+use Rattle.ocr_parts.specs.Footprint.{Covers, and_beside, and_core, and_face, and_made, and_wanted, call_footprint, makes_core}
 use Rattle.ocr_parts.specs.Taken.{has, is_within}
 use Rattle.ocr_turns.specs.Sums.{one_at, sum_of, weigh}
 use Rattle.ocr_turns.proofs.Totals.{one_here, one_same}
@@ -114,11 +115,60 @@ made_from limit t p c a is = elim (is_creation c) as (λ b. is_creation c ≡ b 
       | false ↦ λ _ there. own there
     ] refl there
 
-pub call_from : (limit t home p : ℕ) (c : body.Call) (a : Answer) (w : List (ℕ × ℕ)) → 1 ≤ touches limit (Call t home c a w) p → IsNew limit t c a.value p ⊎ IsAt p (faces_of limit c)
-call_from limit t home p c a w is = wanted_moves limit p (IsNew limit t c a.value p) (wanted c) (and_made limit c a (and_core limit t [])) [] (λ made. inl (made_from limit t p c a made)) is
+-- and the home, the scope and the output event of an EDT that it makes
+abbrev pub IsBesideAt : (limit home : ℕ) → body.Call → Answer → ℕ → Type 0
+IsBesideAt limit home c a p = (makes_core c ≡ true) × (((is_within limit home ≡ true) × (p ≡ home))
+    ⊎ (((is_within limit a.scope ≡ true) × (p ≡ a.scope)) ⊎ ((is_within limit a.output ≡ true) × (p ≡ a.output))))
 
-pub call_wants : (limit t home p : ℕ) (c : body.Call) (a : Answer) (w : List (ℕ × ℕ)) → IsAt p (faces_of limit c) → 1 ≤ touches limit (Call t home c a w) p
-call_wants limit t home p c a w is = ⊎_elim (λ never. absurd never) (λ there. there) (wanted_moves limit p ⊥ (wanted c) [] (and_made limit c a (and_core limit t [])) (λ none. absurd (omega (arith, none))) is)
+beside_from : (limit home p : ℕ) (c : body.Call) (a : Answer) (ns : List ℕ) → IsAt p (and_beside limit home c a ns) → IsBesideAt limit home c a p ⊎ IsAt p ns
+beside_from limit home p (call.EdtCreate from pc ps dc ds fl o) a ns is = ⊎_elim
+    (λ same. inl (refl, inl same))
+    (λ more. ⊎_elim (λ same. inl (refl, inr (inl same))) (λ last. ⊎_elim (λ same. inl (refl, inr (inr same))) (λ there. inr there) (face_from limit a.output p ns last)) (face_from limit a.scope p (and_face limit a.output ns) more))
+    (face_from limit home p (and_face limit a.scope (and_face limit a.output ns)) is)
+beside_from limit home p other a ns is = inr is
+
+beside_stays : (limit home p : ℕ) (c : body.Call) (a : Answer) (ns : List ℕ) → IsAt p ns → IsAt p (and_beside limit home c a ns)
+beside_stays limit home p (call.EdtCreate from pc ps dc ds fl o) a ns is = face_stays limit home p _ (face_stays limit a.scope p _ (face_stays limit a.output p ns is))
+beside_stays limit home p other a ns is = is
+
+face_here : (limit g : ℕ) (ns : List ℕ) → is_within limit g ≡ true → IsAt g (and_face limit g ns)
+face_here limit g ns within = rw within (placed_here g ns)
+
+beside_here : (limit home : ℕ) (c : body.Call) (a : Answer) (ns : List ℕ) (p : ℕ) → IsBesideAt limit home c a p → IsAt p (and_beside limit home c a ns)
+beside_here limit home (call.EdtCreate from pc ps dc ds fl o) a ns p is = ⊎_elim
+    (λ same. subst (λ (k : ℕ). IsAt k (and_face limit home (and_face limit a.scope (and_face limit a.output ns)))) (sym same.1) (face_here limit home (and_face limit a.scope (and_face limit a.output ns)) same.0))
+    (λ more. face_stays limit home p (and_face limit a.scope (and_face limit a.output ns)) (⊎_elim
+    (λ same. subst (λ (k : ℕ). IsAt k (and_face limit a.scope (and_face limit a.output ns))) (sym same.1) (face_here limit a.scope (and_face limit a.output ns) same.0))
+    (λ same. face_stays limit a.scope p (and_face limit a.output ns) (subst (λ (k : ℕ). IsAt k (and_face limit a.output ns)) (sym same.1) (face_here limit a.output ns same.0)))
+    more))
+    is.1
+beside_here limit home other a ns p is = cc (is.0)
+
+-- the faces that a call wants, and its home's
+pub faces_home : (limit home : ℕ) (c : body.Call) → is_within limit home ≡ true → IsAt home (faces_of limit home c)
+faces_home limit home c within = face_here limit home (and_wanted limit (wanted c) []) within
+
+pub call_from : (limit t home p : ℕ) (c : body.Call) (a : Answer) (w : List (ℕ × ℕ)) → 1 ≤ touches limit (Call t home c a w) p → IsNew limit t c a.value p ⊎ (IsBesideAt limit home c a p ⊎ IsAt p (faces_of limit home c))
+call_from limit t home p c a w is = ⊎_elim
+    (λ beside. inr (inl beside))
+    (λ named. ⊎_elim (λ new. inl new) (λ wants. inr (inr (face_stays limit home p _ wants)))
+    (wanted_moves limit p (IsNew limit t c a.value p) (wanted c) (and_made limit c a (and_core limit t [])) [] (λ made. inl (made_from limit t p c a made)) named))
+    (beside_from limit home p c a (call_footprint limit c a (and_core limit t [])) is)
+
+-- only an EDT that is made has a home
+pub call_wants : (limit t home p : ℕ) (c : body.Call) (a : Answer) (w : List (ℕ × ℕ)) → (makes_core c ≡ false → home ≡ 0) → IsAt p (faces_of limit home c) → 1 ≤ touches limit (Call t home c a w) p
+call_wants limit t home p c a w none is = ⊎_elim
+    (λ same. beside_here limit home c a (call_footprint limit c a (and_core limit t [])) p (makes (makes_core c) none same.0, inl same))
+    (λ wants. beside_stays limit home p c a (call_footprint limit c a (and_core limit t []))
+    (⊎_elim (λ never. absurd never) (λ there. there) (wanted_moves limit p ⊥ (wanted c) [] (and_made limit c a (and_core limit t [])) (λ none. absurd (omega (arith, none))) wants)))
+    (face_from limit home p (and_wanted limit (wanted c) []) is)
+  where
+    makes : (b : Bool) → (b ≡ false → home ≡ 0) → is_within limit home ≡ true → b ≡ true
+    makes true none within = refl
+    makes false none within = let z : is_within limit 0 ≡ true = subst (λ (k : ℕ). is_within limit k ≡ true) (none refl) within in cc z
+
+pub call_beside : (limit t home p : ℕ) (c : body.Call) (a : Answer) (w : List (ℕ × ℕ)) → IsBesideAt limit home c a p → 1 ≤ touches limit (Call t home c a w) p
+call_beside limit t home p c a w is = beside_here limit home c a (call_footprint limit c a (and_core limit t [])) p is
 
 -- LISTS OF PARTS
 pub has_at : (ps : List (ℕ × Part)) (n : ℕ) → 1 ≤ weigh (one_at n) ps → has ps n ≡ true

@@ -10,9 +10,8 @@ use Rattle.ocr_meaning.specs.declared.call.BodyStop.TheVariants as stop
 use Rattle.ocr_meaning.specs.declared.call.Call as body
 use Rattle.ocr_history.specs.declared.entry.Entry.TheVariants as an
 use Rattle.ocr_history.specs.declared.entry.Stop as run
-use Rattle.ocr_history.specs.declared.entry.Stop.TheVariants as by
 use Rattle.ocr_parts.specs.Codes.{code_of}
-use Rattle.ocr_parts.specs.Legal.{IsSaid, IsStop}
+use Rattle.ocr_parts.specs.Legal.{IsCreating, IsSaid, IsStop}
 use Rattle.ocr_parts.specs.Parts.{parts_of}
 use Rattle.ocr_facts.specs.Clerks.{Knows, OcrTerms, OcrView, of_terms}
 use Rattle.ocr_clerks.specs.Work.{IsOwnStop, MayStopSo}
@@ -32,17 +31,13 @@ module _ (t : OcrTerms) (v : OcrView) (edt : ℕ) (b : Body) (serves : Serves t 
   stop_said other said is = absurd said
 
   -- AN OBJECT could be made next
-  pub creating : (c : body.Call) → IsNext c (says b (own_log v.log edt)) → is_creation c ≡ true → Knows t v (λ J. code_of edt (parts_of (of_terms t) (reverse J)).face c ≡ Done) → Knows t v (λ J. IsStop (of_terms t) (reverse J) by.Objects)
-  creating c next creates done = λ J op fits. (
-    edt,
-    c,
-    record {
-      running = running_known t v edt b J serves fits;
-      next = subst (IsNext c) (sym (says_known t v edt b J serves fits)) next;
-      creation = creates;
-      accepted = done J op fits;
-    },
-  )
+  pub creating : (c : body.Call) → IsNext c (says b (own_log v.log edt)) → is_creation c ≡ true → Knows t v (λ J. code_of edt (parts_of (of_terms t) (reverse J)).face c ≡ Done) → Knows t v (λ J. IsCreating (of_terms t) (reverse J) edt c)
+  creating c next creates done = λ J op fits. record {
+    running = running_known t v edt b J serves fits;
+    next = subst (IsNext c) (sym (says_known t v edt b J serves fits)) next;
+    creation = creates;
+    accepted = done J op fits;
+  }
 
 -- as a worker ends the run by it
 pub stops_so : (t : OcrTerms) (v : OcrView) (edt : ℕ) (b : Body) → Serves t v edt b → (e : BodyStop) (why : run.Stop) → laws.IsSaid e → says b (own_log v.log edt) ≡ Stops e → why ≡ stop_for edt e → Knows t v (λ J. MayStopSo (of_terms t) (reverse J) why)

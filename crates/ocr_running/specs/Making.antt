@@ -1,7 +1,9 @@
 -- The parts at hand while a call of the body is made.
-use Rattle.std.specs.Prelude.{◌≡◌, ℕ, List, ◌∷◌, ◌++◌, true, Ok}
+use Rattle.std.specs.Prelude.{◌≡◌, ◌≤◌, ℕ, List, ◌∷◌, ◌++◌, Bool, true, false, Ok}
+use Rattle.std.specs.List.{All}
 use Rattle.ocr_guid.specs.declared.Code.{Code}
 use Rattle.ocr_meaning.specs.Holds.{is_done}
+use Rattle.ocr_meaning.specs.declared.call.Answer.{Answer}
 use Rattle.ocr_meaning.specs.declared.call.Call as body
 use Rattle.ocr_meaning.specs.declared.call.Call.TheVariants as call
 use Rattle.ocr_parts.specs.declared.part.Core.{Core}
@@ -10,6 +12,12 @@ use Rattle.ocr_parts.specs.declared.part.Part.TheVariants as part
 use Rattle.ocr_parts.specs.Effects.{settled_core}
 use Rattle.ocr_parts.specs.Taken.{look}
 use Rattle.ocr_template.specs.Template.{counts_of}
+use Rattle.ocr_turns.specs.Contract.{SameHand}
+use Rattle.ocr_turns.specs.Steps.{Sees, with_drawn}
+use Rattle.ocr_turns.specs.Sums.{AreBelow}
+use Rattle.ocr_facts.specs.Ocr.{meaning}
+use Rattle.ocr_clerks.specs.Entering.{OcrKnown}
+use Rattle.ocr_running.specs.Calls.{IsAnswer, drawn_for}
 use Rattle.ocr_running.specs.Serving.{holds_in}
 
 -- others may stand behind those of before
@@ -45,3 +53,18 @@ abbrev pub IsLet : body.Call → Code → List (ℕ × Part) → Type 0
 IsLet (call.EdtCreate from pc ps dc ds fl o) k parts =
     is_done k ≡ true → LetsMake (look parts from) pc dc
 IsLet other k parts = Unit {0}
+
+-- ONE NUMBER MORE was drawn where one was wanted, above those that were drawn before
+abbrev pub DrewIf : Bool → (limit : ℕ) → (old new : OcrKnown) → ℕ → Type 0
+DrewIf true limit old new n = (1 ≤ n) × (n ≤ limit) × AreBelow n old.view.drawn
+    × (new.view ≡ with_drawn old.view n) × SameHand old new × Sees meaning new.view
+DrewIf false limit old new n = (n ≡ 0) × (new ≡ old)
+
+-- the numbers of all that the call makes were drawn, and are its answer
+pub record Drew (limit : ℕ) (c : body.Call) (a : Answer) (old new : OcrKnown) : Type 0 where
+  pub some : 1 ≤ a.value
+  pub within : All (λ n. n ≤ limit) (drawn_for c a)
+  pub view : new.view ≡ record old.view { drawn = drawn_for c a }
+  pub hand : SameHand old new
+  pub sees : Sees meaning new.view
+  pub answer : IsAnswer new.view c a

@@ -1,6 +1,6 @@
 -- A clerk that runs the body of an EDT: what it keeps between the calls of the body, and within
 -- one.
-use Rattle.std.specs.Prelude.{◌≡◌, ◌≢◌, ◌≤◌, ℕ, ◌+◌, List, [], ◌∷◌, ◌++◌, true, ◌&&◌, if◌then◌else◌, Option, Some, None}
+use Rattle.std.specs.Prelude.{◌≡◌, ◌≢◌, ◌≤◌, ℕ, ◌+◌, List, [], ◌∷◌, ◌++◌, true, if◌then◌else◌, Option, Some, None}
 use Rattle.std.specs.List.{All}
 use Rattle.ocr_acquire.specs.declared.Mode.{Mode}
 use Rattle.ocr_meaning.specs.Body.{Body}
@@ -24,11 +24,12 @@ use Rattle.ocr_turns.specs.Owing.{listed}
 use Rattle.ocr_turns.specs.Steps.{Sees}
 use Rattle.ocr_turns.specs.Sums.{as_some, keys}
 use Rattle.ocr_facts.specs.Clerks.{OcrTerms, OcrView}
-use Rattle.ocr_facts.specs.Ocr.{counts, meaning}
+use Rattle.ocr_facts.specs.Ocr.{beside, counts, meaning}
 use Rattle.ocr_steal.specs.declared.hand.Hand as deque
 use Rattle.ocr_steal.specs.Hand.{IsSame, knows, misses_of}
 use Rattle.ocr_clerks.specs.Entering.{Hand, OcrKnown}
 use Rattle.ocr_clerks.specs.Work.{HasTakenOn, RunsOnly, lifted, ready_with}
+use Rattle.ocr_running.specs.Calls.{home_for}
 use Rattle.ocr_running.specs.Serving.{Serves, holds_in, own_log}
 
 -- THE CORE stands first among the parts at hand
@@ -78,16 +79,18 @@ pub record HasLifted (t : OcrTerms) (edt : ℕ) (old new : OcrKnown) (places dra
   pub parts : ps ≡ (t.limit + edt, part.Core core) ∷ taken
   pub sees : Sees meaning new.view
 
--- what a call makes: its face, and of an EDT its core
-abbrev pub new_places : ℕ → body.Call → ℕ → List ℕ
-new_places limit c v =
-    if is_creation c then v ∷ (if makes_core c then (limit + v) ∷ [] else []) else []
+-- the home that a call joins, by the core at hand
+abbrev pub home_at : OcrKnown → body.Call → ℕ
+home_at c made = home_for made (first_in c.parts)
+
+-- what a call makes: its face, and of an EDT its core and the faces beside it
+abbrev pub new_places : ℕ → body.Call → Answer → List ℕ
+new_places limit c a =
+    if is_creation c then a.value ∷ (if makes_core c then (limit + a.value) ∷ beside c a else [])
+    else []
 
 abbrev pub places_made : ℕ → body.Call → Answer → List ℕ
-places_made limit c a = if is_done a.code then new_places limit c a.value else []
-
-abbrev pub drawn_for : body.Call → Answer → List ℕ
-drawn_for c a = if is_creation c && is_done a.code then a.value ∷ [] else []
+places_made limit c a = if is_done a.code then new_places limit c a else []
 
 -- AFTER AN ENTRY of the EDT: the clerk keeps the core, first, and the parts of these places, all at
 -- hand, and owes to the words that count what the entry made and whom it resumed.

@@ -9,8 +9,8 @@ ghost use Rattle.ocr_parts.specs.Legal.{carried};
 ghost use Rattle.ocr_parts.specs.Taken.{face_in};
 ghost use Rattle.ocr_clerks.specs.Entering.{OcrKnown};
 ghost use Rattle.ocr_clerks.specs.Work.{AtWork, IsGone, Stays};
-ghost use Rattle.ocr_running.specs.Calls.{IsAnswer, IsCoded, faces_of};
-ghost use Rattle.ocr_running.specs.Running.{AreOthers, HasEntered, HasLifted, IsCalled, Runs, drawn_for, holds_at, made_by, places_made};
+ghost use Rattle.ocr_running.specs.Calls.{IsAnswer, IsCoded, drawn_for, faces_of};
+ghost use Rattle.ocr_running.specs.Running.{AreOthers, HasEntered, HasLifted, IsCalled, Runs, holds_at, home_at, made_by, places_made};
 ghost use Rattle.ocr_running.specs.Serving.{own_log};
 
 use ocr_clerks::{Gate, Job, Ocr, Over, enter_at_work};
@@ -30,6 +30,7 @@ pub(crate) fn enter_call<R: Wait, G: Gate>(
     worker: u32,
     clerk: &mut Clerk<Ocr>,
     edt: Guid,
+    home: Guid,
     call: Call,
     answer: Answer,
     writes: Writes,
@@ -39,11 +40,12 @@ pub(crate) fn enter_call<R: Wait, G: Gate>(
     requires work { AtWork job.now.turns.now job.now.program.now clerk.old }
     requires runs { Runs job.now.turns.now.1 edt s.0 s.1 }
     requires lifted { HasLifted job.now.turns.now.1 edt s.1 clerk.old
-        (faces_of job.now.turns.now.1.limit call
+        (faces_of job.now.turns.now.1.limit home call
         ++ places_made job.now.turns.now.1.limit call answer)
         (drawn_for call answer) parts.items }
     requires next { IsNextWith call (private_of call (holds_at s.1))
         (says s.0 (own_log s.1.view.log edt)) }
+    requires home { home ≡ home_at s.1 call }
     requires coded { IsCoded call }
     requires answer { IsAnswer clerk.old.view call answer }
     requires code { answer.code
@@ -52,19 +54,19 @@ pub(crate) fn enter_call<R: Wait, G: Gate>(
     ensures stays { Stays clerk.old clerk.new }
     ensures work { OnOk result (AtWork job.now.turns.now job.now.program.now clerk.new) }
     ensures entered { IfOk result (λ r. HasEntered job.now.turns.now.1 edt s.0 clerk.new
-        (faces_of job.now.turns.now.1.limit call
+        (faces_of job.now.turns.now.1.limit home call
         ++ places_made job.now.turns.now.1.limit call answer)
-        (made_by job.now.turns.now.1.limit (an.Call edt 0 call answer writes)
+        (made_by job.now.turns.now.1.limit (an.Call edt home call answer writes)
         clerk.old.view.parts) r.items) }
     ensures others { OnOk result (AreOthers job.now.turns.now.1 edt
-        (faces_of job.now.turns.now.1.limit call
+        (faces_of job.now.turns.now.1.limit home call
         ++ places_made job.now.turns.now.1.limit call answer)) }
     ensures called { OnOk result (IsCalled edt call answer s.1 clerk.new) }
     ensures gone { OnErr result (IsGone job.now.turns.now worker clerk.new) }
 {
     let entry = Entry::Call {
         edt,
-        home: Guid::NULL,
+        home,
         call,
         answer,
         writes,

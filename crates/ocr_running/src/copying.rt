@@ -1,7 +1,8 @@
 // What a call names.
-ghost use Rattle.std.specs.Prelude.{◌≡◌, ◌≤◌, ◌∷◌, ◌+◌, [], true, IfOk};
+ghost use Rattle.std.specs.Prelude.{◌≡◌, ◌≤◌, ◌∷◌, ◌+◌, [], false, true, IfOk};
 ghost use Rattle.ocr_guid.specs.declared.Code.TheVariants as code;
 ghost use Rattle.ocr_history.specs.declared.entry.Entry.TheVariants as an;
+ghost use Rattle.ocr_parts.specs.Footprint.{makes_core};
 ghost use Rattle.ocr_running.specs.Calls.{IsCallIn, faces_of, is_call};
 
 use ocr_base::NoMemory;
@@ -12,7 +13,7 @@ use ocr_meaning::{Answer, Call};
 use std::alloc::Global;
 
 /// A call that is to be entered, and the places of all parts that it names but for what it makes:
-/// the caller's core, and behind it the faces, rising.
+/// the caller's core, and behind it the faces, rising, the home's among them.
 #[derive(Drop)]
 pub(crate) struct Named {
     pub call: Call,
@@ -24,14 +25,17 @@ pub(crate) fn name_parts(
     alloc: Global,
     limit: u64,
     edt: Guid,
+    home: Guid,
     call: &Call,
 ) -> Result<Named, NoMemory>
     requires limit { limit ≤ 65536 }
     requires edt { edt ≤ limit }
+    requires home { makes_core call.now ≡ false → home ≡ 0 }
     ensures call { IfOk result (λ r. r.call ≡ call.now) }
-    ensures places { IfOk result (λ r. r.places.items ≡ (limit + edt) ∷ faces_of limit call.now) }
+    ensures places { IfOk result (λ r. r.places.items
+        ≡ (limit + edt) ∷ faces_of limit home call.now) }
 {
-    let entry = blank_entry(alloc, copied(call)?);
+    let entry = blank_entry(alloc, home, copied(call)?);
     let mut places = footprint(alloc, &entry, limit)?;
     if places.insert(0, limit + edt.0).is_err() {
         return Err(NoMemory);
@@ -40,13 +44,14 @@ pub(crate) fn name_parts(
     Ok(Named { call, places })
 }
 
-// An entry of the call of no EDT, which makes nothing.
-fn blank_entry(alloc: Global, call: Call) -> Entry
-    ensures { result ≡ an.Call 0 0 call (record { code = code.Enoent; value = 0; scope = 0; output = 0 }) [] }
+// An entry of the call of no EDT, in this home, which makes nothing.
+fn blank_entry(alloc: Global, home: Guid, call: Call) -> Entry
+    ensures { result ≡ an.Call 0 home call
+        (record { code = code.Enoent; value = 0; scope = 0; output = 0 }) [] }
 {
     Entry::Call {
         edt: Guid::NULL,
-        home: Guid::NULL,
+        home,
         call,
         answer: answer_of(Code::Enoent, 0),
         writes: Writes::none(alloc),

@@ -9,9 +9,9 @@ ghost use Rattle.ocr_parts.specs.Taken.{face_in};
 ghost use Rattle.ocr_turns.specs.Sums.{as_some};
 ghost use Rattle.ocr_clerks.specs.Entering.{OcrKnown};
 ghost use Rattle.ocr_clerks.specs.Work.{AtWork, IsGone, Stays};
-ghost use Rattle.ocr_running.specs.Calls.{IsAnswer, IsCoded, faces_of};
+ghost use Rattle.ocr_running.specs.Calls.{IsAnswer, IsCoded, drawn_for, faces_of};
 ghost use Rattle.ocr_running.specs.Making.{HasCore, HasListed};
-ghost use Rattle.ocr_running.specs.Running.{HasLifted, IsCalled, IsPushed, Runs, drawn_for, first_in, holds_at, places_made};
+ghost use Rattle.ocr_running.specs.Running.{HasLifted, IsCalled, IsPushed, Runs, first_in, holds_at, home_at, places_made};
 ghost use Rattle.ocr_running.specs.Serving.{holds_in, own_log};
 
 use crate::answering::answer;
@@ -105,14 +105,15 @@ fn enter_asked<R: Wait, G: Gate>(
     requires work { AtWork job.now.turns.now job.now.program.now clerk.old }
     requires runs { Runs job.now.turns.now.1 edt s.0 s.1 }
     requires lifted { HasLifted job.now.turns.now.1 edt s.1 clerk.old
-        (faces_of job.now.turns.now.1.limit asked.call
+        (faces_of job.now.turns.now.1.limit asked.home asked.call
         ++ places_made job.now.turns.now.1.limit asked.call given.now)
         (drawn_for asked.call given.now) asked.parts.items }
     requires places { asked.places.items ≡ (job.now.turns.now.1.limit + edt)
-        ∷ (faces_of job.now.turns.now.1.limit asked.call
+        ∷ (faces_of job.now.turns.now.1.limit asked.home asked.call
         ++ places_made job.now.turns.now.1.limit asked.call given.now) }
     requires next { IsNextWith asked.call (private_of asked.call (holds_at s.1))
         (says s.0 (own_log s.1.view.log edt)) }
+    requires home { asked.home ≡ home_at s.1 asked.call }
     requires coded { IsCoded asked.call }
     requires answer { IsAnswer clerk.old.view asked.call given.now }
     requires code { given.now.code
@@ -126,6 +127,7 @@ fn enter_asked<R: Wait, G: Gate>(
 {
     let Asked {
         call,
+        home,
         places,
         mut parts,
         code: _,
@@ -134,7 +136,9 @@ fn enter_asked<R: Wait, G: Gate>(
     let Ok(writes) = list_carried(alloc, &call, given.code, &mut parts) else {
         return Err(close_memory(job, worker, clerk));
     };
-    let resumed = enter_call(alloc, job, worker, clerk, edt, call, *given, writes, parts)?;
+    let resumed = enter_call(
+        alloc, job, worker, clerk, edt, home, call, *given, writes, parts,
+    )?;
     settle(
         alloc,
         job,

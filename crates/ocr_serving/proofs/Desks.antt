@@ -1,21 +1,21 @@
 -- The desk, while the run goes on and once it was found ended.
 use Rattle.std.specs.Prelude.{IfOk, OnOk, IfErr}
-use Rattle.std.proofs.Common.{Result, Ok, Err, ◌≡◌, ◌⊎◌, inl, inr, ℕ, ◌+◌, ◌-◌, ◌^◌, min, true, false, List, Option, Some, None, is_some, refl, ap, sym, ◌∙◌, subst, arith}
+use Rattle.std.proofs.Common.{Result, Ok, Err, ◌≡◌, ◌⊎◌, inl, inr, ℕ, ◌+◌, ◌-◌, ◌^◌, min, true, false, List, length, Option, Some, None, is_some, refl, ap, sym, ◌∙◌, subst, arith}
 use Rattle.ocr_base.specs.Count.{Rose}
 use Rattle.ocr_body.specs.Serving.{IsAccessStop, IsNextWhereEntered, IsRefusal, StoppedBy, by_body, by_closing, by_memory, refused_closed}
 use Rattle.ocr_code.specs.Checked.{checked_tree}
 use Rattle.ocr_code.specs.declared.checked.Checked.{Checked}
-use Rattle.ocr_tree.specs.Built.{are_built}
+use Rattle.ocr_tree.specs.Rules.{are_functions_named, are_lists_short}
 use Rattle.ocr_meaning.specs.Behaviour.{Asked, Behaviour, IsNextWith, Stops}
 use Rattle.ocr_meaning.specs.Body.{Body, says}
 use Rattle.ocr_meaning.specs.Call.{is_access}
 use Rattle.ocr_meaning.specs.Holds.{Access, Entered, Refused, Silent, load_of, private_of, store_of}
-use Rattle.ocr_meaning.specs.Laws.{IsBuilt, IsSaid, MakesOnly}
+use Rattle.ocr_meaning.specs.Laws.{IsSaid, IsServed, MakesOnly}
 use Rattle.ocr_meaning.specs.declared.call.BodyStop.{BodyStop}
 use Rattle.ocr_meaning.specs.declared.call.BodyStop.TheVariants as stop
 use Rattle.ocr_meaning.specs.declared.call.Call as body
 use Rattle.ocr_meaning.specs.declared.call.Call.TheVariants as call
-use Rattle.ocr_meaning.proofs.Makes.{built_law}
+use Rattle.ocr_meaning.proofs.Makes.{served_law}
 use Rattle.ocr_steal.specs.declared.hand.Hand.{Hand}
 use Rattle.ocr_clerks.specs.Entering.{OcrKnown}
 use Rattle.ocr_clerks.specs.Work.{AtWork, IsGone, OcrTable}
@@ -26,17 +26,17 @@ use Rattle.ocr_running.specs.declared.accessing.Refusal.{Refusal}
 use Rattle.ocr_running.specs.declared.accessing.Refusal.TheVariants as refusal
 use Rattle.ocr_running.specs.Running.{IsPushed, Runs, holds_at}
 use Rattle.ocr_running.specs.Serving.{own_log}
-use Rattle.ocr_running.proofs.Calls.{built_coded, next_of}
+use Rattle.ocr_running.proofs.Calls.{next_of, served_coded}
 use Rattle.ocr_serving.specs.Serving.{AtDesk, IsReady, holds_while, state_in}
 
--- WHAT IT SAYS NEXT is a call that a code answers, as all calls of the program are built
-pub built_says : (table : OcrTable) (program : Checked) (edt : ℕ) (b : Body) (c : OcrKnown) (log : List Asked) → AtWork table program c → Runs table.1 edt b c → MakesOnly IsBuilt (says b log)
-built_says table program edt b c log work runs =
-    let whole : are_built (checked_tree table.1.setting.value.program) ≡ true = ap (λ (p : Checked). are_built (checked_tree p)) work.program_is ∙ work.built in
-    built_law b log (ap (λ (x : Body). are_built x.program) runs.serves.body ∙ whole)
+-- WHAT IT SAYS NEXT is a call that a code answers
+pub served_says : (table : OcrTable) (program : Checked) (edt : ℕ) (b : Body) (c : OcrKnown) (log : List Asked) → AtWork table program c → Runs table.1 edt b c → MakesOnly (IsServed (length b.program)) (says b log)
+served_says table program edt b c log work runs =
+    let same : b.program ≡ checked_tree program = ap (λ (x : Body). x.program) runs.serves.body ∙ ap checked_tree work.program_is in
+    served_law b log (ap are_functions_named same ∙ work.runnable.named) (ap are_lists_short same ∙ work.runnable.short)
 
 pub next_coded : (table : OcrTable) (program : Checked) (edt : ℕ) (b : Body) (c : OcrKnown) (made : body.Call) (writes : List (ℕ × ℕ)) → is_access made ≡ false → AtWork table program c → Runs table.1 edt b c → IsNextWith made writes (says b (own_log c.view.log edt)) → IsCoded made
-next_coded table program edt b c made writes plain work runs next = built_coded made (next_of IsBuilt (says b (own_log c.view.log edt)) made writes (built_says table program edt b c (own_log c.view.log edt) work runs) next) plain
+next_coded table program edt b c made writes plain work runs next = served_coded (length b.program) made (next_of (IsServed (length b.program)) (says b (own_log c.view.log edt)) made writes (served_says table program edt b c (own_log c.view.log edt) work runs) next) plain
 
 -- A COUNT that rose
 pub raised_rose : (before now : ℕ) → now ≡ min (before + 1) (2 ^ 64 - 1) → Rose before now
@@ -148,12 +148,12 @@ err_then (Err e) P Q go is = go e is
 not_risen : (n : ℕ) → n ≡ 0 → Rose 0 n → ⊥
 not_risen n is rose = absurd (omega (arith, is, rose))
 
-stop_cause : (now : Behaviour) (n : ℕ) (e : BodyStop) → MakesOnly IsBuilt now → n ≡ 0 → StoppedBy now (Rose 0 n) e → (e ≡ stop.NoMemory) ⊎ (IsSaid e × (now ≡ Stops e))
-stop_cause now n e only none (by_closing rose) = absurd (not_risen n none rose)
-stop_cause now n e only none by_memory = inl refl
-stop_cause now n e only none (by_body s is) = inr (subst (MakesOnly IsBuilt) is only, is)
+stop_cause : (functions : ℕ) (now : Behaviour) (n : ℕ) (e : BodyStop) → MakesOnly (IsServed functions) now → n ≡ 0 → StoppedBy now (Rose 0 n) e → (e ≡ stop.NoMemory) ⊎ (IsSaid e × (now ≡ Stops e))
+stop_cause functions now n e only none (by_closing rose) = absurd (not_risen n none rose)
+stop_cause functions now n e only none by_memory = inl refl
+stop_cause functions now n e only none (by_body s is) = inr (subst (MakesOnly (IsServed functions)) is only, is)
 
 pub body_cause : (table : OcrTable) (program : Checked) (edt : ℕ) (b : Body) (c : OcrKnown) (n m : ℕ) (e : BodyStop) → AtDesk table program edt b c m → n ≡ 0 → StoppedBy (says b (own_log c.view.log edt)) (Rose n m) e → (e ≡ stop.NoMemory) ⊎ (IsSaid e × (says b (own_log c.view.log edt) ≡ Stops e))
 body_cause table program edt b c n m e at none stopped =
-    stop_cause (says b (own_log c.view.log edt)) m e (built_says table program edt b c (own_log c.view.log edt) at.work at.runs) at.unclosed
+    stop_cause (length b.program) (says b (own_log c.view.log edt)) m e (served_says table program edt b c (own_log c.view.log edt) at.work at.runs) at.unclosed
     (subst (λ (k : ℕ). StoppedBy (says b (own_log c.view.log edt)) (Rose k m) e) none stopped)

@@ -17,11 +17,11 @@ use Rattle.ocr_history.specs.Made.{Made, MadeEdt, made}
 use Rattle.ocr_parts.specs.declared.part.Core.{Core}
 use Rattle.ocr_parts.specs.declared.part.Part.{Part}
 use Rattle.ocr_parts.specs.declared.part.Part.TheVariants as part
-use Rattle.ocr_parts.specs.Calls.{block_calls, edt_calls, event_calls, link_calls, loans_of}
+use Rattle.ocr_parts.specs.Calls.{block_calls, edt_calls, event_calls, link_calls, loans_of, scope_calls}
 use Rattle.ocr_parts.specs.Effects.{settled}
 use Rattle.ocr_parts.specs.Legal.{IsRun}
 use Rattle.ocr_parts.specs.Kinds.{is_block, next_in, progress_in}
-use Rattle.ocr_parts.specs.Parts.{core, face, parts_of}
+use Rattle.ocr_parts.specs.Parts.{core, face, parts_of, identity_of}
 use Rattle.ocr_parts.specs.Taken.{as_core, as_face, is_within, place_of, seen}
 use Rattle.ocr_parts.proofs.Within.{within_law}
 use Rattle.ocr_quiet.specs.Marks.{mark, mark_in}
@@ -161,10 +161,10 @@ module _ (t : OcrTerms) (J : List Entry) (v : OcrView) (edt : ℕ) (fits : Fits 
   is_made = edt_made (made (of_terms t) past edt) set.slots (sym (slots_are t past edt run) ∙ set.made)
 
   face_slots : (slots : List Slot) × ((parts_of (of_terms t) past).face edt ≡ part.Edt slots)
-  face_slots = (slot.state_of is_made.2 (link_calls past edt), ap (λ (m : Option Made). face m (link_calls past edt) (block_calls (of_terms t) past edt) (event_calls (of_terms t) past edt)) is_made.3)
+  face_slots = (slot.state_of is_made.2 (link_calls past edt), ap (λ (m : Option Made). face m (link_calls past edt) (block_calls (of_terms t) past edt) (event_calls (of_terms t) past edt) (scope_calls past edt)) is_made.3)
 
   its_core : (c : Core) × ((parts_of (of_terms t) past).core edt ≡ part.Core c)
-  its_core = (_, ap (λ (m : Option Made). core m edt (edt_calls (of_terms t) past edt) (loans_of (of_terms t) past edt)) is_made.3)
+  its_core = (_, ap (λ (m : Option Made). core m (identity_of past edt) (edt_calls (of_terms t) past edt) (loans_of (of_terms t) past edt)) is_made.3)
 
   -- a block is no EDT
   pub other_object : (d : ℕ) → is_block ((parts_of (of_terms t) past).face d) ≡ true → IsOtherObject t edt d

@@ -12,7 +12,7 @@ use Rattle.ocr_guid.specs.Target.{EventCall}
 use Rattle.ocr_history.specs.Made.{Made, MadeEdt, made}
 use Rattle.ocr_parts.specs.declared.part.Part.{Part}
 use Rattle.ocr_parts.specs.declared.part.Part.TheVariants as part
-use Rattle.ocr_parts.specs.Calls.{block_calls, event_calls, link_calls}
+use Rattle.ocr_parts.specs.Calls.{block_calls, event_calls, link_calls, scope_calls}
 use Rattle.ocr_parts.specs.Parts.{face, parts_of}
 use Rattle.ocr_parts.specs.Taken.{is_within}
 use Rattle.ocr_facts.specs.Clerks.{OcrTerms, OcrView, of_terms}
@@ -26,17 +26,18 @@ use Rattle.ocr_turns.specs.Words.{HasSlot, learning}
 use Rattle.ocr_clerks.specs.Work.{KnowsPayloads}
 use Rattle.ocr_clerks.proofs.Seen.{face_is}
 use Rattle.ocr_waking.specs.Waking.{KeepsFace, Learns}
+use Rattle.ocr_finish.specs.Scope.{ScopeCall}
 
 -- THE FACE tells how many slots there are
 abbrev slots_on : Part → List Slot
 slots_on (part.Edt slots) = slots
 slots_on other = []
 
-face_count : (m : Option Made) (links : List slot.SlotCall) (blocks : List block.BlockCall) (events : List EventCall) (slots : List Slot) → face m links blocks events ≡ part.Edt slots → slots_in m ≡ Some (length slots)
-face_count (Some (MadeEdt f ps n)) links blocks events slots is =
+face_count : (m : Option Made) (links : List slot.SlotCall) (blocks : List block.BlockCall) (events : List EventCall) (scopes : List ScopeCall) (slots : List Slot) → face m links blocks events scopes ≡ part.Edt slots → slots_in m ≡ Some (length slots)
+face_count (Some (MadeEdt f ps n)) links blocks events scopes slots is =
     let same : slot.state_of n links ≡ slots = ap slots_on is in
     ap (λ (k : ℕ). Some k) (sym (many links [] n 0) ∙ ap (λ (l : List Slot). length l) same)
-face_count other links blocks events slots is = cc is
+face_count other links blocks events scopes slots is = cc is
 
 pub has_slot : (t : OcrTerms) (v : OcrView) (edt count k : ℕ) → v.closed ≡ None → is_within t.limit edt ≡ true → KeepsFace v edt count → k < count → HasSlot meaning t v edt k
 has_slot t v edt count k open_run within keeps lt = λ J knows.
@@ -44,7 +45,7 @@ has_slot t v edt count k open_run within keeps lt = λ J knows.
     let s = of_terms t in let past = reverse J in
     let run = run_is t.setting.value t.limit J fits.run in
     let there : (parts_of s past).face edt ≡ part.Edt keeps.slots = face_is t J v keeps.place edt (part.Edt keeps.slots) fits within keeps.kept in
-    let many_is : slots_in (made s past edt) ≡ Some (length keeps.slots) = face_count (made s past edt) (link_calls past edt) (block_calls s past edt) (event_calls s past edt) keeps.slots there in
+    let many_is : slots_in (made s past edt) ≡ Some (length keeps.slots) = face_count (made s past edt) (link_calls past edt) (block_calls s past edt) (event_calls s past edt) (scope_calls past edt) keeps.slots there in
     (length keeps.slots, slots_are t past edt run ∙ many_is, let c = keeps.count_is in omega (arith, c, lt))
 
 pub keeps_later : (u v : OcrView) (edt count : ℕ) → KeepsFace u edt count → Learns u v → KeepsFace v edt count

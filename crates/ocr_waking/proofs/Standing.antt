@@ -15,7 +15,7 @@ use Rattle.ocr_history.specs.Made.{Made, MadeEdt, is_edt, is_edt_made, made}
 use Rattle.ocr_parts.specs.declared.part.Core.{Core}
 use Rattle.ocr_parts.specs.declared.part.Part.{Part}
 use Rattle.ocr_parts.specs.declared.part.Part.TheVariants as part
-use Rattle.ocr_parts.specs.Calls.{block_calls, event_calls, link_calls, open_slots, plan_of}
+use Rattle.ocr_parts.specs.Calls.{block_calls, event_calls, link_calls, open_slots, plan_of, scope_calls}
 use Rattle.ocr_parts.specs.Effects.{made_ready, next_mode_on, next_on, ready_at, settled_core, with_phase}
 use Rattle.ocr_parts.specs.Kinds.{IsBlock, core_progress, is_acquiring, next_in, on_core}
 use Rattle.ocr_parts.specs.LegalOn.{IsAcquireOn, IsRefused, IsStaleOn, IsTaken, IsWaitOn}
@@ -46,6 +46,7 @@ use Rattle.ocr_waking.specs.Waking.{IsAble, IsLet}
 use Rattle.ocr_waking.specs.declared.acting.Act.{Act}
 use Rattle.ocr_waking.specs.declared.acting.Act.TheVariants as act
 use Rattle.ocr_waking.proofs.Acts.{filled_known}
+use Rattle.ocr_finish.specs.Scope.{ScopeCall}
 
 -- WHAT IT FINDS. The block lets the EDT with this core do something
 abbrev pub AbleOn : Act → Part → Type 0
@@ -127,9 +128,9 @@ some_slots : (m : Option Made) (n : ℕ) → slots_in m ≡ Some n → is_edt_ma
 some_slots (Some (MadeEdt f ps n)) k is = refl
 some_slots other n is = cc is
 
-edt_face : (m : Option Made) (links : List slot.SlotCall) (blocks : List block.BlockCall) (events : List EventCall) (n : ℕ) → slots_in m ≡ Some n → (slots : List Slot) × (face m links blocks events ≡ part.Edt slots)
-edt_face (Some (MadeEdt f ps n)) links blocks events k is = (slot.state_of n links, refl)
-edt_face other links blocks events n is = cc is
+edt_face : (m : Option Made) (links : List slot.SlotCall) (blocks : List block.BlockCall) (events : List EventCall) (scopes : List ScopeCall) (n : ℕ) → slots_in m ≡ Some n → (slots : List Slot) × (face m links blocks events scopes ≡ part.Edt slots)
+edt_face (Some (MadeEdt f ps n)) links blocks events scopes k is = (slot.state_of n links, refl)
+edt_face other links blocks events scopes n is = cc is
 
 face_back : (x : Part) (slots : List Slot) → as_face x ≡ part.Edt slots → x ≡ part.Edt slots
 face_back (part.Core c) slots is = cc is
@@ -139,7 +140,7 @@ pub kept_slots : (t : OcrTerms) (J : List Entry) (v : OcrView) (k edt : ℕ) (x 
 kept_slots t J v k edt x fits within at set =
     let s = of_terms t in let past = reverse J in
     let run = run_is t.setting.value t.limit J fits.run in
-    let there = edt_face (made s past edt) (link_calls past edt) (block_calls s past edt) (event_calls s past edt) set.slots (sym (slots_are t past edt run) ∙ set.made) in
+    let there = edt_face (made s past edt) (link_calls past edt) (block_calls s past edt) (event_calls s past edt) (scope_calls past edt) set.slots (sym (slots_are t past edt run) ∙ set.made) in
     (there.0, face_back x there.0 (sym (face_is t J v k edt x fits within at) ∙ there.1))
 
 -- BY WHAT IS KEPT

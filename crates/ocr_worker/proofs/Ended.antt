@@ -1,20 +1,24 @@
 -- A clerk that knows that the run has ended, or reads so.
-use Rattle.std.proofs.Common.{◌≡◌, ◌⊎◌, inl, inr, ℕ, suc, List, [], ◌∷◌, true, false, Option, None, is_some, refl, sym, ◌∙◌, ap}
+use Rattle.std.proofs.Common.{◌≡◌, ◌≤◌, ◌⊎◌, inl, inr, ℕ, suc, List, [], ◌∷◌, length, true, false, Option, Some, None, is_some, refl, sym, subst, ◌∙◌, ap}
+use Rattle.std.specs.Prelude.{MatchOption}
 use mathlib.Core.Option.{some}
 use lib.ListN.{get_elem?}
 use Rattle.std.specs.Option.{option_or}
 use Rattle.ocr_clerks.specs.Entering.{OcrKnown}
-use Rattle.ocr_clerks.specs.Work.{HasEnded, OcrTable, stop_in, stop_of}
-use Rattle.ocr_facts.specs.Clerks.{OcrView}
+use Rattle.ocr_clerks.specs.Work.{HasEnded, HasLeft, IsOwnStop, OcrTable, stop_in, stop_of}
+use Rattle.ocr_facts.specs.Clerks.{OcrTerms, OcrView}
 use Rattle.ocr_facts.specs.Ocr.{meaning}
 use Rattle.ocr_history.specs.declared.entry.Entry.{Entry}
 use Rattle.ocr_history.specs.declared.entry.Entry.TheVariants as an
 use Rattle.ocr_history.specs.declared.entry.Stop as run
+use Rattle.ocr_history.specs.declared.entry.Stop.TheVariants as by
+use Rattle.ocr_history.specs.Weight.{weight_of}
 use Rattle.ocr_parts.specs.Legal.{is_stop}
-use Rattle.ocr_turns.specs.Contract.{IsOf, SameHand}
+use Rattle.ocr_turns.specs.Contract.{ClosedBy, IsOf, SameHand}
 use Rattle.ocr_turns.specs.Meaning.{Open}
 use Rattle.ocr_turns.specs.Rule.{LogOf}
-use Rattle.ocr_turns.specs.Steps.{SeesOpen}
+use Rattle.ocr_turns.specs.Steps.{SeesEnd, SeesOpen, shut_by}
+use Rattle.ocr_turns.specs.Sums.{load_of}
 
 -- THE SAME CLERK
 pub same_known : (a b : OcrKnown) → SameHand a b → b.view ≡ a.view → b ≡ a
@@ -51,3 +55,28 @@ pub not_ended : (table : OcrTable) (c : OcrKnown) → IsOf table c → HasEnded 
 not_ended table c of_table (inl closed) none sees = let off : is_some c.view.closed ≡ false = ap is_some none in cc (closed, off)
 not_ended table c of_table (inr stopped) none sees =
     let seen = sees table.1 of_table.1 none in never_open c.view seen.0 seen.1.log seen.2 stopped
+
+-- WHAT ITS LOG TELLS is the same once it knows
+own_shut : (t : OcrTerms) (worker n : ℕ) (v : OcrView) (o : Option run.Stop) → MatchOption o (Unit {0}) (IsOwnStop t worker v) → MatchOption o (Unit {0}) (IsOwnStop t worker (shut_by v n))
+own_shut t worker n v None own = tt
+own_shut t worker n v (Some (by.Events w k)) own = own
+own_shut t worker n v (Some by.Objects) own = record { edt = own.edt; call = own.call; known = own.known; few = own.few; reached = own.reached }
+own_shut t worker n v (Some other) own = tt
+
+left_as : (table : OcrTable) (worker : ℕ) (old new : OcrKnown) (v : OcrView) → new.table ≡ old.table → new.view ≡ v → HasLeft table worker old → v.terms ≡ old.view.terms → v.drawn ≡ old.view.drawn → v.log ≡ old.view.log → v.weight ≡ old.view.weight
+    → MatchOption (stop_in v.log) (Unit {0}) (IsOwnStop table.1 worker v) → HasLeft table worker new
+left_as table worker old new v same is left terms drawn log weight own =
+    subst (λ (w : OcrView). HasLeft table worker (record new { view = w })) (sym is) (record {
+      of_table = (same ∙ left.of_table.0, terms ∙ left.of_table.1);
+      few = subst (λ (ns : List ℕ). length ns ≤ 3) (sym drawn) left.few;
+      weighs = weight ∙ (left.weighs ∙ ap (λ (l : List (ℕ × Entry)). load_of weight_of l) (sym log));
+      light = subst (λ (k : ℕ). k ≤ table.1.share) (sym weight) left.light;
+      own = own;
+    })
+
+pub left_told : (table : OcrTable) (worker n : ℕ) (old new : OcrKnown) → ClosedBy meaning n old new → HasLeft table worker old → HasLeft table worker new
+left_told table worker n old new told left = by_answer old.view.closed told.2
+  where
+    by_answer : (o : Option ℕ) → MatchOption o ((new.view ≡ shut_by old.view n) × SeesEnd meaning new.view) (λ w. (w ≡ n) × (new.view ≡ old.view)) → HasLeft table worker new
+    by_answer None is = left_as table worker old new (shut_by old.view n) told.1.0 is.0 left refl refl refl refl (own_shut table.1 worker n old.view (stop_in old.view.log) left.own)
+    by_answer (Some w) is = left_as table worker old new old.view told.1.0 is.1 left refl refl refl refl left.own

@@ -1,8 +1,5 @@
-use Rattle.std.proofs.Common.{ap, sym, ◌∙◌, subst}
-use lib.ListN.{get_elem?}
-use Rattle.ocr_facts.specs.Clerks.{OcrView}
-use Rattle.ocr_delivering.proofs.Owed.{owed_leave}
-use Rattle.ocr_delivering.specs.Delivering.{SatisfiesEvent, SetsSlot}
+use Rattle.std.proofs.Common.{sym, subst}
+use Rattle.ocr_delivering.specs.Delivering.{LeavesScope, SatisfiesEvent, SetsSlot}
 use Rattle.ocr_delivering.proofs.Delivered.{on_ok, pushes_none}
 use Rattle.ocr_delivering.proofs.delivering.deliver_owed.Goals as goal
 
@@ -30,12 +27,16 @@ pub returns-in-Satisfy-clause-pushed : goal.returns-in-Satisfy-clause-pushed
 returns-in-Satisfy-clause-pushed g c =
     on_ok c.deliver_satisfaction.result _ _ (pushes_none c.args.clerk.now c.deliver_satisfaction.new.clerk c.args.hand.now) c.deliver_satisfaction.ensures.lasts
 
-pub unreachable-requires : goal.unreachable-requires
-unreachable-requires g c =
-    let tells = c.in-None.ensures in
-    let t = c.args.job.now.turns.now.1 in
-    let terms = ap (λ (v : OcrView). v.terms) tells.2 ∙ c.requires.work.of_table.1 in
-    let open_run = ap (λ (v : OcrView). v.closed) tells.2 ∙ tells.0 in
-    let seen = tells.3 t terms open_run in
-    owed_leave t seen.0 c.look.new.clerk.view c.first_owed-message.result c.in-Leave.scope seen.1
-    (ap (λ (v : OcrView). get_elem? v.owed 0) tells.2 ∙ c.first_owed-message.ensures) c.in-Leave.is
+pub deliver_leave-requires-clause-owed : goal.deliver_leave-requires-clause-owed
+deliver_leave-requires-clause-owed g c = (0, c.first_owed-message.ensures)
+
+pub deliver_leave-requires-clause-leaves : goal.deliver_leave-requires-clause-leaves
+deliver_leave-requires-clause-leaves g c = subst LeavesScope (sym c.in-Leave.is) tt
+
+pub returns-in-Leave-clause-delivered : goal.returns-in-Leave-clause-delivered
+returns-in-Leave-clause-delivered g c =
+    on_ok c.deliver_leave.result _ _ (λ it. (c.first_owed-message.result, c.first_owed-message.ensures, it)) c.deliver_leave.ensures.delivered
+
+pub returns-in-Leave-clause-pushed : goal.returns-in-Leave-clause-pushed
+returns-in-Leave-clause-pushed g c =
+    on_ok c.deliver_leave.result _ _ (pushes_none c.args.clerk.now c.deliver_leave.new.clerk c.args.hand.now) c.deliver_leave.ensures.lasts

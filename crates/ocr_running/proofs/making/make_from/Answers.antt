@@ -6,8 +6,8 @@ use Rattle.ocr_meaning.specs.declared.call.Call as body
 use Rattle.ocr_parts.specs.Codes.{code_of}
 use Rattle.ocr_parts.specs.Taken.{face_in}
 use Rattle.ocr_clerks.specs.Entering.{OcrKnown}
-use Rattle.ocr_running.specs.Calls.{IsAnswer, IsCoded, faces_of}
-use Rattle.ocr_running.specs.Running.{HasLifted, IsCalled, Runs, drawn_for, holds_at, places_made}
+use Rattle.ocr_running.specs.Calls.{IsAnswer, IsCoded, drawn_for, faces_of}
+use Rattle.ocr_running.specs.Running.{HasLifted, IsCalled, Runs, holds_at, home_at, places_made}
 use Rattle.ocr_running.specs.Serving.{own_log}
 use Rattle.ocr_running.proofs.Asked.{faces_few}
 use Rattle.ocr_running.proofs.Coded.{covers}
@@ -32,10 +32,10 @@ answer-requires g c = λ κs within.
     let e = c.in_ok-asked.ensures in let asked = c.in_ok-asked.asked in let mid = c.ask.new.clerk in
     let runs = subst (λ (k : OcrKnown). Runs t c.args.edt g.s.0 k) r.0 r.1.1.0 in
     let next = subst (λ (k : OcrKnown). IsNextWith call (private_of call (holds_at g.s.1)) (says g.s.0 (own_log k.view.log c.args.edt))) r.0 r.1.1.1.0 in
-    let lifted : HasLifted t c.args.edt g.s.1 mid (faces_of L call) [] asked.parts.items = subst (λ (k : OcrKnown). HasLifted t c.args.edt k mid (faces_of L call) [] asked.parts.items) (sym r.0) e.lifted in
-    let few : length asked.places.items ≤ 34 = (
+    let lifted : HasLifted t c.args.edt g.s.1 mid (faces_of L asked.home call) [] asked.parts.items = subst (λ (k : OcrKnown). HasLifted t c.args.edt k mid (faces_of L asked.home call) [] asked.parts.items) (sym r.0) e.lifted in
+    let few : length asked.places.items ≤ 35 = (
     let wants = call_few c.args.job.now.turns.now c.args.job.now.program.now c.args.clerk.now c.args.edt g.s.0 call (private_of call (holds_at g.s.1)) r.1.0 runs next in
-    let faces = faces_few L call wants in let long = ap (λ (l : List ℕ). length l) e.places in omega (arith, faces, long)
+    let faces = faces_few L asked.home call wants in let long = ap (λ (l : List ℕ). length l) e.places in omega (arith, faces, long)
     ) in (
       within.0,
       (
@@ -49,9 +49,9 @@ answer-requires g c = λ κs within.
               (
                 few,
                 (
-                  subst (λ (k : body.Call). HasLifted t c.args.edt g.s.1 mid (faces_of L k) [] asked.parts.items) (sym e.call) lifted,
+                  subst (λ (k : body.Call). HasLifted t c.args.edt g.s.1 mid (faces_of L asked.home k) [] asked.parts.items) (sym e.call) lifted,
                   (
-                    e.places ∙ ap (λ (k : body.Call). (L + c.args.edt) ∷ faces_of L k) (sym e.call),
+                    e.places ∙ ap (λ (k : body.Call). (L + c.args.edt) ∷ faces_of L asked.home k) (sym e.call),
                     e.code ∙ ap (λ (k : body.Call). code_of c.args.edt (face_in L asked.parts.items) k) (sym e.call),
                   ),
                 ),
@@ -67,10 +67,10 @@ enter_asked-requires g c = λ κs within.
     let r = c.requires.1.1 in let t = c.args.job.now.turns.now.1 in let L = t.limit in let call = c.args.call.now in
     let e = c.in_ok-asked.ensures in let asked = c.in_ok-asked.asked in let mid = c.ask.new.clerk in
     let f = c.in_ok-given.ensures in let given = c.in_ok-given.given in let now = c.answer.new.asked in let new = c.answer.new.clerk in
-    let same : now.call ≡ call = f.same ∙ e.call in
-    let lifted : HasLifted t c.args.edt g.s.1 mid (faces_of L call) [] asked.parts.items = subst (λ (k : OcrKnown). HasLifted t c.args.edt k mid (faces_of L call) [] asked.parts.items) (sym r.0) e.lifted in
-    let more = code_more L c.args.edt call asked.parts.items now.parts.items
-    (covers c.args.job.now.turns.now c.args.job.now.program.now c.args.edt g.s.0 g.s.1 mid call asked.parts.items e.work r.1.1.0 lifted) f.more in (
+    let same : now.call ≡ call = f.same.0 ∙ e.call in
+    let lifted : HasLifted t c.args.edt g.s.1 mid (faces_of L asked.home call) [] asked.parts.items = subst (λ (k : OcrKnown). HasLifted t c.args.edt k mid (faces_of L asked.home call) [] asked.parts.items) (sym r.0) e.lifted in
+    let more = code_more L c.args.edt asked.home call asked.parts.items now.parts.items
+    (covers c.args.job.now.turns.now c.args.job.now.program.now c.args.edt g.s.0 g.s.1 mid asked.home call asked.parts.items e.work r.1.1.0 lifted) f.more in (
       within.0,
       (
         within.1,
@@ -79,18 +79,23 @@ enter_asked-requires g c = λ κs within.
           (
             r.1.1.0,
             (
-              subst (λ (k : body.Call). HasLifted t c.args.edt g.s.1 new (faces_of L k ++ places_made L k given) (drawn_for k given) now.parts.items) (sym f.same) f.lifted,
+              subst (λ (h : ℕ). HasLifted t c.args.edt g.s.1 new (faces_of L h now.call ++ places_made L now.call given) (drawn_for now.call given) now.parts.items) (sym f.same.1)
+                  (subst (λ (k : body.Call). HasLifted t c.args.edt g.s.1 new (faces_of L asked.home k ++ places_made L k given) (drawn_for k given) now.parts.items) (sym f.same.0) f.lifted),
               (
                 f.places
-                    ∙ (ap (λ (l : List ℕ). l ++ places_made L asked.call given) (e.places ∙ ap (λ (k : body.Call). (L + c.args.edt) ∷ faces_of L k) (sym e.call))
-                    ∙ ap (λ (k : body.Call). (L + c.args.edt) ∷ (faces_of L k ++ places_made L k given)) (sym f.same)),
+                    ∙ (ap (λ (l : List ℕ). l ++ places_made L asked.call given) (e.places ∙ ap (λ (k : body.Call). (L + c.args.edt) ∷ faces_of L asked.home k) (sym e.call))
+                    ∙ (ap (λ (k : body.Call). (L + c.args.edt) ∷ (faces_of L asked.home k ++ places_made L k given)) (sym f.same.0)
+                    ∙ ap (λ (h : ℕ). (L + c.args.edt) ∷ (faces_of L h now.call ++ places_made L now.call given)) (sym f.same.1))),
                 (
                   subst (λ (k : body.Call). IsNextWith k (private_of k (holds_at g.s.1)) (says g.s.0 (own_log g.s.1.view.log c.args.edt))) (sym same) r.1.1.1.0,
                   (
-                    subst IsCoded (sym same) r.1.1.1.1,
+                    f.same.1 ∙ (e.home ∙ (λ i. home_at (sym r.0 i) (sym same i))),
                     (
-                      subst (λ (k : body.Call). IsAnswer new.view k given) (sym f.same) f.answer,
-                      f.code ∙ (e.code ∙ (sym more ∙ ap (λ (k : body.Call). code_of c.args.edt (face_in L now.parts.items) k) (sym same))),
+                      subst IsCoded (sym same) r.1.1.1.1,
+                      (
+                        subst (λ (k : body.Call). IsAnswer new.view k given) (sym f.same.0) f.answer,
+                        f.code ∙ (e.code ∙ (sym more ∙ ap (λ (k : body.Call). code_of c.args.edt (face_in L now.parts.items) k) (sym same))),
+                      ),
                     ),
                   ),
                 ),
@@ -104,4 +109,4 @@ enter_asked-requires g c = λ κs within.
 pub returns-clause-called : goal.returns-clause-called
 returns-clause-called g c =
     let f = c.in_ok-given.ensures in let e = c.in_ok-asked.ensures in
-    subst (λ (k : body.Call). IsCalled c.args.edt k c.in_ok-given.given g.s.1 c.enter_asked.new.clerk) (f.same ∙ e.call) c.in_ok-enter_asked.ensures.called
+    subst (λ (k : body.Call). IsCalled c.args.edt k c.in_ok-given.given g.s.1 c.enter_asked.new.clerk) (f.same.0 ∙ e.call) c.in_ok-enter_asked.ensures.called

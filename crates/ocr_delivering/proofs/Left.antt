@@ -1,0 +1,95 @@
+-- What a clerk is while it delivers a message that leaves a scope.
+use Rattle.std.proofs.Common.{◌≡◌, ℕ, ◌+◌, ◌≤◌, true, if◌then◌else◌, List, [], ◌∷◌, ◌++◌, reverse, Option, None, refl, ap, sym, ◌∙◌, subst, arith}
+use Rattle.std.proofs.lemmas.List.{append-nil}
+use Rattle.std.proofs.lemmas.List.Elements.{All-cons, All-nil}
+use mathlib.Core.Option.{some}
+use lib.ListN.{get_elem?}
+use Rattle.ocr_code.specs.Checked.{checked_tree}
+use Rattle.ocr_code.specs.declared.checked.Checked.{Checked}
+use Rattle.ocr_tree.specs.Runnable.{IsRunnable}
+use Rattle.ocr_guid.specs.declared.Code.{Code}
+use Rattle.ocr_guid.specs.declared.Code.TheVariants as code
+use Rattle.ocr_meaning.specs.Holds.{is_done}
+use Rattle.ocr_history.specs.declared.entry.Entry.{Entry}
+use Rattle.ocr_history.specs.declared.entry.Entry.TheVariants.{Deliver}
+use Rattle.ocr_history.specs.declared.entry.Message.{Message}
+use Rattle.ocr_history.specs.declared.entry.What.{What}
+use Rattle.ocr_history.specs.declared.entry.What.TheVariants as what
+use Rattle.ocr_parts.specs.LegalOn.{delivery_code}
+use Rattle.ocr_parts.specs.Messages.{sends, sent_by_leave, sent_by_message}
+use Rattle.ocr_parts.specs.Parts.{parts_of}
+use Rattle.ocr_parts.specs.Taken.{as_face, face_in, has, is_within, parts_in}
+use Rattle.ocr_parts.specs.declared.part.Part.{Part}
+use Rattle.ocr_facts.specs.Clerks.{MayEnter, OcrView, OwesLeave, of_terms}
+use Rattle.ocr_facts.specs.Ocr.{ends, meaning, set_by, starts, touches}
+use Rattle.ocr_facts.proofs.Owed.{knows_member, leave_law}
+use Rattle.ocr_facts.proofs.Slots.{number_same}
+use Rattle.ocr_turns.specs.Contract.{LookTells}
+use Rattle.ocr_turns.specs.Rule.{Fits, RunsIn}
+use Rattle.ocr_turns.specs.Counting.{leaves}
+use Rattle.ocr_turns.specs.Owing.{listed, without_all}
+use Rattle.ocr_turns.specs.Steps.{SeesBoth, deed, logged}
+use Rattle.ocr_turns.specs.Sums.{as_some, keys, one_at, weigh}
+use Rattle.ocr_turns.proofs.Histories.{ran}
+use Rattle.ocr_turns.proofs.Numbered.{weigh_keys}
+use Rattle.ocr_turns.proofs.Totals.{one_most}
+use Rattle.ocr_clerks.specs.Entering.{CanMake, OcrKnown}
+use Rattle.ocr_clerks.specs.Work.{AtWork, EntersAs, EntersKept, HasAllAtHand, IsIdle, KeepsLoose, OcrTable, Took, in_hand, lifted}
+use Rattle.ocr_clerks.proofs.Entries.{turns_keys}
+use Rattle.ocr_clerks.proofs.Hands.{in_hand_some, lifted_keys, some_keys}
+use Rattle.ocr_clerks.proofs.Seen.{face_is, within_bounds}
+use Rattle.ocr_clerks.proofs.Whole.{entered_whole}
+use Rattle.ocr_delivering.proofs.Faced.{fitting, owed_now, runnable_now, took_at_hand, took_here}
+use Rattle.ocr_delivering.specs.Delivering.{Answers, Delivers, IsOwed, OwesTo}
+
+-- A DELIVERY to a scope names it alone
+named_scope : (limit : ℕ) (m : Message) (c : Code) (x p : ℕ) → m.what ≡ what.Leave x → is_within limit x ≡ true → touches limit (Deliver m c) p ≡ one_at p x + 0
+named_scope limit m c x p brings within =
+    subst (λ (y : What). touches limit (Deliver (record m { what = y }) c) p ≡ one_at p x + 0) (sym brings) (rw within refl)
+
+-- THE SCOPE is an object, as a look tells
+pub scope_within : (table : OcrTable) (p : Checked) (old looked : OcrKnown) (x : ℕ) → AtWork table p old → OwesLeave old.view x → LookTells meaning None old looked → is_within table.1.limit x ≡ true
+scope_within table p old looked x work owes tells =
+    let terms = ap (λ (v : OcrView). v.terms) tells.2 ∙ work.of_table.1 in
+    let open_run = ap (λ (v : OcrView). v.closed) tells.2 ∙ tells.0 in
+    let seen = tells.3 table.1 terms open_run in
+    let owes_now = subst (λ (v : OcrView). OwesLeave v x) (sym tells.2) owes in
+    (knows_member table.1 looked.view seen.0 x owes_now seen.1).within
+
+abbrev pub left_code : List (ℕ × Part) → Code
+left_code ps = code.Done
+
+-- SUCH A DELIVERY to the face of a scope
+module _ (old mid : OcrKnown) (scope : ℕ) (idle : IsIdle old) (took : Took old mid (scope ∷ [])) (table : OcrTable) (p : Checked) (m : Message) (work : AtWork table p mid) (owed : IsOwed m old.view) (within : is_within table.1.limit scope ≡ true) (brings : m.what ≡ what.Leave scope) where
+  pub names_scope : (c : Code) (n : ℕ) → touches table.1.limit (Deliver m c) n ≡ one_at n scope + 0
+  names_scope c n = named_scope table.1.limit m c scope n brings within
+
+  pub leaves_none : listed (set_by m.what) ≡ []
+  leaves_none = ap (λ (x : What). listed (set_by x)) brings
+
+  pub may_leave : MayEnter table.1 mid.view (Deliver m code.Done) [] took.parts
+  may_leave = leave_law table.1 mid.view m scope took.parts (record {
+    runnable = runnable_now old mid scope idle took table p m work owed within;
+    owed = owed_now old mid scope idle took table p m work owed within;
+    brings = brings;
+    fitting = fitting old mid scope idle took table p m work owed within;
+    at_hand = took_at_hand old mid scope idle took table p m work owed within;
+    here = took_here old mid scope idle took table p m work owed within;
+  })
+
+  -- WHAT IT ANSWERS, by the face after a history that fits
+  pub answers_scope : (ps : List (ℕ × Part)) (sent : List What) → sent ≡ sends (Deliver m code.Done) (parts_in table.1.limit ps)
+      → (J : List Entry) × Fits meaning table.1 J old.view × Fits meaning table.1 J mid.view × (face_in table.1.limit ps scope ≡ (parts_of (of_terms table.1) (reverse J)).face scope)
+      → Answers table.1 old.view m.what code.Done sent
+  answers_scope ps sent sends_are seen =
+      let here = owed_now old mid scope idle took table p m work owed within in
+      let owes = subst (λ (x : What). get_elem? mid.view.owed here.0 ≡ some (m.place, m.index, x)) brings here.1 in
+      subst (λ (x : What). Answers table.1 old.view x code.Done sent) (sym brings) (
+        seen.0,
+        seen.1,
+        record {
+          member = (knows_member table.1 mid.view seen.0 scope (here.0, m.place, m.index, owes) seen.2).member;
+          code = refl;
+          sends = sends_are ∙ (ap (λ (x : What). sent_by_message x (parts_in table.1.limit ps)) brings ∙ ap sent_by_leave seen.3);
+        },
+      )
