@@ -35,6 +35,8 @@ pub struct Block {
     size: u32,
     // none while they are on loan
     words: Vec<u64>,
+    // the marks for loans in EW, all clear; a loan that stores makes them
+    marks: Vec<u8>,
     // who has the words on loan
     borrower: Option<Guid>,
     holders: Vec<(Guid, Mode)>,
@@ -46,6 +48,7 @@ impl Model for Block {
     ghost use Rattle.std.specs.Prelude.{◌≡◌, ◌≤◌, length, None};
     ghost use Rattle.ocr_datablock.specs.declared.datablock.TheConstants.{MOST_WORDS};
     ghost use Rattle.ocr_datablock.specs.Block.{State, GoTogether, IsLentTo};
+    ghost use Rattle.ocr_datablock.specs.Replaced.{AreClear};
 
     ghost Value = { State };
 
@@ -60,7 +63,8 @@ impl Model for Block {
 
     ghost invariant = { λ b. (b.size ≤ MOST_WORDS)
         × (b.borrower ≡ None → length b.words.items ≡ b.size)
-        × GoTogether b.holders.items × IsLentTo b.borrower b.holders.items };
+        × GoTogether b.holders.items × IsLentTo b.borrower b.holders.items
+        × AreClear b.marks.items };
 }
 
 impl Block {
@@ -79,6 +83,7 @@ impl Block {
         Ok(Block {
             size: words,
             words: zeros,
+            marks: Vec::new(alloc),
             borrower: None,
             holders,
             queue: Vec::new(alloc),
@@ -241,10 +246,11 @@ impl Block {
         ensures loan { result ≡ loan_from self.old Ew }
         ensures state { self.new ≡ after_lend self.old edt }
     {
-        let none = Vec::new(*self.words.allocator());
-        let words = std::mem::replace(&mut self.words, none);
+        let alloc = *self.words.allocator();
+        let words = std::mem::replace(&mut self.words, Vec::new(alloc));
+        let marks = std::mem::replace(&mut self.marks, Vec::new(alloc));
         self.borrower = Some(edt);
-        Lent::new(Mode::Ew, words)
+        Lent::new(Mode::Ew, words, marks)
     }
 
     /// Lends a copy of the words to an EDT that holds the block in `Const`.
@@ -255,7 +261,7 @@ impl Block {
         ensures state { self.new ≡ self.old }
     {
         let words = Vec::from_slice(alloc, &self.words)?;
-        Ok(Lent::new(Mode::Const, words))
+        Ok(Lent::new(Mode::Const, words, Vec::new(alloc)))
     }
 
     /// Takes a loan back. The words of the block are those of a loan in `Ew`; a loan in `Const`
@@ -269,7 +275,9 @@ impl Block {
         ensures copy { lent.mode ≡ Const → self.new ≡ self.old }
     {
         if lent.mode() == Mode::Ew {
-            self.words = lent.into_words();
+            let (words, marks) = lent.into_words();
+            self.words = words;
+            self.marks = marks;
             self.borrower = None;
         }
     }
@@ -284,7 +292,9 @@ impl Block {
         if lent.mode() != Mode::Ew {
             return;
         }
-        self.words = lent.into_written(writes);
+        let (words, marks) = lent.into_written(writes);
+        self.words = words;
+        self.marks = marks;
         self.borrower = None;
     }
 }

@@ -8,4 +8,4 @@ invariant_of-self-then-grantable c =
     let kept = c.self.invariant in
     let can : is_grantable c.args.self.now c.args.mode ≡ true = sym c.grantable.ensures ∙ c.if-grantable.true in
     let after = lent_granted _ _ _ c.args.edt c.args.mode (rw (← c.self.view_is) at can) kept.2 kept.3 in
-    (kept.0, kept.1, rw c.in_ok-push.ensures.items after.0, rw c.in_ok-push.ensures.items after.1)
+    (kept.0, kept.1, rw c.in_ok-push.ensures.items after.0, rw c.in_ok-push.ensures.items after.1, kept.4)

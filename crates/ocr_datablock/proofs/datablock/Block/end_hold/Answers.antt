@@ -16,4 +16,4 @@ invariant_of-self c =
     let now : Line = record { holders = c.self.inside.holders.items; queue = c.self.inside.queue.items } in
     let after = lent_passed c.self.inside.borrower c.args.destroyed now c.args.edt (rw (← c.self.view_is) at c.requires) kept.2 kept.3 in
     let holders : c.pass_on.new.holders.items ≡ (line_after_grants c.args.destroyed (line_without c.args.edt now)).holders = search rules in
-    (kept.0, kept.1, rw holders after.0, rw holders after.1)
+    (kept.0, kept.1, rw holders after.0, rw holders after.1, kept.4)

@@ -1,9 +1,21 @@
-use Rattle.std.proofs.Common.{◌<◌, length, arith, rules}
-use Rattle.ocr_acquire.proofs.Writes.{rises_put, within_put}
+use Rattle.std.proofs.Common.{◌≡◌, ◌<◌, length, arith, ◌∙◌, refl}
+use Rattle.std.proofs.lemmas.Bool.Decides.{nat_tests}
+use Rattle.ocr_acquire.proofs.Writes.{length_written}
+use Rattle.ocr_acquire.specs.Writes.{written}
+use Rattle.ocr_datablock.specs.Replaced.{times}
+use Rattle.ocr_datablock.proofs.Replaced.{told_in, stored_again}
 use Rattle.ocr_datablock.proofs.loan.Lent.store.Goals as goal
 
-pub invariant_of-self-2 : goal.invariant_of-self-2
-invariant_of-self-2 c =
-    let kept = c.self.invariant in
-    let below : c.args.word < length c.self.inside.began.items = search rules in
-    (kept.0, rw c.in_ok-put_value.ensures.put (rises_put 0 _ _ _ (omega arith) kept.1), rw c.in_ok-put_value.ensures.put (within_put _ _ _ _ below kept.2), c.put_value.ensures.room, λ h. cc)
+pub store_first-requires-clause-first : goal.store_first-requires-clause-first
+store_first-requires-clause-first c =
+    let none : times c.args.word c.self.inside.replaced.items ≡ 0 = grind (arith, nat_tests, c.self.invariant.1.counted c.args.word) in
+    rw (← c.self.view_is) (told_in c.self.inside.words.items c.args.word c.self.inside.replaced.items ∙ rw none refl)
+
+pub returns-clause-state : goal.returns-clause-state
+returns-clause-state c =
+    let words = c.self.inside.words.items in
+    let replaced = c.self.inside.replaced.items in
+    let size : length (written replaced words) ≡ length words = length_written replaced words in
+    let below : c.args.word < length words = grind arith in
+    let some : 0 < times c.args.word replaced = grind (arith, nat_tests, c.self.invariant.1.counted c.args.word) in
+    rw (← c.self.view_is) (stored_again c.self.inside.mode replaced words c.self.inside.is_listed c.args.word c.args.value below some)
