@@ -5,9 +5,7 @@ pub mod Kept
 pub mod Judging
 pub mod Texts
 pub mod Parts
-pub mod Outputs
 pub mod Outcomes
 pub mod Programs
 pub mod Rulesets
 pub mod Stops
-pub mod Unbuilt

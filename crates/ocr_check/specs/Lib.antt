@@ -1,4 +1,3 @@
 pub mod Check
 pub mod Checking
 pub mod Names
-pub mod Unbuilt

@@ -3,7 +3,6 @@ use Rattle.std.proofs.Common.{◌≡◌, ◌≤◌, ◌<◌, ◌+◌, ◌++◌, 
 use Rattle.std.specs.Prelude.{slice_index_or}
 use Rattle.std.proofs.lemmas.Bool.{and_parts, cond_both, leb-true}
 use Rattle.std.proofs.lemmas.List.{append-nil}
-use Rattle.ocr_tree.specs.Built.{is_call_built, is_creation_without_output}
 use Rattle.ocr_tree.specs.Constant.{value_of}
 use Rattle.ocr_tree.specs.Each.{is_each_call, is_each_call_of_all, is_each_call_in, is_each_call_in_all, is_each_call_of}
 use Rattle.ocr_tree.specs.Functions.{statements_at, number_named, numbers_in}
@@ -12,7 +11,7 @@ use Rattle.ocr_tree.specs.Tree as tree
 use Rattle.ocr_tree.specs.Tree.{Expression, Arguments, Statement, Statements, FunctionTree, names_in}
 use Rattle.ocr_meaning.specs.Behaviour.{Behaviour, Ends, Stops, Asks, Asked, after, after_answer}
 use Rattle.ocr_meaning.specs.Body.{behaviour}
-use Rattle.ocr_meaning.specs.Laws.{IsServed, IsBuilt, MakesOnly, ServedLaw, BuiltLaw}
+use Rattle.ocr_meaning.specs.Laws.{IsServed, MakesOnly, ServedLaw}
 use Rattle.ocr_meaning.specs.Meaning.{Frame, State, Value, Given, nothing_given, with_value, with_list, is_output, state_after_answer, spend, with_variable, unary_value, call_of, outputs_of, made_step, eval, eval_all, turns, print_step, exec, exec_all}
 use Rattle.ocr_meaning.specs.declared.call.Answer.{Answer}
 use Rattle.ocr_meaning.specs.declared.call.Call.{Call}
@@ -178,15 +177,6 @@ served_calls program params depv name.EdtCreate xs g named short follows =
     two_within 16 g.lists (subst (λ (ls : List (List ℕ)). AreWithin 16 ls) (sym found.1) found.2)
 served_calls program params depv other xs g named short follows = tt
 
-no_output : (xs : Arguments) → is_creation_without_output xs ≡ true → is_output (names_in xs) ≡ false
-no_output (tree.value t (tree.value c (tree.list ps (tree.value d (tree.list ds (tree.value f tree.empty)))))) is = refl
-no_output other is = cc is
-
-built_calls : (f : Frame) (made : CallName) (xs : Arguments) (g : Given) → is_call_built made xs ≡ true → is_call_built made xs ≡ true
-    → Follows xs nothing_given g → IsAsked IsBuilt (call_of f made xs g)
-built_calls f name.EdtCreate xs g is also follows = no_output xs is
-built_calls f other xs g is also follows = tt
-
 pub served_law : ServedLaw
 served_law b log named short =
     let IsSuch : Call → Type 0 = IsServed (length b.program) in
@@ -194,11 +184,3 @@ served_law b log named short =
     (exec_all_makes
     (framed b.program b.params b.depv) IsSuch (is_function_named b.program) is_list_short (served_calls b.program b.params b.depv) (λ v. tt)
     (statements_at b.program b.function) _ _ (statements_each _ b.program b.function named) (statements_each _ b.program b.function short) (λ st. tt))
-
-pub built_law : BuiltLaw
-built_law b log built =
-    let each = statements_each is_call_built b.program b.function built in
-    after_makes IsBuilt log (behaviour b)
-    (exec_all_makes
-    (framed b.program b.params b.depv) IsBuilt is_call_built is_call_built (built_calls (framed b.program b.params b.depv)) (λ v. tt)
-    (statements_at b.program b.function) _ _ each each (λ st. tt))

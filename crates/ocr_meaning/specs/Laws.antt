@@ -1,6 +1,5 @@
 -- What all bodies do, and how much a body can do.
 use Rattle.std.specs.Prelude.{◌≡◌, ◌≤◌, ◌<◌, ℕ, List, [], ◌∷◌, length, true, false}
-use Rattle.ocr_tree.specs.Built.{are_built}
 use Rattle.ocr_tree.specs.Rules.{are_functions_named, are_lists_short}
 use Rattle.ocr_meaning.specs.Behaviour.{Behaviour, Ends, Stops, Asks, Asked, IsNext, IsTrace}
 use Rattle.ocr_meaning.specs.Body.{Body, behaviour, says}
@@ -28,14 +27,6 @@ IsServed functions call.Shutdown = ⊥
 IsServed functions (call.Abort code) = ⊥
 IsServed functions other = Unit {0}
 
--- a call that rule 8 lets through: all but the creation of an EDT with an output event. A shutdown
--- and an abort are no calls but stops
-abbrev pub IsBuilt : body.Call → Type 0
-IsBuilt (call.EdtCreate template paramc params depc deps flags output) = output ≡ false
-IsBuilt call.Shutdown = ⊥
-IsBuilt (call.Abort code) = ⊥
-IsBuilt other = Unit {0}
-
 -- the body makes such calls alone, and then ends, or stops for a cause of its own, whatever the
 -- answers
 abbrev pub MakesOnly : (body.Call → Type 0) → Behaviour → Type 0
@@ -50,11 +41,6 @@ abbrev pub ServedLaw : Type 0
 ServedLaw = (b : Body) (log : List Asked) → are_functions_named b.program ≡ true
     → are_lists_short b.program ≡ true
     → MakesOnly (IsServed (length b.program)) (says b log)
-
--- a body of a program that rule 8 lets through makes only calls that it lets through
-abbrev pub BuiltLaw : Type 0
-BuiltLaw = (b : Body) (log : List Asked) → are_built b.program ≡ true
-    → MakesOnly IsBuilt (says b log)
 
 -- what a body holds after these calls, but for what it stored there itself
 abbrev pub held_after : List Asked → Holds → Holds

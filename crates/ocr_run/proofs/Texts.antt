@@ -1,20 +1,17 @@
 -- Bytes are at most one program, have at most one fault, and never both.
-use Rattle.std.proofs.Common.{◌≡◌, ℕ, List, true, sym, ap, subst}
+use Rattle.std.proofs.Common.{◌≡◌, ℕ, List, sym, ap, subst}
 use Rattle.ocr_text.specs.Tokens.{AreTokens}
 use Rattle.ocr_text.proofs.Laws.{tokens_law}
 use Rattle.ocr_text.specs.declared.token.Token.{Token}
-use Rattle.ocr_tree.specs.Built.{are_built}
 use Rattle.ocr_tree.specs.Tree.{FunctionTree}
 use Rattle.ocr_grammar.specs.Lexing.{IsTreeOf, IsSyntaxFault}
 use Rattle.ocr_program.proofs.One as parsing
 use Rattle.ocr_check.specs.Check.{IsBreach, BreaksNoRule}
 use Rattle.ocr_check.proofs.First.{breach_is_one}
-use Rattle.ocr_check.proofs.Unbuilt.{unbuilt_is_one, no_unbuilt}
-use Rattle.ocr_check.specs.Unbuilt.{IsUnbuilt}
 use Rattle.ocr_check.specs.declared.rules.CheckFault.{CheckFault}
 use Rattle.ocr_run.specs.declared.text.TextFault.{TextFault}
 use Rattle.ocr_run.specs.declared.text.TextFault.TheVariants as fault
-use Rattle.ocr_run.specs.ProgramText.{IsNoProgram, no_tokens, no_tree, breaks_rule, not_built, TextLaw}
+use Rattle.ocr_run.specs.ProgramText.{IsNoProgram, no_tokens, no_tree, breaks_rule, TextLaw}
 
 -- a tree of other tokens of the same bytes is a tree of these
 tree_here : (bytes : List ℕ) (tokens others : List Token) (program : List FunctionTree) → AreTokens bytes tokens → AreTokens bytes others
@@ -32,16 +29,13 @@ same_program : (bytes : List ℕ) (tokens others : List Token) (program other : 
 same_program bytes tokens others program other are those tree another =
     parsing.same_tree bytes tokens program other tree (tree_here bytes tokens others other are those another)
 
-no_fault : (bytes : List ℕ) (program : List FunctionTree) (tokens : List Token) → BreaksNoRule program → are_built program ≡ true → AreTokens bytes tokens → IsTreeOf bytes tokens program
+no_fault : (bytes : List ℕ) (program : List FunctionTree) (tokens : List Token) → BreaksNoRule program → AreTokens bytes tokens → IsTreeOf bytes tokens program
     → (found : TextFault) → IsNoProgram bytes found → ⊥
-no_fault bytes program tokens sound built are tree found (no_tokens place is) = tokens_law.apart bytes tokens place are is
-no_fault bytes program tokens sound built are tree found (no_tree others place those is) =
+no_fault bytes program tokens sound are tree found (no_tokens place is) = tokens_law.apart bytes tokens place are is
+no_fault bytes program tokens sound are tree found (no_tree others place those is) =
     parsing.no_tree bytes tokens place program (fault_here bytes tokens others place are those is) tree
-no_fault bytes program tokens sound built are tree found (breaks_rule others other breach those another is) =
+no_fault bytes program tokens sound are tree found (breaks_rule others other breach those another is) =
     sound breach.rule breach.function (subst (λ (p : List FunctionTree). IsBreach p breach.rule breach.function) (sym (same_program bytes tokens others program other are those tree another)) is)
-no_fault bytes program tokens sound built are tree found (not_built others other breach those another keeps is) =
-    no_unbuilt program built breach.rule breach.function
-    (subst (λ (p : List FunctionTree). IsUnbuilt p breach.rule breach.function) (sym (same_program bytes tokens others program other are those tree another)) is)
 
 same_breach : (a b : CheckFault) → (a.rule ≡ b.rule) × (a.function ≡ b.function) → a ≡ b
 same_breach a b same = λ i. record { rule = same.0 i; function = same.1 i }
@@ -61,26 +55,10 @@ same_fault bytes found other (breaks_rule tokens program breach are tree is) (no
 same_fault bytes found other (breaks_rule tokens program breach are tree is) (breaks_rule others program2 breach2 those tree2 is2) =
     let same : program2 ≡ program = sym (same_program bytes tokens others program program2 are those tree tree2) in
     ap fault.Breach (same_breach breach breach2 (breach_is_one program breach.rule breach.function breach2.rule breach2.function is (subst (λ (p : List FunctionTree). IsBreach p breach2.rule breach2.function) same is2)))
-same_fault bytes found other (no_tokens place is) (not_built tokens program breach are tree keeps is2) = absurd (tokens_law.apart bytes tokens place are is)
-same_fault bytes found other (no_tree tokens place are is) (not_built others program breach those tree keeps is2) =
-    absurd (parsing.no_tree bytes tokens place program is (tree_here bytes tokens others program are those tree))
-same_fault bytes found other (not_built tokens program breach are tree keeps is) (no_tokens place2 is2) = absurd (tokens_law.apart bytes tokens place2 are is2)
-same_fault bytes found other (not_built tokens program breach are tree keeps is) (no_tree others place2 those is2) =
-    absurd (parsing.no_tree bytes tokens place2 program (fault_here bytes tokens others place2 are those is2) tree)
-same_fault bytes found other (breaks_rule tokens program breach are tree is) (not_built others program2 breach2 those tree2 keeps is2) =
-    let same : program2 ≡ program = sym (same_program bytes tokens others program program2 are those tree tree2) in
-    absurd (subst BreaksNoRule same keeps breach.rule breach.function is)
-same_fault bytes found other (not_built tokens program breach are tree keeps is) (breaks_rule others program2 breach2 those tree2 is2) =
-    let same : program2 ≡ program = sym (same_program bytes tokens others program program2 are those tree tree2) in
-    absurd (keeps breach2.rule breach2.function (subst (λ (p : List FunctionTree). IsBreach p breach2.rule breach2.function) same is2))
-same_fault bytes found other (not_built tokens program breach are tree keeps is) (not_built others program2 breach2 those tree2 keeps2 is2) =
-    let same : program2 ≡ program = sym (same_program bytes tokens others program program2 are those tree tree2) in
-    ap fault.Breach (same_breach breach breach2 (unbuilt_is_one program breach.rule breach.function breach2.rule breach2.function is
-    (subst (λ (p : List FunctionTree). IsUnbuilt p breach2.rule breach2.function) same is2)))
 
 pub text_law : TextLaw
 text_law = record {
   one_program = λ bytes program other is another. same_program bytes is.tokens another.tokens program other is.are_tokens another.are_tokens is.tree another.tree;
   one_fault = same_fault;
-  apart = λ bytes program found is none. no_fault bytes program is.tokens is.sound is.built is.are_tokens is.tree found none;
+  apart = λ bytes program found is none. no_fault bytes program is.tokens is.sound is.are_tokens is.tree found none;
 }

@@ -137,7 +137,7 @@ IsTooBig left_old left_new given_old given_new =
     Took left_old left_new given_old given_new (most_bytes + 1)
 
 -- all bytes were read, they are not too many, and this is the first thing that is wrong with them
-pub record IsNotBuilt (left_old left_new : Option (List ℕ)) (found : TextFault) : Type 0 where
+pub record IsFirstFault (left_old left_new : Option (List ℕ)) (found : TextFault) : Type 0 where
   pub bytes : List ℕ
   pub read : IsAllOf left_old left_new bytes
   pub size : length bytes ≤ most_bytes
@@ -148,19 +148,19 @@ abbrev pub IsRefusedText : List ℕ → Type 0
 IsRefusedText bytes = (most_bytes < length bytes) ⊎ ((found : TextFault) × IsNoProgram bytes found)
 
 -- the line that goes with a status
-pub data IsLine (too_big : Type 0) (not_built : TextFault → Type 0)
+pub data IsLine (too_big : Type 0) (is_fault : TextFault → Type 0)
     (journal : Option (List Entry)) : ℕ → List ℕ → Type 0 where
   of_run : (entries : List Entry) (status : ℕ) → journal ≡ Some entries
       → ending_of (history_of entries) ≡ status
-      → IsLine too_big not_built journal status (ending_line (history_of entries))
-  of_check : journal ≡ None → IsLine too_big not_built journal 0 []
-  words_refused : IsLine too_big not_built journal 2 (codes "words refused\n")
-  text_too_big : too_big → IsLine too_big not_built journal 3 (codes "text too big\n")
-  text_refused : (found : TextFault) → not_built found
-      → IsLine too_big not_built journal 3 (fault_line found)
-  read_fault : IsLine too_big not_built journal 7 (codes "read fault\n")
-  write_fault : IsLine too_big not_built journal 8 (codes "write fault\n")
-  want_of_memory : IsLine too_big not_built journal 9 (codes "want of memory\n")
+      → IsLine too_big is_fault journal status (ending_line (history_of entries))
+  of_check : journal ≡ None → IsLine too_big is_fault journal 0 []
+  words_refused : IsLine too_big is_fault journal 2 (codes "words refused\n")
+  text_too_big : too_big → IsLine too_big is_fault journal 3 (codes "text too big\n")
+  text_refused : (found : TextFault) → is_fault found
+      → IsLine too_big is_fault journal 3 (fault_line found)
+  read_fault : IsLine too_big is_fault journal 7 (codes "read fault\n")
+  write_fault : IsLine too_big is_fault journal 8 (codes "write fault\n")
+  want_of_memory : IsLine too_big is_fault journal 9 (codes "want of memory\n")
 
 -- a line was written: whole, or a front of it where a write failed
 pub record IsTold (old new : Option (List ℕ)) (fault : Type 0) (line : List ℕ) : Type 0 where

@@ -1,13 +1,11 @@
 -- Which bytes are a program, and why others are none.
-use Rattle.std.specs.Prelude.{◌≡◌, ◌≤◌, ℕ, List, length, true}
+use Rattle.std.specs.Prelude.{◌≡◌, ◌≤◌, ℕ, List, length}
 use Rattle.ocr_text.specs.Tokens.{AreTokens, IsFault}
 use Rattle.ocr_text.specs.declared.token.Token.{Token}
-use Rattle.ocr_tree.specs.Built.{are_built}
 use Rattle.ocr_tree.specs.Tree.{FunctionTree}
 use Rattle.ocr_grammar.specs.Lexing.{IsTreeOf, IsSyntaxFault}
 use Rattle.ocr_canonical.specs.Canonical.{program_text}
 use Rattle.ocr_check.specs.Check.{IsBreach, BreaksNoRule}
-use Rattle.ocr_check.specs.Unbuilt.{IsUnbuilt}
 use Rattle.ocr_check.specs.declared.rules.CheckFault.{CheckFault}
 use Rattle.ocr_run.specs.declared.text.TextFault.{TextFault}
 use Rattle.ocr_run.specs.declared.text.TextFault.TheVariants as fault
@@ -18,15 +16,14 @@ use Rattle.ocr_run.specs.declared.text.TextStop.TheVariants as stop
 abbrev pub most_bytes : ℕ
 most_bytes = 1048576
 
--- these bytes are this program: they have tokens, the tokens have this tree, the tree breaks no
--- rule, and all its calls are built
+-- these bytes are this program: they have tokens, the tokens have this tree, and the tree breaks no
+-- rule
 pub record IsProgramText (bytes : List ℕ) (program : List FunctionTree) : Type 0 where
   pub size : length bytes ≤ most_bytes
   pub tokens : List Token
   pub are_tokens : AreTokens bytes tokens
   pub tree : IsTreeOf bytes tokens program
   pub sound : BreaksNoRule program
-  pub built : are_built program ≡ true
 
 -- these bytes are a program, and this is its canonical text
 pub record IsCanonicalOf (bytes text : List ℕ) : Type 0 where
@@ -42,10 +39,6 @@ pub data IsNoProgram (bytes : List ℕ) : TextFault → Type 0 where
   breaks_rule : (tokens : List Token) (program : List FunctionTree) (breach : CheckFault)
       → AreTokens bytes tokens → IsTreeOf bytes tokens program
       → IsBreach program breach.rule breach.function
-      → IsNoProgram bytes (fault.Breach breach)
-  not_built : (tokens : List Token) (program : List FunctionTree) (breach : CheckFault)
-      → AreTokens bytes tokens → IsTreeOf bytes tokens program → BreaksNoRule program
-      → IsUnbuilt program breach.rule breach.function
       → IsNoProgram bytes (fault.Breach breach)
 
 -- why bytes gave no program: they are none, or memory was refused

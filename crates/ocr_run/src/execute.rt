@@ -1,6 +1,5 @@
 // From the bytes of a program to the output of its run.
-ghost use Rattle.std.specs.Prelude.{◌≡◌, ◌≤◌, IfOk, IfErr, length, true};
-ghost use Rattle.ocr_tree.specs.Built.{are_built};
+ghost use Rattle.std.specs.Prelude.{◌≡◌, ◌≤◌, IfOk, IfErr, length};
 ghost use Rattle.ocr_code.specs.Checked.{checked_tree};
 ghost use Rattle.ocr_history.specs.History as history;
 ghost use Rattle.ocr_history.specs.History.{history_of};
@@ -67,7 +66,6 @@ fn run_checked<R: Threads + Wait + Sync, G: Gate + Sync>(
     setting: &Setting,
     gate: &G,
 ) -> Result<Executed, NoMemory>
-    requires built { are_built (checked_tree setting.now.program) ≡ true }
     requires args { length setting.now.args.items ≤ 32 }
     requires options { AreWithin options }
     ensures ran { IfOk result (λ e. IsRunOf (checked_tree setting.now.program) options

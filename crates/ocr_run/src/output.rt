@@ -11,6 +11,7 @@ ghost use Rattle.ocr_report.specs.Stale as stales;
 ghost use Rattle.ocr_report.specs.Summary as summaries;
 ghost use Rattle.ocr_run.specs.Output.{asked_if, output_of};
 
+use itoa::Buffer;
 use ocr_base::NoMemory;
 use ocr_history::{Entry, Journal};
 use ocr_journal::journal_text;
@@ -47,18 +48,18 @@ fn prints(alloc: Global, entries: &[Entry]) -> Result<Vec<u8>, NoMemory>
 {
     let mut out = Vec::new(alloc);
     for entry in entries {
-        push_line(alloc, &mut out, entry)?;
+        push_line(&mut out, entry)?;
     }
     Ok(out)
 }
 
-fn push_line(alloc: Global, out: &mut Vec<u8>, entry: &Entry) -> Result<(), NoMemory>
+fn push_line(out: &mut Vec<u8>, entry: &Entry) -> Result<(), NoMemory>
     ensures { OnOk result (out.new.items ≡ out.old.items ++ line_of entry.now) }
 {
     if let Entry::Call { call, .. } = entry {
         if let Call::Print { value } = call {
-            let text = value.to_string(alloc)?;
-            out.extend_from_slice(text.as_bytes())?;
+            let mut buffer = Buffer::new();
+            out.extend_from_slice(buffer.format(*value).as_bytes())?;
             out.push(b'\n')?;
         }
     }

@@ -1,7 +1,6 @@
 // The program that a task text is.
-ghost use Rattle.std.specs.Prelude.{◌≡◌, ◌≤◌, IfOk, IfErr, OnOk, length, true};
+ghost use Rattle.std.specs.Prelude.{◌≡◌, ◌≤◌, IfOk, IfErr, OnOk, length};
 ghost use Rattle.ocr_text.specs.Tokens.{AreTokens};
-ghost use Rattle.ocr_tree.specs.Built.{are_built};
 ghost use Rattle.ocr_tree.specs.View.{tree_of};
 ghost use Rattle.ocr_check.specs.Check.{BreaksNoRule};
 ghost use Rattle.ocr_code.specs.Checked.{checked_tree};
@@ -9,7 +8,7 @@ ghost use Rattle.ocr_grammar.specs.Lexing.{IsTreeOf};
 ghost use Rattle.ocr_run.specs.ProgramText.{IsProgramText, IsCanonicalOf, IsTextStop, TextLaw, most_bytes};
 
 use ocr_canonical::print_program;
-use ocr_check::{CheckFault, CheckStop, check, first_unbuilt};
+use ocr_check::{CheckFault, CheckStop, check};
 use ocr_code::Checked;
 use ocr_program::{ParseStop, SyntaxFault, parse};
 use ocr_text::{LexFault, Token, TokensStop, tokens};
@@ -88,17 +87,11 @@ fn judged(
 pub fn program_of(alloc: Global, bytes: &[u8]) -> Result<Checked, TextStop>
     requires { length bytes.now ≤ most_bytes }
     ensures program { IfOk result (λ checked. IsProgramText bytes.now (checked_tree checked)) }
-    ensures built { IfOk result (λ checked. are_built (checked_tree checked) ≡ true) }
     ensures stop { IfErr result (IsTextStop bytes.now) }
 {
     let tokens = cut(alloc, bytes)?;
     let program = read(alloc, bytes, &tokens)?;
-    let checked = judged(alloc, bytes, &tokens, program)?;
-    match first_unbuilt(alloc, checked.program()) {
-        Ok(None) => Ok(checked),
-        Ok(Some(fault)) => Err(TextStop::Fault(TextFault::Breach(fault))),
-        Err(_) => Err(TextStop::NoMemory),
-    }
+    judged(alloc, bytes, &tokens, program)
 }
 
 /// The canonical text of the program that these bytes are; or the first thing that is wrong with

@@ -9,7 +9,7 @@ ghost use Rattle.ocr_words.specs.Form.{texts_of};
 ghost use Rattle.ocr_words.specs.Wanted.{IsAsked};
 ghost use Rattle.ocr_run.specs.Lines.{ending_line};
 ghost use Rattle.ocr_run.specs.ProgramText.{IsProgramText, IsNoProgram, most_bytes};
-ghost use Rattle.ocr_run.specs.Headline.{IsHeadline, IsAnswered, IsCopied, IsCheckedText, IsWritten, IsCheck, IsComplete, IsCaused, CameTo, AreRefused, IsTooBig, IsNotBuilt, IsRefusedText, IsLine, IsTold, IsStatus, is_silent};
+ghost use Rattle.ocr_run.specs.Headline.{IsHeadline, IsAnswered, IsCopied, IsCheckedText, IsWritten, IsCheck, IsComplete, IsCaused, CameTo, AreRefused, IsTooBig, IsFirstFault, IsRefusedText, IsLine, IsTold, IsStatus, is_silent};
 ghost use Rattle.ocr_run.specs.Wants.{AreWithin, IsMet, IsServable, IsAnsweredAs, IsReadAs};
 
 use crate::execute::{Executed, execute};
@@ -280,7 +280,7 @@ fn serve<R: Threads + Wait + Sync, S: Source, O: Sink, E: Sink, G: Gate + Sync>(
     ensures caused { IsCaused (IsCheck wanted) result.journal result.status }
     ensures no_program { result.status ≡ 3 → IsNone result.journal
         × (IsTooBig (S.left input.old) (S.left input.new) (S.given input.old) (S.given input.new)
-        ⊎ ((found : TextFault) × IsNotBuilt (S.left input.old) (S.left input.new) found)) }
+        ⊎ ((found : TextFault) × IsFirstFault (S.left input.old) (S.left input.new) found)) }
     ensures too_big { S.given input.old + (most_bytes + 1) < 2 ^ 64
         → S.given input.new ≡ S.given input.old + (most_bytes + 1) → result.status ≡ 3 }
     ensures read_fault { result.status ≡ 7
@@ -298,7 +298,7 @@ fn serve<R: Threads + Wait + Sync, S: Source, O: Sink, E: Sink, G: Gate + Sync>(
         (Rose (E.failures err.old) (E.failures err.new)) line
         × IsLine (IsTooBig (S.left input.old) (S.left input.new) (S.given input.old)
         (S.given input.new))
-        (IsNotBuilt (S.left input.old) (S.left input.new)) result.journal result.status line) }
+        (IsFirstFault (S.left input.old) (S.left input.new)) result.journal result.status line) }
 {
     match read_all(alloc, input, MOST_BYTES) {
         Ok(bytes) => answer(rt, alloc, wanted, &bytes, out, err, gate),
@@ -349,7 +349,7 @@ pub fn ocr_main<R: Threads + Wait + Sync, S: Source, O: Sink, E: Sink, G: Gate +
         → ((result.status ≡ 2) ⊎ (result.status ≡ 9)) × (input.new ≡ input.old) }
     ensures no_program { result.status ≡ 3 → IsNone result.journal
         × (IsTooBig (S.left input.old) (S.left input.new) (S.given input.old) (S.given input.new)
-        ⊎ ((found : TextFault) × IsNotBuilt (S.left input.old) (S.left input.new) found)) }
+        ⊎ ((found : TextFault) × IsFirstFault (S.left input.old) (S.left input.new) found)) }
     ensures too_big { S.given input.old + (most_bytes + 1) < 2 ^ 64
         → S.given input.new ≡ S.given input.old + (most_bytes + 1) → result.status ≡ 3 }
     ensures read_fault { result.status ≡ 7
@@ -373,7 +373,7 @@ pub fn ocr_main<R: Threads + Wait + Sync, S: Source, O: Sink, E: Sink, G: Gate +
         (Rose (E.failures err.old) (E.failures err.new)) line
         × IsLine (IsTooBig (S.left input.old) (S.left input.new) (S.given input.old)
         (S.given input.new))
-        (IsNotBuilt (S.left input.old) (S.left input.new)) result.journal result.status line) }
+        (IsFirstFault (S.left input.old) (S.left input.new)) result.journal result.status line) }
 {
     match command(alloc, words) {
         Ok(wanted) => serve(rt, alloc, wanted, input, out, err, gate),

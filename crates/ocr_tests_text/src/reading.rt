@@ -1,6 +1,6 @@
 // How far a text gets, and its canonical text.
 use ocr_canonical::print_program;
-use ocr_check::{CheckStop, check, first_unbuilt};
+use ocr_check::{CheckStop, check};
 use ocr_program::{ParseStop, parse};
 use ocr_text::{TokensStop, tokens};
 use std::alloc::Global;
@@ -19,7 +19,7 @@ pub enum Stop {
     NoMemory,
 }
 
-/// Where a text stops, none where it is a program that breaks no rule and can be run.
+/// Where a text stops, none where it is a program that breaks no rule.
 pub fn stop_of(alloc: Global, text: &[u8]) -> Option<Stop> {
     let list = match tokens(alloc, text) {
         Ok(list) => list,
@@ -35,10 +35,7 @@ pub fn stop_of(alloc: Global, text: &[u8]) -> Option<Stop> {
         return Some(Stop::TooManyFunctions);
     }
     match check(alloc, program) {
-        Ok(checked) => match first_unbuilt(alloc, checked.program()) {
-            Ok(found) => found.map(|fault| Stop::Rule(fault.rule, fault.function)),
-            Err(_) => Some(Stop::NoMemory),
-        },
+        Ok(_) => None,
         Err(CheckStop::Fault(fault)) => Some(Stop::Rule(fault.rule, fault.function)),
         Err(CheckStop::NoMemory) => Some(Stop::NoMemory),
     }

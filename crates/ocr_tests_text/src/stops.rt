@@ -96,18 +96,12 @@ fn programs_stop_at_the_first_rule_that_they_break(rt: HostRuntime) {
             Stop::Rule(4, 1),
         ),
         (
-            "fn mainEdt { let o = 0; ocrEdtCreate(1, 0, [], 0, [], 0, &o); }",
-            Stop::Rule(8, 1),
+            "fn mainEdt { if 1 { let o = 0; } ocrEdtCreate(1, 0, [], 0, [], 0, &o); }",
+            Stop::Rule(4, 1),
         ),
-        // A call that can't be run yet is told only where no other rule is broken anywhere.
         (
             "fn f { let o = 0; ocrEdtCreate(1, 0, [], 0, [], 0, &o); } fn mainEdt { print x; }",
             Stop::Rule(4, 2),
-        ),
-        (
-            "fn f { } fn g { let o = 0; if 1 { ocrEdtCreate(1, 0, [], 0, [], 0, &o); } }
-             fn mainEdt { let o = 0; ocrEdtCreate(1, 0, [], 0, [], 0, &o); }",
-            Stop::Rule(8, 2),
         ),
     ];
     for (text, stop) in rows {
@@ -120,7 +114,7 @@ fn programs_stop_at_the_first_rule_that_they_break(rt: HostRuntime) {
 }
 
 #[test]
-fn programs_with_all_calls_and_no_output_event_are_taken(rt: HostRuntime) {
+fn programs_with_all_calls_are_taken(rt: HostRuntime) {
     let rows = [
         "fn other { } fn mainEdt { let y = 1; while y { let x = 0; y = x; } ocrShutdown(); }",
         "fn mainEdt { let d = ocrDbCreate(8, 0); ocrDbRelease(d); ocrDbDestroy(d); }",
@@ -129,6 +123,7 @@ fn programs_with_all_calls_and_no_output_event_are_taken(rt: HostRuntime) {
         "fn mainEdt { store(depv[0], 0, load(depv[0], 0)); ocrAbort(1); }",
         "fn mainEdt {ocrEventDestroy(ocrEventCreate(1, 0)); ocrEventCreateParams(5, 1, 2, 1, 1); }",
         "fn mainEdt { ocrEventSatisfy(3, 0); ocrEventSatisfySlot(3, 0, 1); }",
+        "fn mainEdt { let o = 0; if 1 { ocrEdtCreate(1, 0, [], 0, [], EDT_PROP_FINISH, &o); } }",
     ];
     for text in rows {
         assert_eq!(rt; stop_of(rt.alloc(), text.as_bytes()), None, "in {text}");

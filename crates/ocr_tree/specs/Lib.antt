@@ -1,5 +1,4 @@
 pub mod Argument
-pub mod Built
 pub mod Constant
 pub mod Each
 pub mod Functions
