@@ -11,6 +11,10 @@ module _ {E : Type 0} where
     pub of : LogsOf list logs
     pub once : (f : ℕ → ℕ) → weigh_all f logs ≡ below f (length list)
 
+  -- each entry of the log stands at its number
+  abbrev pub IsInOrder : List (ℕ × E) → Type 0
+  IsInOrder log = (k n : ℕ) (e : E) → get_elem? log k ≡ some (n, e) → n ≡ k
+
   -- the numbers of the log are below this one
   abbrev pub IsBelow : ℕ → List (ℕ × E) → Type 0
   IsBelow count log = (k n : ℕ) (e : E) → get_elem? log k ≡ some (n, e) → n < count

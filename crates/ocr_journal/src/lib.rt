@@ -5,6 +5,7 @@ mod calls;
 mod entries;
 mod merged;
 mod numbered;
+mod ordered;
 mod text;
 mod words;
 

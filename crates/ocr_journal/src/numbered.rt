@@ -3,11 +3,30 @@ ghost use Rattle.std.specs.Prelude.{◌≡◌, ◌<◌, ◌≤◌, ℕ, List, No
 ghost use Rattle.ocr_turns.specs.Openings.{placed};
 ghost use Rattle.ocr_journal.specs.Numbered.{AreByNumber, AreFull, IsBelow};
 
+use crate::ordered::{bare_entries, whole_place};
 use ocr_base::NoMemory;
 use std::alloc::{AllocError, Global};
 
 /// The entries of logs that hold each number below the count once, by their numbers.
 pub fn by_number<E: Drop>(
+    alloc: Global,
+    logs: Vec<Vec<(u64, E)>>,
+    count: u64,
+) -> Result<Vec<E>, NoMemory>
+    requires { (list : List E) × AreByNumber (map (λ l. l.items) logs.items) list
+        × (length list ≡ count) }
+    ensures { IfOk result (λ v. (list : List E)
+        → AreByNumber (map (λ l. l.items) logs.items) list → v.items ≡ list) }
+{
+    let mut logs = logs;
+    if let Some(place) = whole_place(logs.as_slice(), count) {
+        return Ok(bare_entries(alloc, logs.swap_remove(place))?);
+    }
+    by_slots(alloc, logs, count)
+}
+
+// The same by a slot for each number.
+fn by_slots<E: Drop>(
     alloc: Global,
     logs: Vec<Vec<(u64, E)>>,
     count: u64,

@@ -7,7 +7,7 @@ use Rattle.std.proofs.lemmas.List.Elements.{filter_agree}
 use Rattle.std.proofs.lemmas.Grind.{flat_map-append}
 use Rattle.ocr_slots.specs.Slots.{SlotCall, Linking, Setting, is_set, payload_of}
 use Rattle.ocr_history.specs.History.{Setting as Set, History}
-use Rattle.ocr_history.specs.Made.{Made, MadeBlock, MadeTemplate, MadeEdt, MadeEvent, made}
+use Rattle.ocr_history.specs.Made.{Made, MadeBlock, MadeTemplate, MadeEdt, MadeEvent, MadeScope, made}
 use Rattle.ocr_history.specs.Made as what
 use Rattle.ocr_parts.specs.Calls.{set_calls, open_slots, depc_of}
 use Rattle.ocr_report.specs.declared.slots.Counted.{Counted}
@@ -49,6 +49,7 @@ depc_same (Some (MadeBlock n c)) = refl
 depc_same (Some (MadeTemplate f pc dc)) = refl
 depc_same (Some (MadeEdt f ps n)) = refl
 depc_same (Some (MadeEvent k fl most)) = refl
+depc_same (Some (MadeScope outer event)) = refl
 
 pub open_same : (s : Set) (past : History) (counts : BTreeMap ℕ Counted) (sets : BTreeMap ℕ (List ℕ)) → AreCounts s past counts → AreSet past sets
     → (t : ℕ) → open_in counts sets t ≡ open_slots s past t

@@ -1,9 +1,8 @@
 -- A tally tells of an event what its satisfactions do.
-use Rattle.std.proofs.Common.{◌≡◌, ◌∙◌, ◌<◌, ◌≤◌, ◌+◌, ℕ, suc, List, [], ◌∷◌, Bool, true, false, ◌||◌, ◌&&◌, ◌==◌, if◌then◌else◌, length, refl, ap, sym, arith}
+use Rattle.std.proofs.Common.{◌≡◌, ◌∙◌, ◌<◌, ◌≤◌, ◌+◌, ℕ, List, [], ◌∷◌, true, false, ◌||◌, ◌&&◌, ◌==◌, if◌then◌else◌, length, refl, ap, arith}
 use Rattle.std.specs.Prelude.{Option, Some, None, is_some}
 use Rattle.std.specs.Ordering.{nat_cmp}
 use Rattle.std.specs.BTreeMap.{get}
-use Rattle.std.specs.BTreeSet.{contains}
 use Rattle.ocr_guid.specs.Target.{EventCall, Satisfaction}
 use Rattle.ocr_event.specs.Event as event
 use Rattle.ocr_latch.specs.Latch as latch

@@ -7,19 +7,25 @@ use Rattle.ocr_any_event.specs.declared.TheConstants.{ONCE, LATCH}
 use Rattle.ocr_meaning.specs.Holds.{is_done}
 use Rattle.ocr_meaning.specs.declared.call.Call as body
 use Rattle.ocr_meaning.specs.declared.call.Call.TheVariants as call
+use Rattle.ocr_meaning.specs.declared.call.Answer.{Answer}
+use Rattle.ocr_history.specs.declared.objects.TheConstants.{OUTPUT_KIND}
 use Rattle.ocr_history.specs.declared.entry.Entry.{Entry}
 use Rattle.ocr_history.specs.declared.entry.Entry.TheVariants as an
 use Rattle.ocr_history.specs.declared.entry.What.{What}
 use Rattle.ocr_history.specs.declared.entry.What.TheVariants as what
 use Rattle.ocr_history.specs.History.{History}
 
--- an entry makes an event: its number and its kind
-abbrev pub kind_by : body.Call → ℕ → Option (ℕ × ℕ)
-kind_by (call.EventCreate k fl) g = Some (g, k)
-kind_by other g = None
+-- an entry makes an event, or an EDT with its output event: the event's number and its kind
+abbrev pub output_kind : ℕ → Option (ℕ × ℕ)
+output_kind e = if e == 0 then None else Some (e, OUTPUT_KIND)
+
+abbrev pub kind_by : body.Call → Answer → Option (ℕ × ℕ)
+kind_by (call.EventCreate k fl) a = Some (a.value, k)
+kind_by (call.EdtCreate from pc ps dc ds fl o) a = output_kind a.output
+kind_by other a = None
 
 abbrev pub kind_in : Entry → Option (ℕ × ℕ)
-kind_in (an.Call t home c a w) = if is_done a.code then kind_by c a.value else None
+kind_in (an.Call t home c a w) = if is_done a.code then kind_by c a else None
 kind_in other = None
 
 abbrev pub kind_after : Option (ℕ × ℕ) → ℕ → ℕ → ℕ

@@ -1,11 +1,12 @@
 -- What an entry makes.
-use Rattle.std.specs.Prelude.{ℕ, List, if◌then◌else◌, Option, Some, None}
+use Rattle.std.specs.Prelude.{ℕ, List, Bool, false, if◌then◌else◌, Option, Some, None}
 use Rattle.ocr_meaning.specs.Holds.{is_done}
 use Rattle.ocr_meaning.specs.declared.call.Call as body
 use Rattle.ocr_meaning.specs.declared.call.Call.TheVariants as call
 use Rattle.ocr_meaning.specs.declared.call.Answer.{Answer}
 use Rattle.ocr_history.specs.declared.entry.Entry.{Entry}
 use Rattle.ocr_history.specs.declared.entry.Entry.TheVariants as an
+use Rattle.ocr_history.specs.Made.{is_beside}
 use Rattle.ocr_history.specs.Numbers.{placed}
 
 -- the EDT
@@ -16,6 +17,11 @@ edt_by other a = None
 abbrev pub edt_in : Entry → Option ℕ
 edt_in (an.Call t home c a w) = edt_by c a
 edt_in other = None
+
+-- the scope or the output event of an EDT that it makes
+abbrev pub is_beside_in : Entry → ℕ → Bool
+is_beside_in (an.Call t home c a w) g = is_beside c a g
+is_beside_in other g = false
 
 -- numbers with one more at its place, where there is one
 abbrev pub with_number : Option ℕ → List ℕ → List ℕ

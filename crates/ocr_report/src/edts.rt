@@ -1,16 +1,17 @@
 // The EDTs that were made, and those that have started.
-ghost use Rattle.std.specs.Prelude.{◌≡◌, ◌||◌, ◌==◌, ℕ, OnOk, IfOk, length, ◌++◌};
+ghost use Rattle.std.specs.Prelude.{◌≡◌, ◌||◌, ◌==◌, ◌<◌, ◌≤◌, ℕ, OnOk, IfOk, length, ◌++◌, take, drop, slice_index};
 ghost use Rattle.std.specs.List.{flat_map};
 ghost use Rattle.std.specs.Ordering.{nat_cmp};
 ghost use Rattle.std.specs.BTreeSet as set;
 ghost use Rattle.ocr_history.specs.Edts.{is_started};
 ghost use Rattle.ocr_history.specs.History.{history_of};
 ghost use Rattle.ocr_history.specs.Made.{made_edts};
-ghost use Rattle.ocr_history.specs.Numbers.{placed};
+ghost use Rattle.ocr_history.specs.Numbers.{IsRising, placed};
 ghost use Rattle.ocr_history.specs.Output.{left_edts};
-ghost use Rattle.ocr_report.specs.Edts.{kept_if};
+ghost use Rattle.ocr_report.specs.Edts.{AreMarks, kept_if};
 ghost use Rattle.ocr_report.specs.Made as spec;
 
+use crate::started::{has_started, mark_count, started_marks};
 use ocr_base::NoMemory;
 use ocr_guid::Code;
 use ocr_history::{Entry, MAIN_EDT};
@@ -45,18 +46,53 @@ pub fn place(numbers: &mut BTreeSet<u64>, number: u64) -> Result<(), NoMemory>
     Ok(())
 }
 
+// How many of rising numbers are less. They are looked through from their end, as numbers come
+// almost in order.
+fn less_count(numbers: &[u64], number: u64) -> usize
+    requires { IsRising numbers.now }
+    ensures within { result ≤ length numbers.now }
+    ensures before { placed number numbers.now
+        ≡ take result numbers.now ++ placed number (drop result numbers.now) }
+    ensures next { result < length numbers.now → number ≤ slice_index numbers.now result }
+{
+    let mut count = numbers.len();
+    while count > 0 {
+        if numbers[count - 1] < number {
+            return count;
+        }
+        count -= 1;
+    }
+    0
+}
+
+// Puts a number at its place among rising ones.
+fn put(numbers: &mut Vec<u64>, number: u64) -> Result<(), NoMemory>
+    requires { IsRising numbers.old.items }
+    ensures { OnOk result (numbers.new.items ≡ placed number numbers.old.items) }
+{
+    let at = less_count(numbers, number);
+    if at < numbers.len() && numbers[at] == number {
+        return Ok(());
+    }
+    match numbers.insert(at, number) {
+        Ok(()) => Ok(()),
+        Err(_) => Err(NoMemory),
+    }
+}
+
 /// The EDTs that were made, rising.
+#[tactic(auto, using(crate::proofs::Rising::made_rising))]
 pub fn edts(alloc: Global, entries: &[Entry]) -> Result<Vec<u64>, NoMemory>
     ensures { IfOk result (λ edts. edts.items ≡ made_edts (history_of entries.now)) }
 {
-    let mut edts = BTreeSet::new(alloc);
-    edts.insert(MAIN_EDT)?;
+    let mut edts = Vec::new(alloc);
+    edts.push(MAIN_EDT)?;
     for entry in entries {
         if let Some(edt) = edt_made(entry) {
-            place(&mut edts, edt)?;
+            put(&mut edts, edt)?;
         }
     }
-    Ok(edts.into_iter().collect(alloc)?)
+    Ok(edts)
 }
 
 /// Puts a number among others.
@@ -66,20 +102,6 @@ pub fn add(numbers: &mut BTreeSet<u64>, number: u64) -> Result<(), NoMemory>
 {
     numbers.insert(number)?;
     Ok(())
-}
-
-// The EDTs that have started.
-fn started(alloc: Global, entries: &[Entry]) -> Result<BTreeSet<u64>, NoMemory>
-    ensures { IfOk result (λ started. (t : ℕ) →
-        set.contains nat_cmp started t ≡ is_started (history_of entries.now) t) }
-{
-    let mut started = BTreeSet::new(alloc);
-    for entry in entries {
-        if let Entry::Start { edt } = entry {
-            add(&mut started, edt.0)?;
-        }
-    }
-    Ok(started)
 }
 
 /// Adds a number unless it is out.
@@ -92,14 +114,20 @@ pub fn keep(kept: &mut Vec<u64>, number: u64, is_out: bool) -> Result<(), NoMemo
     Ok(())
 }
 
-// Those EDTs that have not started.
-fn unstarted(alloc: Global, edts: &[u64], started: &BTreeSet<u64>) -> Result<Vec<u64>, NoMemory>
+// Those EDTs that have not started, by marks of the lower ones that have.
+fn unstarted(
+    alloc: Global,
+    edts: &[u64],
+    marks: &[bool],
+    entries: &[Entry],
+) -> Result<Vec<u64>, NoMemory>
+    requires { AreMarks marks.now (history_of entries.now) }
     ensures { IfOk result (λ left. left.items
-        ≡ flat_map (λ t. kept_if (set.contains nat_cmp started.now t) t) edts.now) }
+        ≡ flat_map (λ t. kept_if (is_started (history_of entries.now) t) t) edts.now) }
 {
     let mut left = Vec::new(alloc);
     for edt in edts {
-        keep(&mut left, *edt, started.contains(edt))?;
+        keep(&mut left, *edt, has_started(marks, entries, *edt))?;
     }
     Ok(left)
 }
@@ -110,7 +138,7 @@ pub fn left(alloc: Global, entries: &[Entry]) -> Result<(Vec<u64>, u64), NoMemor
     ensures made { IfOk result (λ r. r.1 ≡ length (made_edts (history_of entries.now))) }
 {
     let edts = edts(alloc, entries)?;
-    let started = started(alloc, entries)?;
-    let left = unstarted(alloc, &edts, &started)?;
+    let marks = started_marks(alloc, entries, mark_count(&edts))?;
+    let left = unstarted(alloc, &edts, &marks, entries)?;
     Ok((left, edts.len() as u64))
 }

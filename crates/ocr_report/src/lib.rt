@@ -1,6 +1,7 @@
 //! The reports on a run, told from its journal.
 #![tactic(auto)]
 
+mod beside;
 mod blocks;
 mod destroyed;
 mod edts;
@@ -12,6 +13,7 @@ mod refused;
 mod sizes;
 mod slots;
 mod stale;
+mod started;
 mod summary;
 mod tallies;
 

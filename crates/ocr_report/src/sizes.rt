@@ -3,6 +3,7 @@ ghost use Rattle.std.specs.Prelude.{◌≡◌, ◌==◌, ◌∷◌, ℕ, length,
 ghost use Rattle.ocr_history.specs.History as history;
 ghost use Rattle.ocr_report.specs.Sizes as spec;
 
+use crate::beside::clear_beside;
 use ocr_base::NoMemory;
 use ocr_guid::Code;
 use ocr_history::{ARGUMENTS, Entry};
@@ -60,6 +61,7 @@ fn size(sizes: &mut Sizes, entry: &Entry) -> Result<(), NoMemory>
     ensures { OnOk result ((s : history.Setting) (past : history.History) →
         spec.AreSizes s past sizes.old → spec.AreSizes s (entry.now ∷ past) sizes.new) }
 {
+    clear_beside(sizes, entry);
     if let Some((made, words)) = sized_in(entry) {
         put(sizes, made, words)?;
     }

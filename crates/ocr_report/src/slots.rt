@@ -5,6 +5,7 @@ ghost use Rattle.std.specs.BTreeMap as map;
 ghost use Rattle.ocr_history.specs.History as history;
 ghost use Rattle.ocr_report.specs.Slots as spec;
 
+use crate::beside::clear_beside;
 use crate::lists::{Lists, append, take};
 use ocr_base::NoMemory;
 use ocr_guid::Code;
@@ -87,7 +88,9 @@ fn count(counts: &mut Counts, entry: &Entry) -> Result<(), NoMemory>
     ensures { OnOk result ((s : history.Setting) (past : history.History) →
         spec.AreCounts s past counts.old → spec.AreCounts s (entry.now ∷ past) counts.new) }
 {
-    if let Some((made, counted)) = counted_of(counts, entry) {
+    let made = counted_of(counts, entry);
+    clear_beside(counts, entry);
+    if let Some((made, counted)) = made {
         put(counts, made, counted)?;
     }
     Ok(())
@@ -140,6 +143,7 @@ fn mark(alloc: Global, sets: &mut Lists, entry: &Entry) -> Result<(), NoMemory>
     ensures { OnOk result ((past : history.History) →
         spec.AreSet past sets.old → spec.AreSet (entry.now ∷ past) sets.new) }
 {
+    clear_beside(sets, entry);
     if let Some(made) = fresh_in(entry) {
         take(alloc, sets, made);
     }

@@ -8,8 +8,8 @@ ghost use Rattle.ocr_report.specs.Tallies as spec;
 
 use ocr_any_event::{LATCH, ONCE};
 use ocr_base::NoMemory;
-use ocr_guid::Code;
-use ocr_history::{Entry, Message, What};
+use ocr_guid::{Code, Guid};
+use ocr_history::{Entry, Message, OUTPUT_KIND, What};
 use ocr_meaning::{Answer, Call};
 use std::collections::BTreeMap;
 
@@ -26,6 +26,17 @@ pub type Kinds = BTreeMap<u64, u64>;
 
 pub type Tallies = BTreeMap<u64, Tally>;
 
+// The output event that is made beside an EDT, and its kind.
+fn output_kind(output: Guid) -> Option<(u64, u64)>
+    ensures { result ≡ fired.output_kind output }
+{
+    if output == Guid::NULL {
+        None
+    } else {
+        Some((output.0, OUTPUT_KIND))
+    }
+}
+
 // The event that an entry makes, and its kind.
 fn kind_in(entry: &Entry) -> Option<(u64, u64)>
     ensures { result ≡ fired.kind_in entry.now }
@@ -40,6 +51,15 @@ fn kind_in(entry: &Entry) -> Option<(u64, u64)>
             },
             ..
         } => Some((*value, *kind)),
+        Entry::Call {
+            call: Call::EdtCreate { .. },
+            answer: Answer {
+                code: Code::Done,
+                output,
+                ..
+            },
+            ..
+        } => output_kind(*output),
         _ => None,
     }
 }

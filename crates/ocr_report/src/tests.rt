@@ -254,6 +254,78 @@ call 2 32
     Ok(())
 }
 
+// An EDT with a scope, 0 for none, and an output event.
+fn with_output(alloc: Global, edt: u64, scope: u64, output: u64) -> Entry {
+    Entry::Call {
+        edt: Guid(2),
+        home: Guid::NULL,
+        call: Call::EdtCreate {
+            template: 3,
+            paramc: 0,
+            params: Seq::new(alloc),
+            depc: 4294967294,
+            deps: Seq::new(alloc),
+            flags: if scope == 0 { 0 } else { 1 },
+            output: true,
+        },
+        answer: Answer {
+            code: Code::Done,
+            value: edt,
+            scope: Guid(scope),
+            output: Guid(output),
+        },
+        writes: Writes::none(alloc),
+    }
+}
+
+// Output event 44 is destroyed before it is satisfied, and 42 by its satisfaction.
+fn outputs(alloc: Global) -> Result<Vec<Entry>, Fail> {
+    let by = |call, code, value| called(alloc, call, code, value);
+    let depend = |source| Call::AddDependence {
+        source,
+        target: 43,
+        slot: 0,
+        mode: 0,
+    };
+    let leave = What::Leave { scope: Guid(41) };
+    Ok(vec![in alloc;
+        by(template(1), Code::Done, 3),
+        with_output(alloc, 40, 41, 42),
+        with_output(alloc, 43, 0, 44),
+        by(depend(42), Code::Done, 0),
+        by(Call::EventDestroy { event: 44 }, Code::Done, 0),
+        satisfied(44, Code::Stale),
+        delivered(leave, Code::Done),
+        satisfied(42, Code::Done),
+        by(depend(42), Code::Stale, 200),
+        by(depend(44), Code::Stale, 200),
+    ]?)
+}
+
+#[test]
+fn output_events_are_destroyed_once_satisfied(rt: HostRuntime) -> Result<(), Fail> {
+    let alloc = rt.alloc();
+    let journal = Journal::from_vec(outputs(alloc)?);
+    let summary = summary_text(alloc, &journal)?;
+    assert_eq!(rt;
+        summary.as_slice(),
+        b"edts 3 started 0 left 3 stale 3\n".as_slice()
+    );
+    let stale = stale_text(alloc, &journal)?;
+    assert_eq!(rt;
+        stale.as_slice(),
+        b"stale 3\ndelivery 44\ncall 2 42\ncall 2 44\n".as_slice()
+    );
+    let left = left_text(alloc, &journal)?;
+    assert_eq!(rt;
+        left.as_slice(),
+        b"left 3\nedt 2 open\nedt 40 open 0\nedt 43 open 0\n".as_slice()
+    );
+    let refused = refused_text(alloc, &journal)?;
+    assert_eq!(rt; refused.as_slice(), b"refused 0\n".as_slice());
+    Ok(())
+}
+
 #[test]
 fn satisfactions_that_were_refused_have_their_codes(rt: HostRuntime) -> Result<(), Fail> {
     let text = refused_text(rt.alloc(), &journal(rt.alloc())?)?;

@@ -4,4 +4,4 @@ use Rattle.ocr_history.specs.Made.{made_edts}
 use Rattle.ocr_report.proofs.edts.edts.Given as goal
 
 abbrev pub invariant-loop-entry : goal.invariant-loop-entry
-invariant-loop-entry l = l.edts.keys ≡ made_edts (history_of (take l.entry-index l.entries))
+invariant-loop-entry l = l.edts.items ≡ made_edts (history_of (take l.entry-index l.entries))

@@ -1,7 +1,6 @@
-use Rattle.std.proofs.Common.{◌∙◌, ap}
+use Rattle.std.proofs.Common.{◌∙◌, ap, refl}
 use Rattle.std.specs.List.{flat_map}
-use Rattle.std.specs.Ordering.{nat_cmp}
-use Rattle.std.specs.BTreeSet.{contains}
+use Rattle.ocr_history.specs.Edts.{is_started}
 use Rattle.ocr_history.specs.History.{history_of}
 use Rattle.ocr_report.specs.Edts.{kept_if}
 use Rattle.ocr_report.proofs.Unstarted.{same_left}
@@ -9,6 +8,7 @@ use Rattle.ocr_report.proofs.edts.left.Goals as goal
 
 pub returns-clause-left : goal.returns-clause-left
 returns-clause-left c =
+    let past = history_of c.args.entries.now in
     c.in_ok-left.ensures
-    ∙ ap (flat_map (λ t. kept_if (contains nat_cmp c.in_ok-started.started t) t)) (c.deref.ensures.value ∙ c.in_ok-edts.ensures)
-    ∙ same_left (history_of c.args.entries.now) (contains nat_cmp c.in_ok-started.started) c.in_ok-started.ensures
+    ∙ (ap (flat_map (λ t. kept_if (is_started past t) t)) (c.deref-2.ensures.value ∙ c.in_ok-edts.ensures)
+    ∙ same_left past (is_started past) (λ t. refl))

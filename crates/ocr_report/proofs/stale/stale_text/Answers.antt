@@ -1,7 +1,5 @@
-use Rattle.std.proofs.Common.{◌≡◌, ◌<◌, ℕ, List, length, take, subst, sym, arith, length-take}
+use Rattle.std.proofs.Common.{◌≡◌, ◌<◌, List, length, take, subst, sym, arith, length-take}
 use Rattle.std.specs.Prelude.{Option}
-use Rattle.std.specs.Ordering.{nat_cmp}
-use Rattle.std.specs.BTreeMap.{get}
 use Rattle.std.proofs.lemmas.List.{length-reverse}
 use Rattle.ocr_history.specs.declared.entry.Entry.{Entry}
 use Rattle.ocr_history.specs.History.{History, history_of}

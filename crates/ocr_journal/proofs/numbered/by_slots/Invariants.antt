@@ -2,7 +2,7 @@ use Rattle.std.proofs.Common.{◌≡◌, map, None, length, replicate}
 use Rattle.std.specs.Vec.Iter.{into_iter_items, into_iter_len}
 use Rattle.ocr_journal.proofs.Numbering.{placed_all}
 use Rattle.ocr_journal.specs.Numbered.{AllBelow}
-use Rattle.ocr_journal.proofs.numbered.by_number.Given as goal
+use Rattle.ocr_journal.proofs.numbered.by_slots.Given as goal
 
 abbrev pub invariant-loop-log : goal.invariant-loop-log
 invariant-loop-log g l = record {
