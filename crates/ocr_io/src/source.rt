@@ -91,6 +91,8 @@ pub fn read_all<S: Source>(alloc: Global, source: &mut S, most: usize) -> Result
     ensures failed { IsErrOf result ReadStop.Failed
         → Rose (S.failures source.old) (S.failures source.new) }
     ensures calm { OnOk result (S.failures source.new ≡ S.failures source.old) }
+    ensures unfailed { (IsErrOf result ReadStop.Failed → ⊥)
+        → S.failures source.new ≡ S.failures source.old }
     ensures later { S.failures source.old ≤ S.failures source.new }
 {
     let mut bytes = Vec::new(alloc);
