@@ -34,7 +34,7 @@ def constant(name, text):
 
 
 def table():
-    names, items = [], []
+    names, items, sizes = [], [], []
     for path in sorted((TOP / "examples").glob("*.ocr")):
         name = path.stem.upper()
         status = path.with_suffix(".status")
@@ -44,8 +44,17 @@ def table():
         items.append(constant(name, path.read_text()))
         items.append(constant(f"{name}_OUT", output))
         items.append(f"const {name}_STATUS: u8 = {code};\n")
-    rows = "".join(f"    ({n}, {n}_OUT, {n}_STATUS),\n" for n in names)
-    return HEAD + "\n".join(items) + f"\npub const EXAMPLES: [Example; {len(names)}] = [\n{rows}];\n"
+        sizes.append(len(path.read_bytes()) + len(output))
+    # a constant has at most 10,000 expressions, and each byte is one
+    half = next(i for i in range(len(names)) if sum(sizes[: i + 1]) > sum(sizes) / 2)
+    items.append(rows("EXAMPLES", names[:half]))
+    items.append(rows("MORE_EXAMPLES", names[half:]))
+    return HEAD + "\n".join(items)
+
+
+def rows(table, names):
+    lines = "".join(f"    ({n}, {n}_OUT, {n}_STATUS),\n" for n in names)
+    return f"pub const {table}: [Example; {len(names)}] = [\n{lines}];\n"
 
 
 def main():

@@ -86,13 +86,13 @@ fn changed(alloc: Global, entry: &Entry, edit: Option<Edit>) -> Result<Entry, Fa
     match entry {
         Entry::Call {
             edt,
-            home: _,
+            home,
             call,
             answer,
             writes,
         } => Ok(Entry::Call {
             edt: by(*edt, edit),
-            home: Guid::NULL,
+            home: *home,
             call: changed_call(call, edit)?,
             answer: changed_answer(*answer, edit),
             writes: copied(alloc, writes)?,

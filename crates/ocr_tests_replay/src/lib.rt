@@ -17,7 +17,11 @@ mod lines;
 #[cfg(test)]
 mod linked;
 #[cfg(test)]
+mod outputs;
+#[cfg(test)]
 mod runs;
+#[cfg(test)]
+mod scopes;
 #[cfg(test)]
 mod slots;
 #[cfg(test)]

@@ -15,6 +15,20 @@ const CHANNEL: u64 = 5;
 /// Words with their values.
 pub type Words = &'static [(u32, u64)];
 
+/// The flags of an EDT that is made, and whether it has an output event.
+pub type Form = (u64, bool);
+
+/// The code of a creation of an EDT, and the new EDT, its scope and its output event, 0 for none.
+pub type Made = (Code, u64, u64, u64);
+
+pub const PLAIN: Form = (0, false);
+
+pub const OUTPUT: Form = (0, true);
+
+pub const FINISH: Form = (1, false);
+
+pub const BOTH: Form = (1, true);
+
 /// An entry, written short.
 #[derive(Clone, Copy)]
 pub enum Line {
@@ -26,10 +40,14 @@ pub enum Line {
     Free(u64, u64, Words),
     /// The body returns NULL_GUID.
     End(u64),
+    /// The body returns this.
+    Returns(u64, u64),
     /// The place and the index of the message, the EDT and its slot, and the payload.
     Set(u64, u32, u64, u32, u64),
     /// The same with the event and its slot, and the code.
     Satisfy(u64, u32, u64, u32, u64, Code),
+    /// The place and the index of the message, and the scope.
+    Leave(u64, u32, u64),
     /// Bytes, flags, and the new block.
     Block(u64, u64, u64, u64),
     Release(u64, u64, Code, Words),
@@ -52,6 +70,8 @@ pub enum Line {
     Satisfies(u64, u64, u64, u64, Code),
     /// Template, parameters, dependences, code, and the new EDT.
     Edt(u64, u64, &'static [u64], &'static [u64], Code, u64),
+    /// The home of its maker, template, parameters, dependences, and what is made.
+    Task(u64, u64, u64, &'static [u64], &'static [u64], Form, Made),
     /// Block, word, and value.
     Load(u64, u64, u64, u64),
     Store(u64, u64, u64, u64),
@@ -84,10 +104,8 @@ pub fn entry_of(alloc: Global, line: Line) -> Result<Entry, Fail> {
             block: Guid(block),
             writes: writes(alloc, words)?,
         }),
-        Line::End(edt) => Ok(Entry::End {
-            edt: Guid(edt),
-            returned: Guid::NULL,
-        }),
+        Line::End(edt) => Ok(ended(edt, 0)),
+        Line::Returns(edt, returned) => Ok(ended(edt, returned)),
         Line::Fault(edt, fault) => Ok(Entry::Stop(Stop::Fault {
             edt: Guid(edt),
             fault,
@@ -98,6 +116,13 @@ pub fn entry_of(alloc: Global, line: Line) -> Result<Entry, Fail> {
             weight: 1,
         })),
         other => delivery_of(alloc, other),
+    }
+}
+
+fn ended(edt: u64, returned: u64) -> Entry {
+    Entry::End {
+        edt: Guid(edt),
+        returned: Guid(returned),
     }
 }
 
@@ -119,6 +144,10 @@ fn delivery_of(alloc: Global, line: Line) -> Result<Entry, Fail> {
                 payload: Guid(payload),
             };
             Ok(delivered(place, index, what, code))
+        }
+        Line::Leave(place, index, scope) => {
+            let what = What::Leave { scope: Guid(scope) };
+            Ok(delivered(place, index, what, Code::Done))
         }
         call => call_of(alloc, call),
     }
@@ -243,19 +272,44 @@ fn edt_of(alloc: Global, line: Line) -> Result<Entry, Fail> {
             Ok(made(alloc, edt, call, code, 0))
         }
         Line::Edt(edt, template, params, deps, code, value) => {
-            let call = Call::EdtCreate {
-                template,
-                paramc: DEFAULT,
-                params: Seq::from_vec(params.to_vec(alloc)?),
-                depc: DEFAULT,
-                deps: Seq::from_vec(deps.to_vec(alloc)?),
-                flags: 0,
-                output: false,
-            };
+            let call = task(alloc, template, params, deps, PLAIN)?;
             Ok(made(alloc, edt, call, code, value))
+        }
+        Line::Task(edt, home, template, params, deps, form, (code, value, scope, output)) => {
+            let answer = Answer {
+                code,
+                value,
+                scope: Guid(scope),
+                output: Guid(output),
+            };
+            Ok(Entry::Call {
+                edt: Guid(edt),
+                home: Guid(home),
+                call: task(alloc, template, params, deps, form)?,
+                answer,
+                writes: Writes::none(alloc),
+            })
         }
         _ => Err(Fail::new("an entry of another kind")),
     }
+}
+
+fn task(
+    alloc: Global,
+    template: u64,
+    params: &[u64],
+    deps: &[u64],
+    (flags, output): Form,
+) -> Result<Call, Fail> {
+    Ok(Call::EdtCreate {
+        template,
+        paramc: DEFAULT,
+        params: Seq::from_vec(params.to_vec(alloc)?),
+        depc: DEFAULT,
+        deps: Seq::from_vec(deps.to_vec(alloc)?),
+        flags,
+        output,
+    })
 }
 
 fn template(function: u32, paramc: u64, depc: u64) -> Call {

@@ -1,6 +1,8 @@
 // Journals of runs by two and four workers.
 use crate::journals::TREE;
+use crate::outputs::{ADDERS, DESTROYED as FORGOTTEN, GIVEN, TAKEN};
 use crate::runs::{recording_by, verdict};
+use crate::scopes::{FAMILY, INNER, MEMBER, NESTED, SILENT};
 use std::test::Fail;
 
 // Two EDTs want the same two blocks in EW, in either order of their slots.
@@ -196,6 +198,54 @@ fn mainEdt {
 fn runs_with_events_are_replayed(rt: HostRuntime) -> Result<(), Fail> {
     let alloc = rt.alloc();
     for text in [FED, COUNTED, PIPELINE, FIBONACCI, STENCIL] {
+        for workers in ["1", "2", "4"] {
+            let recording = recording_by(&rt, alloc, workers, text)?;
+            assert_eq!(rt; verdict(alloc, &recording, &recording.entries), Ok(()));
+        }
+    }
+    Ok(())
+}
+
+// 40 EDTs in one scope; each second one has a scope of its own besides.
+const FOREST: &[u8] = b"fn node {
+  let i = 0; let less = paramv[0] - 1;
+  while i < 3 - !paramv[0] * 3 {
+    ocrEdtCreate(paramv[1], EDT_PARAM_DEF, [less, paramv[1]], 0, [], i % 2);
+    i = i + 1;
+  }
+}
+fn last { print depv[0]; }
+fn mainEdt {
+  let o = 0; let t = ocrEdtTemplateCreate(node, 2, EDT_PARAM_UNK);
+  let f = ocrEdtCreate(t, EDT_PARAM_DEF, [3, t], 1, [], EDT_PROP_FINISH, &o);
+  ocrEdtCreate(ocrEdtTemplateCreate(last, 0, 1), EDT_PARAM_DEF, [], EDT_PARAM_DEF, [o], 0);
+  ocrAddDependence(NULL_GUID, f, 0, DB_MODE_NULL);
+}";
+
+#[test]
+fn runs_with_output_events_are_replayed(rt: HostRuntime) -> Result<(), Fail> {
+    let alloc = rt.alloc();
+    for table in [ADDERS, GIVEN, FORGOTTEN, TAKEN] {
+        for workers in ["1", "2", "4"] {
+            let recording = recording_by(&rt, alloc, workers, table.text)?;
+            assert_eq!(rt; verdict(alloc, &recording, &recording.entries), Ok(()));
+        }
+    }
+    Ok(())
+}
+
+#[test]
+fn runs_with_scopes_are_replayed(rt: HostRuntime) -> Result<(), Fail> {
+    let alloc = rt.alloc();
+    let texts = [
+        FAMILY.text,
+        NESTED.text,
+        INNER.text,
+        SILENT.text,
+        MEMBER.text,
+        FOREST,
+    ];
+    for text in texts {
         for workers in ["1", "2", "4"] {
             let recording = recording_by(&rt, alloc, workers, text)?;
             assert_eq!(rt; verdict(alloc, &recording, &recording.entries), Ok(()));

@@ -252,6 +252,53 @@ const PRINTS_OUT: &[u8] = b"1
 
 const PRINTS_STATUS: u8 = 0;
 
+const QUEENS: &[u8] =
+    b"# Counts the ways to put six queens on a board of six by six. Each EDT puts one in the next row, and
+# all are in the scope of the first one: its output event lets the number be shown when they have
+# ended.
+fn found {
+  store(depv[0], 0, load(depv[0], 0) + 1);
+}
+fn put {
+  let rows = paramv[0];
+  let columns = paramv[1];
+  if rows == 0 {
+    let f = ocrEdtCreate(paramv[5], EDT_PARAM_DEF, [], EDT_PARAM_DEF, [], EDT_PROP_NONE);
+    ocrAddDependence(paramv[6], f, 0, DB_MODE_EW);
+  }
+  let free = 63 & ~(columns | paramv[2] | paramv[3]);
+  while free {
+    let queen = free & -free;
+    let left = (paramv[2] | queen) << 1;
+    let right = (paramv[3] | queen) >> 1;
+    let p = paramv[4];
+    ocrEdtCreate(p, EDT_PARAM_DEF,
+      [rows - 1, columns | queen, left, right, p, paramv[5], paramv[6]], 0, [], EDT_PROP_NONE);
+    free = free ^ queen;
+  }
+}
+fn show {
+  print load(depv[0], 0);
+}
+fn mainEdt {
+  let d = ocrDbCreate(8, DB_PROP_NO_ACQUIRE);
+  let p = ocrEdtTemplateCreate(put, 7, EDT_PARAM_UNK);
+  let f = ocrEdtTemplateCreate(found, 0, 1);
+  let done = 0;
+  let first = ocrEdtCreate(p, EDT_PARAM_DEF, [6, 0, 0, 0, p, f, d], 1, [], EDT_PROP_FINISH, &done);
+  let t = ocrEdtTemplateCreate(show, 0, 2);
+  let last = ocrEdtCreate(t, EDT_PARAM_DEF, [], EDT_PARAM_DEF, [], EDT_PROP_NONE);
+  ocrAddDependence(d, last, 0, DB_MODE_RO);
+  ocrAddDependence(done, last, 1, DB_MODE_NULL);
+  ocrAddDependence(NULL_GUID, first, 0, DB_MODE_NULL);
+}
+";
+
+const QUEENS_OUT: &[u8] = b"4
+";
+
+const QUEENS_STATUS: u8 = 0;
+
 const REFUSALS: &[u8] = b"# A refused creation answers 0; `code` says why: 22 EINVAL, 2 ENOENT.
 fn one {
 }
@@ -298,6 +345,42 @@ const RETURNS_OUT: &[u8] = b"1
 ";
 
 const RETURNS_STATUS: u8 = 0;
+
+const SQUARES: &[u8] =
+    b"# Four EDTs return a block each, and their output events bring the blocks to a fifth, which adds up.
+fn square {
+  let d = ocrDbCreate(8, DB_PROP_NONE);
+  store(d, 0, paramv[0] * paramv[0]);
+  return d;
+}
+fn sum {
+  let s = 0;
+  let i = 0;
+  while i < depc {
+    s = s + load(depv[i], 0);
+    i = i + 1;
+  }
+  print s;
+}
+fn mainEdt {
+  let t = ocrEdtTemplateCreate(square, 1, 1);
+  let u = ocrEdtTemplateCreate(sum, 0, 4);
+  let w = ocrEdtCreate(u, EDT_PARAM_DEF, [], EDT_PARAM_DEF, [], EDT_PROP_NONE);
+  let i = 0;
+  while i < 4 {
+    let o = 0;
+    let e = ocrEdtCreate(t, EDT_PARAM_DEF, [i + 1], EDT_PARAM_DEF, [], EDT_PROP_NONE, &o);
+    ocrAddDependence(o, w, i, DB_MODE_CONST);
+    ocrAddDependence(NULL_GUID, e, 0, DB_MODE_NULL);
+    i = i + 1;
+  }
+}
+";
+
+const SQUARES_OUT: &[u8] = b"30
+";
+
+const SQUARES_STATUS: u8 = 0;
 
 const STENCIL: &[u8] =
     b"# A stencil: 10 rounds over 64 by 64 cells in 16 tiles, an EDT for each tile of each round.
@@ -400,7 +483,7 @@ const STENCIL_OUT: &[u8] = b"81900000000000
 
 const STENCIL_STATUS: u8 = 0;
 
-pub const EXAMPLES: [Example; 13] = [
+pub const EXAMPLES: [Example; 10] = [
     (ABORT, ABORT_OUT, ABORT_STATUS),
     (COLLATZ, COLLATZ_OUT, COLLATZ_STATUS),
     (COUNTERS, COUNTERS_OUT, COUNTERS_STATUS),
@@ -411,7 +494,12 @@ pub const EXAMPLES: [Example; 13] = [
     (OPERATORS, OPERATORS_OUT, OPERATORS_STATUS),
     (PIPELINE, PIPELINE_OUT, PIPELINE_STATUS),
     (PRINTS, PRINTS_OUT, PRINTS_STATUS),
+];
+
+pub const MORE_EXAMPLES: [Example; 5] = [
+    (QUEENS, QUEENS_OUT, QUEENS_STATUS),
     (REFUSALS, REFUSALS_OUT, REFUSALS_STATUS),
     (RETURNS, RETURNS_OUT, RETURNS_STATUS),
+    (SQUARES, SQUARES_OUT, SQUARES_STATUS),
     (STENCIL, STENCIL_OUT, STENCIL_STATUS),
 ];

@@ -12,6 +12,8 @@ mod outcomes;
 #[cfg(test)]
 mod runs;
 #[cfg(test)]
+mod scopes;
+#[cfg(test)]
 mod stencil;
 #[cfg(test)]
 mod workers;

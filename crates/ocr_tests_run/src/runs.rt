@@ -1,7 +1,7 @@
 // Programs, from the bytes in to the bytes out.
 ghost use Rattle.std.specs.Prelude.{◌<◌};
 
-use crate::examples::EXAMPLES;
+use crate::examples::{EXAMPLES, MORE_EXAMPLES};
 use crate::outcomes::{Faults, NO_FAULTS, outcome_of, run};
 use std::alloc::Global;
 use std::sync::Wait;
@@ -92,7 +92,7 @@ fn runs_have_their_statuses_and_lines(rt: HostRuntime) -> Result<(), Fail> {
 
 #[test]
 fn examples_write_what_stands_beside_them(rt: HostRuntime) -> Result<(), Fail> {
-    for (text, out, status) in EXAMPLES {
+    for (text, out, status) in EXAMPLES.into_iter().chain(MORE_EXAMPLES) {
         let done = run(&rt, rt.alloc(), text, NO_FAULTS)?;
         assert_eq!(rt; done.ended.status, status);
         assert_eq!(rt; done.out.bytes(), out);
@@ -229,7 +229,7 @@ fn mainEdt {
   print ocrEdtCreate(2, 1, [7], 0, [], 0); print code;
   print ocrEdtCreate(t, 2, [7, 8], 0, [], 0); print code;
   print ocrEdtCreate(t, 1, [], 0, [], 0); print code;
-  print ocrEdtCreate(t, EDT_PARAM_DEF, [7], EDT_PARAM_DEF, [], 1); print code;
+  print ocrEdtCreate(t, EDT_PARAM_DEF, [7], EDT_PARAM_DEF, [], 2); print code;
   print ocrEdtCreate(u, EDT_PARAM_DEF, [], 0, [], 0); print code;
   print ocrEdtCreate(u, 0, [], 1, [], 0); print code;
   print ocrEdtCreate(s, 0, [], EDT_PARAM_DEF, [], 0); print code;
@@ -485,7 +485,7 @@ fn run_takes_32_numbers(rt: HostRuntime) -> Result<(), Fail> {
 #[test]
 fn canonical_text_of_an_example_is_its_own(rt: HostRuntime) -> Result<(), Fail> {
     let alloc = rt.alloc();
-    for (text, _, _) in EXAMPLES {
+    for (text, _, _) in EXAMPLES.into_iter().chain(MORE_EXAMPLES) {
         let first = outcome_of(&rt, alloc, &["check"], text.to_vec(alloc)?, 4000, NO_FAULTS)?;
         assert_eq!(rt; first.ended.status, 0);
         let copy = first.out.bytes().to_vec(alloc)?;
@@ -556,7 +556,7 @@ fn one_byte_too_many_is_told(rt: HostRuntime) -> Result<(), Fail> {
 
 #[test]
 fn texts_that_are_no_program_are_told(rt: HostRuntime) -> Result<(), Fail> {
-    let rows: [(&[u8], &[u8]); 8] = [
+    let rows: [(&[u8], &[u8]); 7] = [
         (b"", b"check fault: rule 2 in function 0\n"),
         (b"fn mainEdt { $ }", b"lex fault at 13\n"),
         (
@@ -572,10 +572,6 @@ fn texts_that_are_no_program_are_told(rt: HostRuntime) -> Result<(), Fail> {
         (
             b"fn mainEdt { print x; }",
             b"check fault: rule 4 in function 1\n",
-        ),
-        (
-            b"fn mainEdt { let o = 0; ocrEdtCreate(3, 0, [], 0, [], 0, &o); }",
-            b"check fault: rule 8 in function 1\n",
         ),
     ];
     for (text, err) in rows {
