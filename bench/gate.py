@@ -30,8 +30,9 @@ def kind_of(words):
 
 
 def descendants(of):
-    """The processes below one, each with its words and its processor time in seconds."""
-    parent, seconds = {}, {}
+    """The processes below one, each by its number and its start, since numbers come again in a long run, with its words
+    and its processor time in seconds."""
+    parent, born, seconds = {}, {}, {}
     for pid in filter(str.isdigit, os.listdir("/proc")):
         try:
             with open(f"/proc/{pid}/stat") as it:
@@ -39,6 +40,7 @@ def descendants(of):
         except OSError:
             continue
         parent[int(pid)] = int(fields[1])
+        born[int(pid)] = fields[19]
         seconds[int(pid)] = (int(fields[11]) + int(fields[12])) / TICKS
     for pid in parent:
         above = pid
@@ -50,7 +52,7 @@ def descendants(of):
                     words = it.read().decode(errors="replace").split("\0")
             except OSError:
                 continue
-            yield pid, words, seconds[pid]
+            yield (pid, born[pid]), words, seconds[pid]
 
 
 def main():
@@ -60,11 +62,11 @@ def main():
     with open(log, "w") as out:
         gate = subprocess.Popen(["rt", "ci"], cwd=ROOT, stdout=out, stderr=subprocess.STDOUT)
         while gate.poll() is None:
-            for pid, words, seconds in descendants(gate.pid):
+            for process, words, seconds in descendants(gate.pid):
                 name = os.path.basename(words[0]) if words else ""
                 what = kind_of(words) or (("other", "other") if not name.startswith("rt") else None)
                 if what:
-                    seen[pid] = (what, seconds)
+                    seen[process] = (what, seconds)
             time.sleep(0.5)
     minutes = collections.Counter()
     for what, seconds in seen.values():

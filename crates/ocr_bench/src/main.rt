@@ -1,178 +1,100 @@
-//! Replays a journal in which so many EDTs run side by side as its word says, and their entries
-//! take turns one by one.
+//! Replays journals that are made for it. The words are a case, its size, and how often its journal
+//! is replayed; for the case `each` all cases are replayed once, each of this size. It prints for
+//! each case how many entries its journal has, and what replay says of them.
 #![tactic(auto)]
 
-ghost use Rattle.std.specs.Prelude.{◌≡◌, ◌<◌, ◌+◌, ◌^◌, length, IfOk};
+mod blocks;
+mod cases;
+mod events;
+mod journal;
+mod prints;
+mod scopes;
 
-use ocr_base::{NoMemory, Seq};
+ghost use Rattle.std.specs.Prelude.{◌≤◌, IfOk};
+
+use cases::{CASES, Case, journal_of, text_of};
+use journal::Journal;
 use ocr_check::check;
 use ocr_code::Checked;
-use ocr_guid::{Code, Guid};
-use ocr_history::{Entry, Writes};
-use ocr_meaning::{Answer, Call};
 use ocr_program::parse;
-use ocr_replay::replay;
+use ocr_replay::{ReplayStop, replay};
 use ocr_text::tokens;
 use std::alloc::Global;
 use std::io::{Error, ErrorKind};
 use std::{env, io};
 
-const MAIN: Guid = Guid(2);
+// The most objects that a replay takes.
+const MOST_OBJECTS: u64 = 65_536;
 
-const TEMPLATE: u64 = 3;
-
-const TURNS: u64 = 5;
-
-// mainEdt makes the first EDT, and each of these makes the next one and then prints.
-const TEXT: &[u8] = b"fn mainEdt {
-  ocrEdtTemplateCreate(one, 0, 0);
-  ocrEdtCreate(3, 0, [], 0, [], 0);
-}
-fn one {
-  ocrEdtCreate(3, 0, [], 0, [], 0);
-  print 7; print 7; print 7; print 7; print 7;
-}";
-
-fn program(alloc: Global) -> io::Result<Checked> {
-    let Ok(tokens) = tokens(alloc, TEXT) else {
+// The program that a text is.
+fn program(alloc: Global, text: &str) -> io::Result<Checked> {
+    let bytes = text.as_bytes();
+    let Ok(tokens) = tokens(alloc, bytes) else {
         return Err(Error::from(ErrorKind::InvalidData));
     };
-    let Ok(program) = parse(alloc, TEXT, &tokens) else {
+    let Ok(program) = parse(alloc, bytes, &tokens) else {
         return Err(Error::from(ErrorKind::InvalidData));
     };
-    if program.functions.len() > 2 {
+    if program.functions.len() > 10 {
         return Err(Error::from(ErrorKind::InvalidData));
     }
-    let Ok(checked) = check(alloc, program) else {
-        return Err(Error::from(ErrorKind::InvalidData));
-    };
-    Ok(checked)
+    match check(alloc, program) {
+        Ok(checked) => Ok(checked),
+        Err(_) => Err(Error::from(ErrorKind::InvalidData)),
+    }
 }
 
-#[derive(Drop)]
-struct Journal {
+// What replay says so often; its last word.
+fn replayed(
     alloc: Global,
-    entries: Vec<Entry>,
+    program: &Checked,
+    journal: &Journal,
+    size: u32,
+    rounds: u32,
+) -> io::Result<Result<(), ReplayStop>> {
+    let limit = journal.objects;
+    if limit < 2 || limit > MOST_OBJECTS {
+        return Err(Error::from(ErrorKind::InvalidInput));
+    }
+    let args = [u64::from(size)];
+    let mut outcome = Ok(());
+    for _ in 0..rounds {
+        outcome = replay(alloc, program, &args, limit, &journal.entries);
+    }
+    Ok(outcome)
 }
 
-impl Journal {
-    fn enter(&mut self, entry: Entry) -> Result<(), NoMemory> {
-        if self.entries.reserve(1).is_err() {
-            return Err(NoMemory);
-        }
-        self.entries.push_reserved(entry);
-        Ok(())
-    }
-
-    fn call(&mut self, edt: Guid, call: Call, value: u64) -> Result<(), NoMemory> {
-        let answer = Answer {
-            code: Code::Done,
-            value,
-            scope: Guid::NULL,
-            output: Guid::NULL,
-        };
-        let writes = Writes::none(self.alloc);
-        self.enter(Entry::Call {
-            edt,
-            home: Guid::NULL,
-            call,
-            answer,
-            writes,
-        })
-    }
-
-    fn create(&mut self, edt: Guid, value: u64) -> Result<(), NoMemory> {
-        let call = Call::EdtCreate {
-            template: TEMPLATE,
-            paramc: 0,
-            params: Seq::new(self.alloc),
-            depc: 0,
-            deps: Seq::new(self.alloc),
-            flags: 0,
-            output: false,
-        };
-        self.call(edt, call, value)
-    }
-}
-
-// mainEdt runs, each EDT makes the next one, and then they all print in turns and end.
-fn side_by_side(alloc: Global, edts: u64) -> Result<Journal, NoMemory>
-    requires { edts < 65536 }
-{
-    let mut journal = Journal {
-        alloc,
-        entries: Vec::new(alloc),
-    };
-    journal.enter(Entry::Acquire {
-        edt: MAIN,
-        block: Guid(1),
-    })?;
-    journal.enter(Entry::Start { edt: MAIN })?;
-    journal.call(
-        MAIN,
-        Call::TemplateCreate {
-            function: 2,
-            paramc: 0,
-            depc: 0,
-        },
-        TEMPLATE,
-    )?;
-    journal.create(MAIN, TEMPLATE + 1)?;
-    journal.enter(Entry::Free {
-        edt: MAIN,
-        block: Guid(1),
-        writes: Writes::none(alloc),
-    })?;
-    journal.enter(Entry::End {
-        edt: MAIN,
-        returned: Guid::NULL,
-    })?;
-    for edt in 0..edts {
-        journal.enter(Entry::Start {
-            edt: Guid(TEMPLATE + 1 + edt),
-        })?;
-        journal.create(Guid(TEMPLATE + 1 + edt), TEMPLATE + 2 + edt)?;
-    }
-    for _ in 0..TURNS {
-        for edt in 0..edts {
-            journal.call(Guid(TEMPLATE + 1 + edt), Call::Print { value: 7 }, 0)?;
-        }
-    }
-    for edt in 0..edts {
-        journal.enter(Entry::End {
-            edt: Guid(TEMPLATE + 1 + edt),
-            returned: Guid::NULL,
-        })?;
-    }
-    Ok(journal)
-}
-
-// What replay says of the entries of so many EDTs.
-fn replayed(rt: &HostRuntime, edts: u64) -> io::Result<()>
-    requires { edts < 65536 }
-{
-    let checked = program(rt.alloc())?;
-    let Ok(journal) = side_by_side(rt.alloc(), edts) else {
+fn measure(rt: &HostRuntime, name: &str, case: Case, size: u32, rounds: u32) -> io::Result<()> {
+    let alloc = rt.alloc();
+    let program = program(alloc, text_of(case))?;
+    let Ok(journal) = journal_of(alloc, case, size) else {
         return Err(Error::from(ErrorKind::OutOfMemory));
     };
-    let outcome = replay(rt.alloc(), &checked, &[], 65_536, &journal.entries);
-    println!(rt; "{} {:?}", journal.entries.len(), outcome)
+    let outcome = replayed(alloc, &program, &journal, size, rounds)?;
+    println!(rt; "{name} {} {outcome:?}", journal.entries.len())
 }
 
-// The number of EDTs that the first word is.
-fn wanted(rt: &HostRuntime) -> io::Result<u64>
-    ensures { IfOk result (λ edts. edts < 65536) }
-{
-    let Some(word) = env::args(rt)?.nth(1) else {
+// The number that a word is.
+fn number(rt: &HostRuntime, place: usize) -> io::Result<u32> {
+    let Some(word) = env::args(rt)?.nth(place) else {
         return Err(Error::from(ErrorKind::InvalidInput));
     };
-    match word.parse::<u64>() {
-        Ok(edts) if edts < 60_000 => Ok(edts),
-        _ => Err(Error::from(ErrorKind::InvalidInput)),
+    match word.parse::<u32>() {
+        Ok(number) => Ok(number),
+        Err(_) => Err(Error::from(ErrorKind::InvalidInput)),
     }
 }
 
 fn main(rt: HostRuntime) -> io::Result<()> {
-    let edts = wanted(&rt)?;
-    replayed(&rt, edts)
+    let Some(word) = env::args(&rt)?.nth(1) else {
+        return Err(Error::from(ErrorKind::InvalidInput));
+    };
+    let size = number(&rt, 2)?;
+    let rounds = number(&rt, 3)?;
+    for (name, case) in CASES {
+        if word.as_str() == "each" || word.as_str() == name {
+            measure(&rt, name, case, size, rounds)?;
+        }
+    }
+    Ok(())
 }
