@@ -95,27 +95,33 @@ impl Journal {
         Guid(self.objects)
     }
 
+    /// An EDT acquires a block.
     pub fn acquire(&mut self, edt: Guid, block: Guid) -> Result<u64, NoMemory> {
         self.enter(Entry::Acquire { edt, block })
     }
 
+    /// An EDT is let wait for a block.
     pub fn wait(&mut self, edt: Guid, block: Guid) -> Result<u64, NoMemory> {
         self.enter(Entry::Wait { edt, block })
     }
 
+    /// An EDT finds a block of its plan destroyed.
     pub fn stale(&mut self, edt: Guid, block: Guid) -> Result<u64, NoMemory> {
         self.enter(Entry::StaleAcquire { edt, block })
     }
 
+    /// A body starts.
     pub fn start(&mut self, edt: Guid) -> Result<u64, NoMemory> {
         self.enter(Entry::Start { edt })
     }
 
+    /// An EDT that has ended its body gives back a block, with no private writes.
     pub fn free(&mut self, edt: Guid, block: Guid) -> Result<u64, NoMemory> {
         let writes = Writes::none(self.alloc);
         self.enter(Entry::Free { edt, block, writes })
     }
 
+    /// An EDT ends, and returns this.
     pub fn end(&mut self, edt: Guid, returned: Guid) -> Result<u64, NoMemory> {
         self.enter(Entry::End { edt, returned })
     }
@@ -150,10 +156,12 @@ impl Journal {
         self.call(edt, Guid::NULL, call, answer)
     }
 
+    /// A body prints a value.
     pub fn print(&mut self, edt: Guid, value: u64) -> Result<u64, NoMemory> {
         self.plain(edt, Call::Print { value }, 0)
     }
 
+    /// A body loads a word, with this value.
     pub fn load(&mut self, edt: Guid, block: Guid, word: u64, value: u64) -> Result<u64, NoMemory> {
         let call = Call::Load {
             block: block.0,
@@ -162,6 +170,7 @@ impl Journal {
         self.plain(edt, call, value)
     }
 
+    /// A body stores a value in a word.
     pub fn store(
         &mut self,
         edt: Guid,
@@ -177,10 +186,12 @@ impl Journal {
         self.plain(edt, call, 0)
     }
 
+    /// A body releases a block.
     pub fn release(&mut self, edt: Guid, block: Guid) -> Result<u64, NoMemory> {
         self.plain(edt, Call::DbRelease { block: block.0 }, 0)
     }
 
+    /// A body destroys a block.
     pub fn destroy(&mut self, edt: Guid, block: Guid) -> Result<u64, NoMemory> {
         self.plain(edt, Call::DbDestroy { block: block.0 }, 0)
     }
@@ -202,6 +213,7 @@ impl Journal {
         self.plain(MAIN, call, 0)
     }
 
+    /// A body satisfies a slot of an event.
     pub fn satisfy(
         &mut self,
         edt: Guid,

@@ -21,12 +21,16 @@ pub type Form = (u64, bool);
 /// The code of a creation of an EDT, and the new EDT, its scope and its output event, 0 for none.
 pub type Made = (Code, u64, u64, u64);
 
+/// An EDT and nothing beside it.
 pub const PLAIN: Form = (0, false);
 
+/// With an output event.
 pub const OUTPUT: Form = (0, true);
 
+/// A finish EDT.
 pub const FINISH: Form = (1, false);
 
+/// A finish EDT with an output event.
 pub const BOTH: Form = (1, true);
 
 /// An entry, written short.

@@ -22,7 +22,7 @@ const STALE: Code = Code::Stale;
 
 const NONE: Words = &[];
 
-// Two EDTs add to a word that each of them holds alone; their output events let EDT 6 show it.
+/// Two EDTs add to a word that each of them holds alone; their output events let EDT 6 show it.
 pub const ADDERS: Table = Table {
     text: b"fn add { store(depv[0], 0, load(depv[0], 0) + 1); }
 fn show { print load(depv[2], 0); }
@@ -166,7 +166,7 @@ fn mainEdt {
     ],
 };
 
-// A body returns the block that it made, and the output event brings it to EDT 7.
+/// A body returns the block that it made, and the output event brings it to EDT 7.
 pub const GIVEN: Table = Table {
     text: b"fn make { let d = ocrDbCreate(8, DB_PROP_NONE); store(d, 0, 7); return d; }
 fn show { print depv[0]; print load(depv[0], 0); }
@@ -272,7 +272,7 @@ fn mainEdt {
     ],
 };
 
-// The output event is destroyed before its EDT ends: what that returns comes to nobody.
+/// The output event is destroyed before its EDT ends: what that returns comes to nobody.
 pub const DESTROYED: Table = Table {
     text: b"fn work { print 1; return 1; }
 fn never { print 2; }
@@ -314,8 +314,8 @@ fn mainEdt {
     ],
 };
 
-// A body satisfies the output event of an EDT that has not ended: it is a ONCE event that takes an
-// argument, and is destroyed by firing.
+/// A body satisfies the output event of an EDT that has not ended: it is a ONCE event that takes an
+/// argument, and is destroyed by firing.
 pub const TAKEN: Table = Table {
     text: b"fn work { }
 fn show { print depv[0]; }

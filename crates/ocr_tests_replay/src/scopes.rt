@@ -16,7 +16,7 @@ const STALE: Code = Code::Stale;
 
 const NONE: Words = &[];
 
-// Finish EDT 4 with scope 5 and event 6, its child 10 and its grandchild 12.
+/// Finish EDT 4 with scope 5 and event 6, its child 10 and its grandchild 12.
 pub const FAMILY: Table = Table {
     text: b"fn leaf { print 3; }
 fn child {
@@ -189,8 +189,8 @@ fn mainEdt {
     ],
 };
 
-// Scope 11 in scope 5, both with an output event: that of the inner one sets off EDT 14, a member
-// of the outer one.
+/// Scope 11 in scope 5, both with an output event: that of the inner one sets off EDT 14, a member
+/// of the outer one.
 pub const NESTED: Table = Table {
     text: b"fn leaf { print 3; }
 fn inner {
@@ -318,8 +318,8 @@ fn mainEdt {
     ],
 };
 
-// Scope 11 has no output event, and is in scope 5, which has one: it leaves without a word. Here
-// the inner one is done before EDT 4 has ended.
+/// Scope 11 has no output event, and is in scope 5, which has one: it leaves without a word. Here
+/// the inner one is done before EDT 4 has ended.
 pub const INNER: Table = Table {
     text: b"fn leaf { print 3; }
 fn inner {
@@ -407,7 +407,7 @@ fn mainEdt {
     ],
 };
 
-// Neither scope has an output event: where they are done, nothing is satisfied.
+/// Neither scope has an output event: where they are done, nothing is satisfied.
 pub const SILENT: Table = Table {
     text: b"fn inner { }
 fn outer {
@@ -458,8 +458,8 @@ fn mainEdt {
     ],
 };
 
-// A member with an output event of its own: its End satisfies this and leaves the scope. What the
-// finish EDT returns is not handed on.
+/// A member with an output event of its own: its End satisfies this and leaves the scope. What the
+/// finish EDT returns is not handed on.
 pub const MEMBER: Table = Table {
     text: b"fn leaf { return 1; }
 fn top {

@@ -25,7 +25,8 @@ const GIVEN: &[u8] = b"fn make { let d = ocrDbCreate(8, 0); store(d, 0, 7); retu
 fn show { print depv[0]; print load(depv[0], 0); }
 fn mainEdt {
   let o = 0;
-  let m = ocrEdtCreate(ocrEdtTemplateCreate(make, 0, 1), EDT_PARAM_DEF, [], EDT_PARAM_DEF, [], 0, &o);
+  let m = ocrEdtCreate(ocrEdtTemplateCreate(make, 0, 1),
+    EDT_PARAM_DEF, [], EDT_PARAM_DEF, [], 0, &o);
   let s = ocrEdtCreate(ocrEdtTemplateCreate(show, 0, 1), EDT_PARAM_DEF, [], EDT_PARAM_DEF, [], 0);
   ocrAddDependence(o, s, 0, DB_MODE_CONST); ocrAddDependence(NULL_GUID, m, 0, DB_MODE_NULL);
 }";
@@ -59,7 +60,8 @@ const GONE: &[u8] = b"fn make { let d = ocrDbCreate(8, 0); ocrDbDestroy(d); retu
 fn show { print depv[0]; ocrEventSatisfy(paramv[0], NULL_GUID); }
 fn mainEdt {
   let o = 0; let t = ocrEdtTemplateCreate(show, 1, 2);
-  let m = ocrEdtCreate(ocrEdtTemplateCreate(make, 0, 1), EDT_PARAM_DEF, [], EDT_PARAM_DEF, [], 0, &o);
+  let m = ocrEdtCreate(ocrEdtTemplateCreate(make, 0, 1),
+    EDT_PARAM_DEF, [], EDT_PARAM_DEF, [], 0, &o);
   let e = ocrEventCreate(OCR_EVENT_STICKY_T, 0); let f = ocrEventCreate(OCR_EVENT_STICKY_T, 0);
   let r = ocrEdtCreate(t, EDT_PARAM_DEF, [e], EDT_PARAM_DEF, [], 0);
   ocrAddDependence(o, r, 0, DB_MODE_RO); ocrAddDependence(NULL_GUID, r, 1, DB_MODE_NULL);
@@ -73,7 +75,8 @@ const DESTROYED: &[u8] = b"fn work { print 1; }
 fn never { print 2; }
 fn mainEdt {
   let o = 0;
-  let w = ocrEdtCreate(ocrEdtTemplateCreate(work, 0, 1), EDT_PARAM_DEF, [], EDT_PARAM_DEF, [], 0, &o);
+  let w = ocrEdtCreate(ocrEdtTemplateCreate(work, 0, 1),
+    EDT_PARAM_DEF, [], EDT_PARAM_DEF, [], 0, &o);
   ocrEdtCreate(ocrEdtTemplateCreate(never, 0, 1), EDT_PARAM_DEF, [], EDT_PARAM_DEF, [o], 0);
   print ocrEventDestroy(o); ocrAddDependence(NULL_GUID, w, 0, DB_MODE_NULL);
 }";
@@ -83,7 +86,8 @@ const TAKEN: &[u8] = b"fn work { print 3; return 1; }
 fn first { print depv[0]; ocrAddDependence(NULL_GUID, paramv[0], 0, DB_MODE_NULL); }
 fn mainEdt {
   let o = 0;
-  let w = ocrEdtCreate(ocrEdtTemplateCreate(work, 0, 1), EDT_PARAM_DEF, [], EDT_PARAM_DEF, [], 0, &o);
+  let w = ocrEdtCreate(ocrEdtTemplateCreate(work, 0, 1),
+    EDT_PARAM_DEF, [], EDT_PARAM_DEF, [], 0, &o);
   let f = ocrEdtCreate(ocrEdtTemplateCreate(first, 1, 2), EDT_PARAM_DEF, [w], EDT_PARAM_DEF, [], 0);
   ocrAddDependence(o, f, 0, DB_MODE_NULL);
   print ocrEventSatisfySlot(o, 1, 1); print ocrEventSatisfy(o, 1); print ocrEventSatisfy(o, 1);
@@ -97,12 +101,14 @@ fn never { print 1; }
 fn show { print depv[0]; }
 fn mainEdt {
   let o = 0;
-  let a = ocrEdtCreate(ocrEdtTemplateCreate(give, 0, 1), EDT_PARAM_DEF, [], EDT_PARAM_DEF, [], 0, &o);
+  let a = ocrEdtCreate(ocrEdtTemplateCreate(give, 0, 1),
+    EDT_PARAM_DEF, [], EDT_PARAM_DEF, [], 0, &o);
   let e = ocrEventCreate(OCR_EVENT_STICKY_T, EVT_PROP_NONE);
   let f = ocrEventCreate(OCR_EVENT_IDEM_T, EVT_PROP_TAKES_ARG);
   ocrEdtCreate(ocrEdtTemplateCreate(never, 0, 1), EDT_PARAM_DEF, [], EDT_PARAM_DEF, [e], 0);
   let s = ocrEdtCreate(ocrEdtTemplateCreate(show, 0, 1), EDT_PARAM_DEF, [], EDT_PARAM_DEF, [], 0);
-  ocrAddDependence(o, e, 0, 0); ocrAddDependence(o, f, 0, 0); ocrAddDependence(f, s, 0, DB_MODE_NULL);
+  ocrAddDependence(o, e, 0, 0); ocrAddDependence(o, f, 0, 0);
+  ocrAddDependence(f, s, 0, DB_MODE_NULL);
   ocrAddDependence(NULL_GUID, a, 0, DB_MODE_NULL);
 }";
 
