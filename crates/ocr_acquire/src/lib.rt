@@ -13,6 +13,9 @@ use smallvec::SmallVec;
 use std::alloc::Global;
 use std::marker::Model;
 
+/// Blocks and the modes in which they are acquired: two of them without memory of their own.
+pub type Plan = SmallVec<(Guid, Mode), 2>;
+
 /// How an EDT uses a data block: from the weakest mode to the strongest.
 #[derive(Clone, Copy, PartialEq, Eq, PartialOrd, Ord, Debug)]
 pub enum Mode {
@@ -80,7 +83,7 @@ impl Default for Mode {
 
 /// What an EDT acquires for the payloads and modes of its slots: the distinct blocks other than
 /// NULL_GUID whose strongest mode is not `Null`, rising, each in its strongest mode.
-pub fn plan(alloc: Global, slots: &[(Guid, Mode)]) -> Result<SmallVec<(Guid, Mode), 8>, NoMemory>
+pub fn plan(alloc: Global, slots: &[(Guid, Mode)]) -> Result<Plan, NoMemory>
     ensures value { IfOk result (λ plan. plan.items ≡ plan_of slots.now) }
     ensures wanted { IfOk result (λ plan. IsPlan slots.now plan.items) }
     ensures well_formed { IfOk result (λ plan. IsWellFormed plan.items) }
@@ -91,7 +94,7 @@ pub fn plan(alloc: Global, slots: &[(Guid, Mode)]) -> Result<SmallVec<(Guid, Mod
 }
 
 /// The slots that ask for a block.
-fn asked(alloc: Global, slots: &[(Guid, Mode)]) -> Result<SmallVec<(Guid, Mode), 8>, NoMemory>
+fn asked(alloc: Global, slots: &[(Guid, Mode)]) -> Result<Plan, NoMemory>
     ensures { IfOk result (λ entries. entries.items ≡ filter asks slots.now) }
 {
     let mut entries = SmallVec::new(alloc);
@@ -105,7 +108,7 @@ fn asked(alloc: Global, slots: &[(Guid, Mode)]) -> Result<SmallVec<(Guid, Mode),
 }
 
 /// Of sorted entries the last of each block, which has its strongest mode.
-fn strongest(alloc: Global, entries: &[(Guid, Mode)]) -> Result<SmallVec<(Guid, Mode), 8>, NoMemory>
+fn strongest(alloc: Global, entries: &[(Guid, Mode)]) -> Result<Plan, NoMemory>
     ensures { IfOk result (λ plan. plan.items ≡ last_of_each entries.now) }
 {
     let mut plan = SmallVec::new(alloc);

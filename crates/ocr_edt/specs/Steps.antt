@@ -56,6 +56,12 @@ held_in entries = filter (λ (entry : ℕ × Mode). not (is_null entry.1)) entri
 abbrev pub stale_in : List (ℕ × Mode) → List ℕ
 stale_in entries = map name_of (filter (λ (entry : ℕ × Mode). is_null entry.1) entries)
 
+-- made blocks are held in RW, whatever the others say of them
+abbrev pub with_made : List ℕ → List (ℕ × Mode) → List (ℕ × Mode)
+with_made [] holds = holds
+with_made (block ∷ made) holds =
+    placed_by name_of (block, mode.Rw) (without block (with_made made holds))
+
 abbrev pub marked_at : List (ℕ × Mode) → ℕ → Bool → List (ℕ × Mode)
 marked_at entries place is_stale =
     if is_stale then slice_set entries place ((slice_index_or entries place (0, mode.Null)).0, mode.Null) else entries

@@ -6,9 +6,8 @@ ghost use Rattle.ocr_edt.specs.Steps.{after_ready, after_acquired, after_start, 
 
 use crate::Identity;
 use crate::executing::Running;
-use ocr_acquire::Mode;
+use ocr_acquire::{Mode, Plan};
 use ocr_guid::Guid;
-use smallvec::SmallVec;
 use std::marker::Model;
 
 /// An EDT whose slots are being filled.
@@ -47,7 +46,7 @@ impl Filling {
     }
 
     /// Every slot is set: the EDT goes on to acquire the blocks of its plan.
-    pub fn ready(self, plan: SmallVec<(Guid, Mode), 8>) -> Acquiring
+    pub fn ready(self, plan: Plan) -> Acquiring
         requires { IsWellFormed plan.items }
         ensures { result ≡ after_ready self plan.items }
     {
@@ -65,7 +64,7 @@ impl Filling {
 pub struct Acquiring {
     identity: Identity,
     // the plan, where a block that was found stale has the mode `Null`
-    entries: SmallVec<(Guid, Mode), 8>,
+    entries: Plan,
     done: usize,
 }
 
@@ -139,11 +138,7 @@ impl Acquiring {
 }
 
 /// The entries, where the one at this place has the mode `Null` if it was found stale.
-fn marked(
-    mut entries: SmallVec<(Guid, Mode), 8>,
-    place: usize,
-    stale: bool,
-) -> SmallVec<(Guid, Mode), 8>
+fn marked(mut entries: Plan, place: usize, stale: bool) -> Plan
     requires { place < length entries.items }
     ensures { result.items ≡ marked_at entries.items place stale }
 {
