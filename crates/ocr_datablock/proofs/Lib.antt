@@ -1,3 +1,5 @@
 pub mod Lines
 pub mod Laws
 pub mod Replaced
+pub mod Tallies
+pub mod Rows

@@ -1,9 +1,9 @@
 -- Who holds a block and who waits for it, from call to call.
-use Rattle.std.proofs.Common.{◌≡◌, ◌≢◌, ℕ, List, [], ◌∷◌, ◌++◌, Bool, true, false, ◌&&◌, not, ◌==◌, if◌then◌else◌, Option, Some, None, is_some, arith, refl, rules, sym, ◌∙◌, ap, subst, append_assoc}
+use Rattle.std.proofs.Common.{◌≡◌, ◌≢◌, ℕ, List, [], ◌∷◌, ◌++◌, Bool, true, false, ◌&&◌, not, ◌==◌, if◌then◌else◌, Option, Some, None, is_some, arith, refl, rules, sym, ◌∙◌, ap, subst, append_assoc, take, drop, drop-cons, get_or, length, add-one, ◌+◌, ◌<◌}
 use Rattle.std.proofs.lemmas.Grind.{common_steps}
 use Rattle.std.proofs.lemmas.Bool.{and_parts, and_from, cond_both, eqb-true}
 use Rattle.std.proofs.lemmas.Bool.Decides.{nat_tests}
-use Rattle.std.proofs.lemmas.List.{append-nil}
+use Rattle.std.proofs.lemmas.List.{append-nil, take-append-drop, take_more}
 use Rattle.ocr_acquire.specs.declared.Mode.{Mode}
 use Rattle.ocr_acquire.specs.declared.Mode.TheVariants as mode
 use Rattle.ocr_acquire.specs.Mode.{together, fits_all, mode_in}
@@ -206,7 +206,7 @@ none_both : (t : ℕ) (first second : List (ℕ × Mode)) → mode_in t first �
 none_both t [] second none none' = none'
 none_both t (one ∷ rest) second none none' = grind (arith, common_steps, none_both t rest second)
 
-once_push : (list : List (ℕ × Mode)) (t : ℕ) (m : Mode) → StandOnce list → mode_in t list ≡ None → StandOnce (list ++ (t, m) ∷ [])
+pub once_push : (list : List (ℕ × Mode)) (t : ℕ) (m : Mode) → StandOnce list → mode_in t list ≡ None → StandOnce (list ++ (t, m) ∷ [])
 once_push [] t m once none = (refl, tt)
 once_push (first ∷ rest) t m once none =
     let later : mode_in t rest ≡ None = grind (arith, common_steps) in
@@ -338,3 +338,129 @@ pub lent_passed : (borrower : Option ℕ) (destroyed : Bool) (line : Line) (t : 
 lent_passed None destroyed line t apart all lent = (together_passed destroyed (line_without t line) (together_left t line all), tt)
 lent_passed (Some u) destroyed line t apart all lent =
     (together_passed destroyed (line_without t line) (together_left t line all), alone_passed destroyed line u t lent (other_borrower u t (Some u) refl apart))
+
+-- WHO STANDS WHERE.
+pub without_none : (t : ℕ) (list : List (ℕ × Mode)) → mode_in t list ≡ None → without t list ≡ list
+without_none t [] none = refl
+without_none t (one ∷ rest) none = grind (arith, common_steps, without_none t rest)
+
+pub without_append : (t : ℕ) (xs ys : List (ℕ × Mode)) → without t (xs ++ ys) ≡ without t xs ++ without t ys
+without_append t [] ys = refl
+without_append t (one ∷ rest) ys = let more = without_append t rest ys in
+    elim (one.0 == t) as (λ b. (if b then without t (rest ++ ys) else one ∷ without t (rest ++ ys)) ≡ (if b then without t rest else one ∷ without t rest) ++ without t ys) [
+      | true ↦ more
+      | false ↦ ap (λ (tail : List (ℕ × Mode)). one ∷ tail) more
+    ]
+
+pub mode_skips : (t : ℕ) (xs ys : List (ℕ × Mode)) → mode_in t xs ≡ None → mode_in t (xs ++ ys) ≡ mode_in t ys
+mode_skips t [] ys none = refl
+mode_skips t (one ∷ rest) ys none = grind (arith, common_steps, mode_skips t rest ys)
+
+pub mode_finds : (t : ℕ) (m : Mode) (xs ys : List (ℕ × Mode)) → mode_in t xs ≡ Some m → mode_in t (xs ++ ys) ≡ Some m
+mode_finds t m [] ys some = cc
+mode_finds t m (one ∷ rest) ys some = grind (arith, common_steps, mode_finds t m rest ys)
+
+pub none_first : (t : ℕ) (xs ys : List (ℕ × Mode)) → mode_in t (xs ++ ys) ≡ None → mode_in t xs ≡ None
+none_first t [] ys none = refl
+none_first t (one ∷ rest) ys none = grind (arith, common_steps, none_first t rest ys)
+
+pub none_second : (t : ℕ) (xs ys : List (ℕ × Mode)) → mode_in t (xs ++ ys) ≡ None → mode_in t ys ≡ None
+none_second t [] ys none = none
+none_second t (one ∷ rest) ys none = grind (arith, common_steps, none_second t rest ys)
+
+-- of two lists that stand once together, each does, and none of the second is in the first
+pub once_first : (xs ys : List (ℕ × Mode)) → StandOnce (xs ++ ys) → StandOnce xs
+once_first [] ys once = tt
+once_first (one ∷ rest) ys once = (none_first one.0 rest ys once.0, once_first rest ys once.1)
+
+pub once_last : (xs : List (ℕ × Mode)) (one : ℕ × Mode) → StandOnce (xs ++ one ∷ []) → mode_in one.0 xs ≡ None
+once_last [] one once = refl
+once_last (first ∷ rest) one once =
+    let apart : mode_in first.0 (one ∷ []) ≡ None = none_second first.0 rest (one ∷ []) once.0 in
+    let later : mode_in one.0 rest ≡ None = once_last rest one once.1 in
+    grind (arith, common_steps, nat_tests)
+
+pub once_rest : (t : ℕ) (list : List (ℕ × Mode)) → StandOnce list → StandOnce (without t list)
+once_rest t list once = subst StandOnce (append-nil (without t list)) (once_without t list [] (subst StandOnce (sym (append-nil list)) once))
+
+pub without_first : (one : ℕ × Mode) (rest : List (ℕ × Mode)) → mode_in one.0 rest ≡ None → without one.0 (one ∷ rest) ≡ rest
+without_first one rest none =
+    let own : (one.0 == one.0) ≡ true = grind (arith, nat_tests) in
+    rw own (without_none one.0 rest none)
+
+pub mode_first : (one : ℕ × Mode) (rest : List (ℕ × Mode)) → mode_in one.0 (one ∷ rest) ≡ Some one.1
+mode_first one rest = let own : (one.0 == one.0) ≡ true = grind (arith, nat_tests) in rw own refl
+
+pub without_middle : (one : ℕ × Mode) (xs ys : List (ℕ × Mode)) → StandOnce (xs ++ one ∷ ys) → without one.0 (xs ++ one ∷ ys) ≡ xs ++ ys
+without_middle one [] ys once = without_first one ys once.0
+without_middle one (first ∷ rest) ys once =
+    let apart : mode_in first.0 (one ∷ ys) ≡ None = none_second first.0 rest (one ∷ ys) once.0 in
+    let more : without one.0 (rest ++ one ∷ ys) ≡ rest ++ ys = without_middle one rest ys once.1 in
+    let other : (first.0 == one.0) ≡ false = grind (arith, common_steps, nat_tests) in
+    rw other (ap (λ (tail : List (ℕ × Mode)). first ∷ tail) more)
+
+-- a holder does not wait
+pub none_waits : (t : ℕ) (holders queue : List (ℕ × Mode)) → StandOnce (holders ++ queue) → is_some (mode_in t holders) ≡ true → mode_in t queue ≡ None
+none_waits t [] queue once holds = cc
+none_waits t (one ∷ rest) queue once holds =
+    elim (one.0 == t) as (λ b. (one.0 == t) ≡ b → is_some (if b then Some one.1 else mode_in t rest) ≡ true → mode_in t queue ≡ None) [
+      | true ↦ λ here _. none_second t rest queue (subst (λ (k : ℕ). mode_in k (rest ++ queue) ≡ None) (eqb-true one.0 t here) once.0)
+      | false ↦ λ _ later. none_waits t rest queue once.1 later
+    ] refl holds
+
+pub drop_front : (xs ys : List (ℕ × Mode)) → drop (length xs) (xs ++ ys) ≡ ys
+drop_front [] ys = refl
+drop_front (one ∷ rest) ys = drop_front rest ys
+
+-- the front of the queue is granted while the hold stands that ends by it
+pub once_front : (line : Line) (t : ℕ) → StandOnce (line.holders ++ line.queue) → StandOnce (line.holders ++ front_that_fits (without t line.holders) line.queue)
+once_front line t once =
+    let front = front_that_fits (without t line.holders) line.queue in
+    let rest = rest_that_waits (without t line.holders) line.queue in
+    once_first (line.holders ++ front) rest
+    (subst StandOnce (ap (λ (tail : List (ℕ × Mode)). line.holders ++ tail) (queue_splits (without t line.holders) line.queue) ∙ sym (append_assoc line.holders front rest)) once)
+
+pub front_apart : (line : Line) (t : ℕ) → StandOnce (line.holders ++ line.queue) → is_some (mode_in t line.holders) ≡ true
+    → mode_in t (front_that_fits (without t line.holders) line.queue) ≡ None
+front_apart line t once holds =
+    let front = front_that_fits (without t line.holders) line.queue in
+    let rest = rest_that_waits (without t line.holders) line.queue in
+    none_first t front rest (subst (λ (queue : List (ℕ × Mode)). mode_in t queue ≡ None) (queue_splits (without t line.holders) line.queue) (none_waits t line.holders line.queue once holds))
+
+pub replaced : (t : ℕ) (holders front : List (ℕ × Mode)) → mode_in t front ≡ None → without t (holders ++ front) ≡ without t holders ++ front
+replaced t holders front apart = without_append t holders front ∙ ap (λ (tail : List (ℕ × Mode)). without t holders ++ tail) (without_none t front apart)
+
+pub queue_passed : (line : Line) (t : ℕ) → drop (length (front_that_fits (without t line.holders) line.queue)) line.queue ≡ (line_after_grants false (line_without t line)).queue
+queue_passed line t =
+    let front = front_that_fits (without t line.holders) line.queue in
+    let rest = rest_that_waits (without t line.holders) line.queue in
+    subst (λ (queue : List (ℕ × Mode)). drop (length front) queue ≡ rest) (sym (queue_splits (without t line.holders) line.queue)) (drop_front front rest)
+
+pub cut_at : (list : List (ℕ × Mode)) (i : ℕ) (d : ℕ × Mode) → i < length list → drop i list ≡ get_or list i d ∷ drop (i + 1) list
+cut_at list i d below = rw add-one (drop-cons list i d below)
+
+-- of those who are granted in their order, as many as there are so far
+pub once_so_far : (holders front : List (ℕ × Mode)) (i : ℕ) → StandOnce (holders ++ front) → StandOnce (holders ++ take i front)
+once_so_far holders front i once =
+    once_first (holders ++ take i front) (drop i front)
+    (subst StandOnce (ap (λ (tail : List (ℕ × Mode)). holders ++ tail) (sym (take-append-drop i front)) ∙ sym (append_assoc holders (take i front) (drop i front))) once)
+
+pub next_is_new : (holders front : List (ℕ × Mode)) (i : ℕ) (d : ℕ × Mode) → i < length front → StandOnce (holders ++ front) → mode_in (get_or front i d).0 (holders ++ take i front) ≡ None
+next_is_new holders front i d below once =
+    let next : take (i + 1) front ≡ take i front ++ get_or front i d ∷ [] = take_more front i d below in
+    once_last (holders ++ take i front) (get_or front i d)
+    (subst StandOnce (ap (λ (tail : List (ℕ × Mode)). holders ++ tail) next ∙ sym (append_assoc holders (take i front) (get_or front i d ∷ []))) (once_so_far holders front (i + 1) once))
+
+-- WHO STANDS ONCE AFTER A STEP.
+pub once_asked : (destroyed : Bool) (line : Line) (t : ℕ) (m : Mode) → can_grant destroyed line m ≡ true → mode_in t line.holders ≡ None
+    → StandOnce (line.holders ++ line.queue) → StandOnce ((line.holders ++ (t, m) ∷ []) ++ line.queue)
+once_asked destroyed line t m can none once = once_granted line.holders line.queue t m (and_parts _ _ (and_parts _ _ can).1).0 once none
+
+pub once_queued : (holders queue : List (ℕ × Mode)) (t : ℕ) (m : Mode) → mode_in t holders ≡ None → mode_in t queue ≡ None
+    → StandOnce (holders ++ queue) → StandOnce (holders ++ (queue ++ (t, m) ∷ []))
+once_queued holders queue t m holds waits once = subst StandOnce (append_assoc holders queue ((t, m) ∷ [])) (once_push (holders ++ queue) t m once (none_both t holders queue holds waits))
+
+-- another than the borrower ends its hold
+pub lent_left : (borrower : Option ℕ) (holders : List (ℕ × Mode)) (t : ℕ) → borrower ≢ Some t → IsLentTo borrower holders → IsLentTo borrower (without t holders)
+lent_left None holders t apart lent = tt
+lent_left (Some u) holders t apart lent = let other = other_borrower u t (Some u) refl apart in rw (lent, other) refl

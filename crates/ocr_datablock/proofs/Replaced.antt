@@ -223,6 +223,8 @@ words_now replaced words =
     ∙ ap (λ (o : Option ℕ). unwrap_or o (slice_index began k)) (told_in words k replaced)
     ∙ now_told words began k (times k replaced) (still replaced words k))
 
+pub ruleset word_facts = (length_written, words_now)
+
 -- THE LIST OF THE WRITES.
 pub times_map : (words : List ℕ) (k : ℕ) (replaced : List (ℕ × ℕ)) → times k (map (write_of words) replaced) ≡ times k replaced
 times_map words k [] = refl

@@ -2,3 +2,4 @@ pub mod Lent
 pub mod Block
 pub mod Steps
 pub mod Replaced
+pub mod Tally

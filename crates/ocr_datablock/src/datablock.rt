@@ -7,8 +7,10 @@ ghost use Rattle.ocr_datablock.specs.Lent.{words_in};
 ghost use Rattle.ocr_datablock.specs.Block.{state_of, GoTogether, IsLentTo, names, without, front_that_fits, rest_that_waits, leavers, line_after_grants, line_without, line, is_gone, is_grantable};
 ghost use Rattle.ocr_datablock.specs.Steps.{on_ask, on_release, on_doom, with_line, after_ask, after_release, after_doom, after_store, after_lend, loan_from, after_take_back, after_take_back_with, AskLaw, ReleaseLaw, DoomLaw, StoreLaw, LendLaw, TakeBackLaw, WordsLaw, HoldersLaw, OnceLaw, WaitingLaw, QueueLaw, GoneLaw, LoanLaw};
 
+use crate::holders::Holders;
 use crate::loan::Lent;
-use ocr_acquire::{Mode, fits};
+use crate::roll::Roll;
+use ocr_acquire::Mode;
 use ocr_base::NoMemory;
 use ocr_guid::Guid;
 use std::alloc::Global;
@@ -33,22 +35,23 @@ pub enum Asked {
 #[derive(Drop)]
 pub struct Block {
     size: u32,
+    destroyed: bool,
     // none while they are on loan
     words: Vec<u64>,
     // the marks for loans in EW, all clear; a loan that stores makes them
     marks: Vec<u8>,
     // who has the words on loan
     borrower: Option<Guid>,
-    holders: Vec<(Guid, Mode)>,
-    queue: Vec<(Guid, Mode)>,
-    destroyed: bool,
+    holders: Holders,
+    queue: Roll,
 }
 
 impl Model for Block {
-    ghost use Rattle.std.specs.Prelude.{◌≡◌, ◌≤◌, length, None};
+    ghost use Rattle.std.specs.Prelude.{◌≡◌, ◌≤◌, ◌++◌, length, None};
     ghost use Rattle.ocr_datablock.specs.declared.datablock.TheConstants.{MOST_WORDS};
     ghost use Rattle.ocr_datablock.specs.Block.{State, GoTogether, IsLentTo};
     ghost use Rattle.ocr_datablock.specs.Replaced.{AreClear};
+    ghost use Rattle.ocr_datablock.specs.Steps.{StandOnce};
 
     ghost Value = { State };
 
@@ -56,15 +59,15 @@ impl Model for Block {
       size = b.size;
       words = b.words.items;
       borrower = b.borrower;
-      holders = b.holders.items;
-      queue = b.queue.items;
+      holders = b.holders;
+      queue = b.queue;
       destroyed = b.destroyed;
     } };
 
     ghost invariant = { λ b. (b.size ≤ MOST_WORDS)
         × (b.borrower ≡ None → length b.words.items ≡ b.size)
-        × GoTogether b.holders.items × IsLentTo b.borrower b.holders.items
-        × AreClear b.marks.items };
+        × GoTogether b.holders × IsLentTo b.borrower b.holders
+        × AreClear b.marks.items × StandOnce (b.holders ++ b.queue) };
 }
 
 impl Block {
@@ -76,18 +79,14 @@ impl Block {
         ensures { IfOk result (λ block. block ≡ state_of words creator []) }
     {
         let zeros = Vec::from_elem(alloc, 0, words as usize)?;
-        let mut holders = Vec::new(alloc);
-        if creator != Guid::NULL {
-            holders.push((creator, Mode::Rw))?;
-        }
         Ok(Block {
             size: words,
+            destroyed: false,
             words: zeros,
             marks: Vec::new(alloc),
             borrower: None,
-            holders,
-            queue: Vec::new(alloc),
-            destroyed: false,
+            holders: Holders::new(creator),
+            queue: Roll::new(),
         })
     }
 
@@ -119,14 +118,14 @@ impl Block {
         ensures not_lent { IfSome result (λ mode. is_exclusive mode ≡ false
             → self.now.borrower ≡ None) }
     {
-        find_mode(&self.holders, edt)
+        self.holders.mode_of(edt)
     }
 
     /// Whether the EDT waits in the block's queue.
     pub fn waits(&self, edt: Guid) -> bool
         ensures { result ≡ is_some (mode_in edt self.now.queue) }
     {
-        find_mode(&self.queue, edt).is_some()
+        self.queue.mode_of(edt).is_some()
     }
 
     /// The EDT that has the words on loan, which holds the block in `Ew`, alone; None where nobody
@@ -143,11 +142,11 @@ impl Block {
         requires { is_null mode ≡ false }
         ensures { result ≡ is_grantable self.now mode }
     {
-        !self.destroyed && self.queue.is_empty() && fits(mode, &self.holders)
+        !self.destroyed && self.queue.is_empty() && self.holders.fits(mode)
     }
 
     /// Lets an EDT hold the block, or wait for it. After an error the block is as before.
-    pub fn ask(&mut self, _alloc: Global, edt: Guid, mode: Mode) -> Result<Asked, NoMemory>
+    pub fn ask(&mut self, alloc: Global, edt: Guid, mode: Mode) -> Result<Asked, NoMemory>
         requires no_holder { mode_in edt self.old.holders ≡ None }
         requires not_waiting { mode_in edt self.old.queue ≡ None }
         requires some_mode { is_null mode ≡ false }
@@ -162,10 +161,10 @@ impl Block {
             return Ok(Asked::Gone);
         }
         if self.grantable(mode) {
-            self.holders.push((edt, mode))?;
+            self.holders.push(alloc, edt, mode)?;
             return Ok(Asked::Granted);
         }
-        self.queue.push((edt, mode))?;
+        self.queue.push(alloc, edt, mode)?;
         Ok(Asked::Queued)
     }
 
@@ -180,7 +179,10 @@ impl Block {
             ≡ resumed.items ++ names self.new.queue) }
         ensures err { OnErr result (self.new ≡ self.old) }
     {
-        self.end_hold(alloc, edt, self.destroyed)
+        if self.destroyed {
+            return self.leave(alloc, edt);
+        }
+        self.pass_on(alloc, edt)
     }
 
     /// Destroys the block: nobody more is granted, and who holds it goes on. Ends the hold of this
@@ -196,27 +198,49 @@ impl Block {
             ≡ resumed.items ++ names self.new.queue) }
         ensures err { OnErr result (self.new ≡ self.old) }
     {
-        self.end_hold(alloc, edt, true)
+        let resumed = self.leave(alloc, edt)?;
+        self.destroyed = true;
+        Ok(resumed)
     }
 
-    fn end_hold(&mut self, alloc: Global, edt: Guid, destroyed: bool) -> Result<Vec<Guid>, NoMemory>
+    /// Ends the hold of an EDT, if it has one, where nobody more is granted: all who wait leave the
+    /// queue once nobody holds the block.
+    fn leave(&mut self, alloc: Global, edt: Guid) -> Result<Vec<Guid>, NoMemory>
         requires { self.old.borrower ≢ Some edt }
-        ensures answer { IfOk result
-            (λ resumed. resumed.items
-            ≡ names (leavers destroyed (line_without edt (line self.old)))) }
-        ensures state { IfOk result
-            (λ _. self.new
-            ≡ with_line self.old destroyed (line_after_grants destroyed (line_without edt (line self.old)))) }
+        ensures answer { IfOk result (λ resumed. resumed.items ≡ on_doom self.old edt) }
+        ensures state { IfOk result (λ _. self.new ≡ with_line self.old self.old.destroyed
+            (line_after_grants true (line_without edt (line self.old)))) }
         ensures rest_waits { IfOk result (λ resumed. names self.old.queue
             ≡ resumed.items ++ names self.new.queue) }
         ensures err { OnErr result (self.new ≡ self.old) }
     {
-        let mut holders = copy_without(alloc, &self.holders, edt)?;
-        let count = pass_on(destroyed, &mut holders, &self.queue)?;
-        let resumed = copy_names(alloc, &self.queue[..count])?;
-        self.holders = holders;
-        self.queue.drain(..count);
-        self.destroyed = destroyed;
+        if !self.holders.tally_without(edt).is_empty() {
+            self.holders.remove(edt);
+            return Ok(Vec::new(alloc));
+        }
+        let resumed = self.queue.names(alloc)?;
+        self.holders.remove(edt);
+        self.queue = Roll::new();
+        Ok(resumed)
+    }
+
+    /// Ends a hold where those who wait are granted.
+    fn pass_on(&mut self, alloc: Global, edt: Guid) -> Result<Vec<Guid>, NoMemory>
+        requires holder { is_some (mode_in edt self.old.holders) ≡ true }
+        requires nothing_lent { self.old.borrower ≢ Some edt }
+        ensures answer { IfOk result (λ resumed. resumed.items
+            ≡ names (leavers false (line_without edt (line self.old)))) }
+        ensures state { IfOk result (λ _. self.new ≡ with_line self.old self.old.destroyed
+            (line_after_grants false (line_without edt (line self.old)))) }
+        ensures rest_waits { IfOk result (λ resumed. names self.old.queue
+            ≡ resumed.items ++ names self.new.queue) }
+        ensures err { OnErr result (self.new ≡ self.old) }
+    {
+        let held = self.holders.tally_without(edt);
+        let front = self.queue.front(alloc, held)?;
+        let resumed = copy_names(alloc, &front)?;
+        self.holders.replace(alloc, edt, &front)?;
+        self.queue.drop_first(front.len());
         Ok(resumed)
     }
 
@@ -315,86 +339,6 @@ pub fn block_laws()
     ensures gone { GoneLaw }
     ensures loan { LoanLaw }
 {}
-
-fn find_mode(holders: &[(Guid, Mode)], edt: Guid) -> Option<Mode>
-    ensures { result ≡ mode_in edt holders.now }
-{
-    for (holder, mode) in holders {
-        if *holder == edt {
-            return Some(*mode);
-        }
-    }
-    None
-}
-
-/// The holders but for one.
-fn copy_without(
-    alloc: Global,
-    holders: &[(Guid, Mode)],
-    edt: Guid,
-) -> Result<Vec<(Guid, Mode)>, NoMemory>
-    ensures { IfOk result (λ rest. rest.items ≡ without edt holders.now) }
-{
-    let mut rest = Vec::new(alloc);
-    for (holder, mode) in holders {
-        if *holder != edt {
-            rest.push((*holder, *mode))?;
-        }
-    }
-    Ok(rest)
-}
-
-/// Adds to the holders who is granted now, and says how many leave the front of the queue.
-fn pass_on(
-    destroyed: bool,
-    holders: &mut Vec<(Guid, Mode)>,
-    queue: &[(Guid, Mode)],
-) -> Result<usize, NoMemory>
-    ensures holders { IfOk result (λ _.
-        holders.new.items ≡ (line_after_grants destroyed (record {
-          holders = holders.old.items;
-          queue = queue.now;
-        })).holders) }
-    ensures front { IfOk result (λ count.
-        take count queue.now ≡ leavers destroyed (record {
-          holders = holders.old.items;
-          queue = queue.now;
-        })) }
-    ensures rest { IfOk result (λ count.
-        drop count queue.now ≡ (line_after_grants destroyed (record {
-          holders = holders.old.items;
-          queue = queue.now;
-        })).queue) }
-    ensures within { IfOk result (λ count. count ≤ length queue.now) }
-{
-    if !destroyed {
-        return grant(holders, queue);
-    }
-    if holders.is_empty() {
-        Ok(queue.len())
-    } else {
-        Ok(0)
-    }
-}
-
-/// Adds the longest front of the queue that fits to the holders, and counts it.
-fn grant(holders: &mut Vec<(Guid, Mode)>, queue: &[(Guid, Mode)]) -> Result<usize, NoMemory>
-    ensures holders { IfOk result (λ _.
-        holders.new.items ≡ holders.old.items ++ front_that_fits holders.old.items queue.now) }
-    ensures front { IfOk result (λ count. take count queue.now
-        ≡ front_that_fits holders.old.items queue.now) }
-    ensures rest { IfOk result (λ count. drop count queue.now
-        ≡ rest_that_waits holders.old.items queue.now) }
-    ensures within { IfOk result (λ count. count ≤ length queue.now) }
-{
-    for i in 0..queue.len() {
-        if !fits(queue[i].1, holders) {
-            return Ok(i);
-        }
-        holders.push(queue[i])?;
-    }
-    Ok(queue.len())
-}
 
 fn copy_names(alloc: Global, front: &[(Guid, Mode)]) -> Result<Vec<Guid>, NoMemory>
     ensures { IfOk result (λ copied. copied.items ≡ names front.now) }

@@ -2,10 +2,11 @@
 #![tactic(auto)]
 
 pub mod datablock;
+mod holders;
 pub mod loan;
+mod roll;
+mod row;
+mod tally;
 
 pub use datablock::{Asked, Block, MOST_WORDS};
 pub use loan::Lent;
-
-#[cfg(test)]
-mod tests;

@@ -87,7 +87,7 @@ impl Lent {
     }
 
     /// The word as it is now.
-    #[tactic(auto, using(ocr_acquire::proofs::Writes::length_written, crate::proofs::Replaced::words_now))]
+    #[tactic(auto, using(crate::proofs::Replaced::word_facts))]
     pub fn load(&self, word: u32) -> u64
         requires exists { word < length self.now.began }
         ensures value { result ≡ slice_index (words_in self.now) word }
