@@ -76,7 +76,7 @@ kept_rises p a (k ∷ rest) rises =
     rises_if (p k) a (k ∷ filter p rest) (filter p rest) (λ kept. (rises.0, later))
     (λ out. lower a k (filter p rest) (omega (arith, rises.0)) later)
 
-rising_from : (a : ℕ) (xs : List ℕ) → RisesFrom a xs → IsRising xs
+pub rising_from : (a : ℕ) (xs : List ℕ) → RisesFrom a xs → IsRising xs
 rising_from a [] rises = tt
 rising_from a (k ∷ rest) rises = rises.1
 

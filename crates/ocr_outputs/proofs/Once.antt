@@ -35,7 +35,7 @@ use Rattle.ocr_quiet.specs.Marks.{mark}
 use Rattle.ocr_quiet.proofs.Stages.{told_law}
 use Rattle.ocr_standing.proofs.Counting.{one}
 use Rattle.ocr_standing.proofs.Finished.{finish_law}
-use Rattle.ocr_standing.proofs.Members.{none_gone, running_identity}
+use Rattle.ocr_standing.proofs.Members.{left_at, left_scope, none_gone, running_identity, some_stay}
 use Rattle.ocr_standing.proofs.Own.{running_mark}
 use Rattle.ocr_standing.proofs.Scopes.{scope_in, scope_at, members_in, members_are, HasIn, has_in, sent_in, sent_is, call_scopes, left, left_one, joined, home_has, new_apart, edt_scopes}
 use Rattle.ocr_standing.specs.Members.{members_on}
@@ -176,13 +176,6 @@ call_kept s past u home c a w ended (Some i) none legal =
     sym (ap one (same_over (members_at s past) (members_at s (Call u home c a w ∷ past)) ended i (λ _. ap (λ (st : Option State). members_in st == 0) (call_scopes s past u home c a w none legal i.scope))))
 
 -- A MEMBER LEAVES
-left_at : (b : Bool) (m : Option Made) (calls : List ScopeCall) → (b ≡ true → HasIn (scope_in m calls)) → scope_in m (if b then Parting ∷ calls else calls) ≡ (if b then left (scope_in m calls) else scope_in m calls)
-left_at true m calls has = left_one m calls (has refl)
-left_at false m calls has = refl
-
-abbrev left_scope : Setting → History → What → Bool → ℕ → Option State
-left_scope s past w done g = scope_in (made s past g) (leave_step w done g (scope_calls past g))
-
 abbrev left_members : Setting → History → What → Bool → ℕ → ℕ
 left_members s past w done g = members_in (left_scope s past w done g)
 
@@ -211,9 +204,6 @@ last_left n some = elim (n == 1) as (λ b. (n == 1) ≡ b → one b + one (n == 
       let stay : (n - 1 == 0) ≡ false = some_stay n some off in
       rw (none_gone n some, stay) refl
 ] refl
-  where
-    some_stay : (n : ℕ) → 0 < n → (n == 1) ≡ false → (n - 1 == 0) ≡ false
-    some_stay n some off = grind (arith, common_steps)
 
 abbrev event_in : Option Made → ℕ
 event_in (Some (MadeScope outer event)) = event

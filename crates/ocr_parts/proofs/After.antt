@@ -51,7 +51,7 @@ use Rattle.ocr_parts.proofs.Lent.{lent_law, ready_core}
 use Rattle.ocr_datablock.specs.Steps.{after_ask, after_release, after_store, after_doom}
 use Rattle.ocr_meaning.specs.Holds.{is_done}
 use Rattle.ocr_parts.specs.Kinds.{is_vacant, with_scope, home_on, is_edt_face, IsBlock, core_progress, is_acquiring, is_running, loan_on, mode_on, next_in, on_core, size_on, with_block, with_links, words_on, is_template, with_template, is_event, with_event, is_destroyed}
-use Rattle.ocr_parts.specs.Loans.{kept_created, kept_in, kept_of, loan_in, without_kept}
+use Rattle.ocr_parts.specs.Loans.{kept_created, kept_in, kept_of, loan_in, with_kept, without_kept}
 use Rattle.ocr_parts.specs.declared.loans.Kept.{Kept}
 use Rattle.ocr_slots.specs.Steps.{after_link}
 use Rattle.ocr_finish.specs.Scope.{ScopeCall, Joining, Parting}
@@ -581,7 +581,7 @@ abbrev held_calls : Bool → ℕ → List edt.EdtCall → List edt.EdtCall
 held_calls b d calls = if b then edt.Hold d ∷ calls else calls
 
 abbrev held_loans : Bool → ℕ → ℕ → List (ℕ × Kept) → List (ℕ × Kept)
-held_loans b d z loans = if b then (d, kept_created z) ∷ loans else loans
+held_loans b d z loans = if b then with_kept d (kept_created z) loans else loans
 
 abbrev core_is : ℕ → List ℕ → Edt → List (ℕ × Kept) → Core
 core_is f ps e loans = record { function = f; params = ps; edt = e; loans = loans }
@@ -590,8 +590,8 @@ core_created : (m : Option Made) (i : Identity) (fl d z : ℕ) (calls : List edt
     → core m i (held_calls (fl == 0) d calls) (held_loans (fl == 0) d z loans) ≡ on_core (core m i calls loans) (creating_core fl d z)
 core_created (Some (MadeEdt f ps n)) i fl d z calls loans running =
     elim (fl == 0) as (λ b. part.Core (core_is f ps (edt.edt_of i (held_calls b d calls)) (held_loans b d z loans))
-    ≡ part.Core (if b then core_is f ps (holding_edt d (edt.edt_of i calls)) ((d, kept_created z) ∷ loans) else core_is f ps (edt.edt_of i calls) loans)) [
-      | true ↦ ap (λ (e : Edt). part.Core (core_is f ps e ((d, kept_created z) ∷ loans))) (edt_held i calls d running)
+    ≡ part.Core (if b then core_is f ps (holding_edt d (edt.edt_of i calls)) (with_kept d (kept_created z) loans) else core_is f ps (edt.edt_of i calls) loans)) [
+      | true ↦ ap (λ (e : Edt). part.Core (core_is f ps e (with_kept d (kept_created z) loans))) (edt_held i calls d running)
       | false ↦ refl
     ]
 core_created other i fl d z calls loans running = cc
@@ -695,9 +695,9 @@ called_core s past t home other a w on legal u = refl
 
 core_acquired : (m : Option Made) (i : Identity) (d : ℕ) (k : Mode) (size : ℕ) (words : List ℕ) (members : List (ℕ × Mode)) (calls : List edt.EdtCall) (loans : List (ℕ × Kept)) → IsFormed (with_plan members calls)
     → next_in (core_progress (on_core (core m i calls loans) (with_phase (made_ready members)))) ≡ Some (d, k)
-    → core m i (edt.Acquired d ∷ awake (with_plan members calls)) ((d, kept_of k size words) ∷ loans) ≡ on_core (on_core (core m i calls loans) (with_phase (made_ready members))) (acquiring_core d k size words)
+    → core m i (edt.Acquired d ∷ awake (with_plan members calls)) (with_kept d (kept_of k size words) loans) ≡ on_core (on_core (core m i calls loans) (with_phase (made_ready members))) (acquiring_core d k size words)
 core_acquired (Some (MadeEdt f ps n)) i d k size words members calls loans is_formed next =
-    ap (λ (e : Edt). part.Core (core_is f ps e ((d, kept_of k size words) ∷ loans))) (edt_acquired i members calls d k is_formed next)
+    ap (λ (e : Edt). part.Core (core_is f ps e (with_kept d (kept_of k size words) loans))) (edt_acquired i members calls d k is_formed next)
 core_acquired other i d k size words members calls loans is_formed next = cc
 
 core_stale : (m : Option Made) (i : Identity) (d : ℕ) (k : Mode) (members : List (ℕ × Mode)) (calls : List edt.EdtCall) (loans : List (ℕ × Kept)) → IsFormed (with_plan members calls)
@@ -731,9 +731,9 @@ acquired_core s past t d u k next is taken =
     let words : contents_of s past d ≡ words_on here = sym (words_are (made s past d) (link_calls past d) (block_calls s past d) (event_calls s past d) (scope_calls past d) t k taken) in
     let size : size_in (made s past d) ≡ size_on here = sym (size_is (made s past d) (link_calls past d) (block_calls s past d) (event_calls s past d) (scope_calls past d)) in
     let members : ℕ → List edt.EdtCall = λ j. with_plan (plan_of s past j) (edt_calls s past j) in
-    core_if (t == u) (made s past u) (identity_of past u) (edt.Acquired d ∷ awake (members u)) (edt_calls s past u) ((d, kept_now s past t d) ∷ loans_of s past u) (loans_of s past u)
-    ∙ (λ i. if t == u then core (made s past u) (identity_of past u) (edt.Acquired d ∷ awake (members u)) ((d, kept_of (is i) (size i) (words i)) ∷ loans_of s past u) else (parts_of s past).core u)
-    ∙ own_step s past t u (λ j. core (made s past j) (identity_of past j) (edt.Acquired d ∷ awake (members j)) ((d, kept_of k (size_on here) (words_on here)) ∷ loans_of s past j)) (λ x. on_core x (acquiring_core d k (size_on here) (words_on here)))
+    core_if (t == u) (made s past u) (identity_of past u) (edt.Acquired d ∷ awake (members u)) (edt_calls s past u) (with_kept d (kept_now s past t d) (loans_of s past u)) (loans_of s past u)
+    ∙ (λ i. if t == u then core (made s past u) (identity_of past u) (edt.Acquired d ∷ awake (members u)) (with_kept d (kept_of (is i) (size i) (words i)) (loans_of s past u)) else (parts_of s past).core u)
+    ∙ own_step s past t u (λ j. core (made s past j) (identity_of past j) (edt.Acquired d ∷ awake (members j)) (with_kept d (kept_of k (size_on here) (words_on here)) (loans_of s past j))) (λ x. on_core x (acquiring_core d k (size_on here) (words_on here)))
     (core_acquired (made s past t) (identity_of past t) d k (size_on here) (words_on here) (plan_of s past t) (edt_calls s past t) (loans_of s past t)
     (formed_ready s past t (edt_calls s past t) (formed s past t)) (ready_next s past t (d, k) next))
 

@@ -21,7 +21,7 @@ use Rattle.ocr_parts.specs.Laws.{AwaitedLaw}
 use Rattle.ocr_parts.proofs.Lent.{lent_law}
 use Rattle.ocr_parts.proofs.Allowed.{allowed_law}
 use Rattle.ocr_acquire.specs.Mode.{mode_in}
-use Rattle.ocr_parts.specs.Loans.{kept_created, kept_in, without_kept}
+use Rattle.ocr_parts.specs.Loans.{kept_created, kept_in, with_kept, without_kept}
 use Rattle.ocr_parts.specs.declared.loans.Kept.{Kept}
 
 -- an EDT that has a loan of a block has acquired it
@@ -52,8 +52,8 @@ no_loan : (c b : Bool) → (c && false) || b ≡ b
 no_loan true b = refl
 no_loan false b = refl
 
-created_if : (c : Bool) (g z d : ℕ) (loans : List (ℕ × Kept)) → has_loan d (if c then (g, kept_created z) ∷ loans else loans) ≡ true → has_loan d loans ≡ true
-created_if true g z d loans is = sym (no_loan (g == d) (has_loan d loans)) ∙ is
+created_if : (c : Bool) (g z d : ℕ) (loans : List (ℕ × Kept)) → has_loan d (if c then with_kept g (kept_created z) loans else loans) ≡ true → has_loan d loans ≡ true
+created_if true g z d loans is = fewer g d loans (sym (no_loan (g == d) (has_loan d (without_kept g loans))) ∙ is)
 created_if false g z d loans is = is
 
 -- a loan that is kept with a block
@@ -92,12 +92,12 @@ had_step by (call.DbCreate n fl) a t d loans calls had is = let before : edt.was
 had_step by other a t d loans calls had is = had is
 
 had_acquired : (c : Bool) (b d : ℕ) (k : Kept) (members : List (ℕ × Mode)) (loans : List (ℕ × Kept)) (calls : List edt.EdtCall) → IsHad d loans calls
-    → IsHad d (if c then (b, k) ∷ loans else loans) (if c then edt.Acquired b ∷ awake (with_plan members calls) else calls)
+    → IsHad d (if c then with_kept b k loans else loans) (if c then edt.Acquired b ∷ awake (with_plan members calls) else calls)
 had_acquired false b d k members loans calls had is = had is
 had_acquired true b d k members loans calls had is =
-    elim (b == d) as (λ x. ((x && is_some k.loan) || has_loan d loans) ≡ true → (x || edt.was_acquired d (awake (with_plan members calls))) ≡ true) [
+    elim (b == d) as (λ x. ((x && is_some k.loan) || has_loan d (without_kept b loans)) ≡ true → (x || edt.was_acquired d (awake (with_plan members calls))) ≡ true) [
       | true ↦ λ is. refl
-      | false ↦ λ is. had_awake d (with_plan members calls) (had_ready d members calls (had is))
+      | false ↦ λ is. had_awake d (with_plan members calls) (had_ready d members calls (had (fewer b d loans is)))
     ] is
 
 had : (s : Setting) (past : History) (t d : ℕ) → IsHad d (loans_of s past t) (edt_calls s past t)

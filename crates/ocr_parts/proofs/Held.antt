@@ -16,7 +16,7 @@ use Rattle.ocr_parts.specs.declared.part.Core.{Core}
 use Rattle.ocr_parts.specs.declared.part.Part.{Part}
 use Rattle.ocr_parts.specs.declared.part.Part.TheVariants as part
 use Rattle.ocr_parts.proofs.Choices.{same}
-use Rattle.ocr_parts.proofs.Lent.{loan_kept}
+use Rattle.ocr_parts.proofs.Lent.{kept_after_put, loan_kept}
 use Rattle.ocr_parts.proofs.After.{linked_core, deps_core}
 use Rattle.ocr_acquire.specs.Mode.{mode_in}
 use Rattle.ocr_meaning.specs.Holds.{after_call, creator_hold, is_done, with_hold}
@@ -68,7 +68,7 @@ core_held_mode (part.Core c) g z d running = edt_held_mode c.edt g d running
 core_held_mode other g z d running = cc
 
 core_held_kept : (x : Part) (g z d : ℕ) → is_running x ≡ true → kept_on (on_core x (holding_core g z)) d ≡ (if g == d then Some (kept_created z) else kept_on x d)
-core_held_kept (part.Core c) g z d running = refl
+core_held_kept (part.Core c) g z d running = kept_after_put g d (kept_created z) c.loans
 core_held_kept other g z d running = cc
 
 same_core : (x : Part) → on_core x (λ c. c) ≡ x

@@ -26,7 +26,7 @@ use Rattle.ocr_parts.specs.Laws.{IsLentTo, LentLaw}
 use Rattle.ocr_parts.proofs.Blocks.{asked_borrower, asked_contents}
 use Rattle.ocr_acquire.specs.Mode.{is_exclusive}
 use Rattle.ocr_parts.specs.Kinds.{IsBlock, core_progress, next_in, on_core}
-use Rattle.ocr_parts.specs.Loans.{kept_created, kept_in, kept_of, without_kept}
+use Rattle.ocr_parts.specs.Loans.{kept_created, kept_in, kept_of, with_kept, without_kept}
 use Rattle.ocr_parts.specs.declared.loans.Kept.{Kept}
 use Rattle.ocr_finish.specs.Scope.{ScopeCall}
 use Rattle.ocr_edt.specs.declared.Identity.{Identity}
@@ -61,11 +61,17 @@ loan_kept_if : (c : Bool) (b d : ℕ) (loans : List (ℕ × Kept)) → (b == d) 
 loan_kept_if true b d loans apart = loan_kept b d loans apart
 loan_kept_if false b d loans apart = refl
 
-pub loan_past : (c : Bool) (k : Kept) (b d : ℕ) (loans : List (ℕ × Kept)) → (b == d) ≡ false → kept_in d (if c then (b, k) ∷ loans else loans) ≡ kept_in d loans
-loan_past true k b d loans apart = rw apart refl
+pub kept_after_put : (b d : ℕ) (k : Kept) (loans : List (ℕ × Kept)) → kept_in d (with_kept b k loans) ≡ (if b == d then Some k else kept_in d loans)
+kept_after_put b d k loans = elim (b == d) as (λ x. (b == d) ≡ x → (if x then Some k else kept_in d (without_kept b loans)) ≡ (if x then Some k else kept_in d loans)) [
+  | true ↦ λ _. refl
+  | false ↦ λ apart. loan_kept b d loans apart
+] refl
+
+pub loan_past : (c : Bool) (k : Kept) (b d : ℕ) (loans : List (ℕ × Kept)) → (b == d) ≡ false → kept_in d (if c then with_kept b k loans else loans) ≡ kept_in d loans
+loan_past true k b d loans apart = rw apart (loan_kept b d loans apart)
 loan_past false k b d loans apart = refl
 
-held_past : (done own : Bool) (z b d : ℕ) (loans : List (ℕ × Kept)) → (done && (b == d)) ≡ false → kept_in d (if done && own then (b, kept_created z) ∷ loans else loans) ≡ kept_in d loans
+held_past : (done own : Bool) (z b d : ℕ) (loans : List (ℕ × Kept)) → (done && (b == d)) ≡ false → kept_in d (if done && own then with_kept b (kept_created z) loans else loans) ≡ kept_in d loans
 held_past true own z b d loans apart = loan_past own (kept_created z) b d loans apart
 held_past false own z b d loans apart = refl
 
@@ -100,18 +106,18 @@ ended_fit md blocks loans mt u d t w c own fit is =
 -- a block that is granted: in EW its words go to the EDT
 granted_fit : (md : Option Made) (c0 : ℕ) (blocks : List block.BlockCall) (loans : List (ℕ × Kept)) (mt : Option Made) (u d t : ℕ) (m : Mode) → block.borrower_of blocks ≡ None → ((u == t) ≡ true → is_edt_made mt ≡ true)
     → block.borrower_of (lend_calls u m (ask_calls u m c0 blocks)) ≡ Some t
-    → IsFit md (lend_calls u m (ask_calls u m c0 blocks)) (if u == t then (d, kept_of m (size_in md) (block.contents (size_in md) blocks)) ∷ loans else loans) mt d
+    → IsFit md (lend_calls u m (ask_calls u m c0 blocks)) (if u == t then with_kept d (kept_of m (size_in md) (block.contents (size_in md) blocks)) loans else loans) mt d
 granted_fit md c0 blocks loans mt u d t m none edt is =
     let n : ℕ = size_in md in
     let words : List ℕ = block.contents n blocks in
     elim (is_exclusive m) as (λ b. is_exclusive m ≡ b → block.borrower_of (if b then block.Lend u ∷ ask_calls u m c0 blocks else ask_calls u m c0 blocks) ≡ Some t
-    → IsFit md (if b then block.Lend u ∷ ask_calls u m c0 blocks else ask_calls u m c0 blocks) (if u == t then (d, kept_of m n words) ∷ loans else loans) mt d) [
+    → IsFit md (if b then block.Lend u ∷ ask_calls u m c0 blocks else ask_calls u m c0 blocks) (if u == t then with_kept d (kept_of m n words) loans else loans) mt d) [
       | true ↦ λ ew is.
           let e : u ≡ t = cc in
           let here : (u == t) ≡ true = ap (λ (n : ℕ). u == n) (sym e) ∙ same u in
           let m_is : m ≡ mode.Ew = exclusive_is m ew in
-          let first : kept_in d ((d, kept_of m n words) ∷ loans) ≡ Some (kept_of mode.Ew n words) =
-          ap (λ (k : Mode). kept_in d ((d, kept_of k n words) ∷ loans)) m_is ∙ rw (same d) refl in
+          let first : kept_in d (with_kept d (kept_of m n words) loans) ≡ Some (kept_of mode.Ew n words) =
+          ap (λ (k : Mode). kept_in d (with_kept d (kept_of k n words) loans)) m_is ∙ rw (same d) refl in
           (rw here (first ∙ ap (λ (words : List ℕ). Some (kept_of mode.Ew n words)) (sym (asked_contents n c0 blocks u m))), edt here)
       | false ↦ λ shared is. absurd (let no : block.borrower_of blocks ≡ Some t = sym (asked_borrower c0 blocks u m) ∙ is in cc)
     ] refl is
@@ -159,7 +165,7 @@ called_fit : (s : Setting) (past : History) (u home : ℕ) (c : body.Call) (a : 
 called_fit s past u home (call.DbCreate n fl) a w d t legal fit is =
     let own : Bool = (u == t) && (fl == 0) in
     let c : body.Call = call.DbCreate n fl in
-    created_fit (is_new c a d) (is_new c a t) (made s past d) (made s past t) _ _ (block_calls s past d) (if is_done a.code && own then (a.value, kept_created (n / 8)) ∷ loans_of s past t else loans_of s past t) d t (made_old s past u home c a w d) (made_old s past u home c a w t)
+    created_fit (is_new c a d) (is_new c a t) (made s past d) (made s past t) _ _ (block_calls s past d) (if is_done a.code && own then with_kept a.value (kept_created (n / 8)) (loans_of s past t) else loans_of s past t) d t (made_old s past u home c a w d) (made_old s past u home c a w t)
     (λ new. fresh_edt s past t (new_fresh s.limit (parts_of s past) u home c a w t legal new))
     (λ apart borrowed. (held_past (is_done a.code) own (n / 8) a.value d (loans_of s past t) apart ∙ (fit borrowed).0, (fit borrowed).1)) is
 called_fit s past u home (call.TemplateCreate f pc dc) a w d t legal fit is =
@@ -227,12 +233,12 @@ acquired_fit s past u b d t k taken edt fit is =
     let m = mode_next (next_member s past u) in
     let blocks = block_calls s past d in
     let loans = loans_of s past t in
-    fit_if (b == d) (made s past d) (lend_calls u m (ask_calls u m (creator_in (made s past d)) blocks)) blocks (if u == t then (b, kept_of m (size_in (made s past b)) (contents_of s past b)) ∷ loans else loans) (made s past t) d t
+    fit_if (b == d) (made s past d) (lend_calls u m (ask_calls u m (creator_in (made s past d)) blocks)) blocks (if u == t then with_kept b (kept_of m (size_in (made s past b)) (contents_of s past b)) loans else loans) (made s past t) d t
     (λ here borrowed.
     let e : b ≡ d = eqb-true b d here in
     let none : block.borrower_of blocks ≡ None = subst (λ (n : ℕ). block.borrower_of (block_calls s past n) ≡ None) e
     (taken_not_lent (made s past b) (link_calls past b) (block_calls s past b) (event_calls s past b) (scope_calls past b) u k taken) in
-    subst (λ (n : ℕ). IsFit (made s past d) (lend_calls u m (ask_calls u m (creator_in (made s past d)) blocks)) (if u == t then (n, kept_of m (size_in (made s past n)) (contents_of s past n)) ∷ loans else loans) (made s past t) d) (sym e)
+    subst (λ (n : ℕ). IsFit (made s past d) (lend_calls u m (ask_calls u m (creator_in (made s past d)) blocks)) (if u == t then with_kept n (kept_of m (size_in (made s past n)) (contents_of s past n)) loans else loans) (made s past t) d) (sym e)
     (granted_fit (made s past d) (creator_in (made s past d)) blocks loans (made s past t) u d t m none edt borrowed))
     (λ apart borrowed. (loan_past (u == t) (kept_of m (size_in (made s past b)) (contents_of s past b)) b d loans apart ∙ (fit borrowed).0, (fit borrowed).1)) is
 

@@ -9,6 +9,7 @@ pub mod Fresh
 pub mod Held
 pub mod Keeping
 pub mod Lent
+pub mod Lists
 pub mod Local
 pub mod Phases
 pub mod Settled

@@ -24,7 +24,7 @@ use Rattle.ocr_parts.specs.Effects.{new_face, with_beside, linked_if, deps_linke
 use Rattle.ocr_parts.specs.Laws.{SettledLaw}
 use Rattle.ocr_datablock.specs.Steps.{after_ask, after_release, after_doom}
 use Rattle.ocr_parts.specs.Kinds.{home_on, is_edt_face, with_links, core_progress, loan_on, next_in, on_core, size_on, with_block, words_on}
-use Rattle.ocr_parts.specs.Loans.{given_loan, kept_in, loan_in, settled_loan, settled_loans, without_kept}
+use Rattle.ocr_parts.specs.Loans.{given_loan, kept_created, kept_in, loan_in, settled_loan, settled_loans, without_kept}
 use Rattle.ocr_parts.specs.declared.loans.Kept.{Kept}
 
 settled_if : (b : Bool) (x y : Part) → settled (if b then x else y) ≡ (if b then settled x else settled y)
@@ -57,11 +57,14 @@ dropping_commutes d (part.Core c) = ap (λ (l : List (ℕ × Kept)). part.Core (
 dropping_commutes d other = refl
 
 acquiring_commutes : (d : ℕ) (m : Mode) (size : ℕ) (words : List ℕ) → Commutes (acquiring_core d m size words)
-acquiring_commutes d m size words (part.Core c) = ap (λ (l : Option Loan). part.Core (core_with c (acquired_edt (awoken c.edt)) ((d, record { size = size; loan = l }) ∷ settled_loans c.loans))) (settled_given m words)
+acquiring_commutes d m size words (part.Core c) = (λ i. part.Core (core_with c (acquired_edt (awoken c.edt)) ((d, record { size = size; loan = settled_given m words i }) ∷ settled_without d c.loans i)))
 acquiring_commutes d m size words other = refl
 
 creating_commutes : (fl d z : ℕ) → Commutes (creating_core fl d z)
-creating_commutes fl d z (part.Core c) = elim (fl == 0) as (λ b. settled (part.Core (if b then holding_core d z c else c)) ≡ part.Core (if b then holding_core d z (settled_core c) else settled_core c)) [ true ↦ refl | false ↦ refl ]
+creating_commutes fl d z (part.Core c) = elim (fl == 0) as (λ b. settled (part.Core (if b then holding_core d z c else c)) ≡ part.Core (if b then holding_core d z (settled_core c) else settled_core c)) [
+  | true ↦ ap (λ (l : List (ℕ × Kept)). part.Core (core_with c (holding_core d z c).edt ((d, kept_created z) ∷ l))) (settled_without d c.loans)
+  | false ↦ refl
+]
 creating_commutes fl d z other = refl
 
 core_settled : (f : Parts) (t : ℕ) (step : Core → Core) → Commutes step → settled_parts (with_core f t (on_core (f.core t) step)) ≡ with_core (settled_parts f) t (on_core (settled (f.core t)) step)

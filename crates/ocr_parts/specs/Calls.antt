@@ -24,7 +24,7 @@ use Rattle.ocr_history.specs.declared.entry.What.TheVariants as what
 use Rattle.ocr_history.specs.History.{History, Setting}
 use Rattle.ocr_history.specs.Made.{is_new, makes, names_new, is_edt_made, made, depc_in, size_in, creator_in}
 use Rattle.ocr_parts.specs.declared.loans.Kept.{Kept}
-use Rattle.ocr_parts.specs.Loans.{without_kept, kept_of, kept_created}
+use Rattle.ocr_parts.specs.Loans.{with_kept, without_kept, kept_of, kept_created}
 
 -- LINKS of slots. The opening links slot 0 of the first EDT in RW.
 abbrev pub mode_or_null : Option Mode → Mode
@@ -319,7 +319,7 @@ scope_calls (e ∷ past) g = scope_calls past g
 -- contents at the acquire
 abbrev pub loan_step : ℕ → body.Call → Answer → ℕ → List (ℕ × Kept) → List (ℕ × Kept)
 loan_step by (call.DbCreate n fl) a t loans =
-    if is_holding by fl a t then (a.value, kept_created (n / 8)) ∷ loans else loans
+    if is_holding by fl a t then with_kept a.value (kept_created (n / 8)) loans else loans
 loan_step by (call.DbRelease d) a t loans =
     if is_done a.code && (by == t) then without_kept d loans else loans
 loan_step by (call.DbDestroy d) a t loans =
@@ -335,7 +335,7 @@ loans_of s [] t = []
 loans_of s (Call by home c a w ∷ past) t =
     if is_new c a t then [] else loan_step by c a t (loans_of s past t)
 loans_of s (Acquire u d ∷ past) t =
-    if u == t then (d, kept_now s past u d) ∷ loans_of s past t else loans_of s past t
+    if u == t then with_kept d (kept_now s past u d) (loans_of s past t) else loans_of s past t
 loans_of s (Free u d w ∷ past) t =
     if u == t then without_kept d (loans_of s past t) else loans_of s past t
 loans_of s (e ∷ past) t = loans_of s past t

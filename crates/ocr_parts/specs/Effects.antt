@@ -33,7 +33,7 @@ use Rattle.ocr_parts.specs.declared.loans.Kept.{Kept}
 use Rattle.ocr_parts.specs.declared.part.Core as core_type
 use Rattle.ocr_parts.specs.declared.part.Part.{Part}
 use Rattle.ocr_parts.specs.declared.part.Part.TheVariants as part
-use Rattle.ocr_parts.specs.Loans.{without_kept, kept_of, kept_created, settled_loans}
+use Rattle.ocr_parts.specs.Loans.{with_kept, without_kept, kept_of, kept_created, settled_loans}
 use Rattle.ocr_parts.specs.Calls.{dep_links, is_object, slot_target, target_of, plan_of, mode_named, mode_next}
 use Rattle.ocr_parts.specs.Parts.{Parts, new_identity}
 use Rattle.ocr_parts.specs.Kinds.{with_block, words_on, size_on, is_held_by, with_links, with_template, with_event, with_scope, is_edt_face, on_core, home_on, core_progress, next_in, loan_on}
@@ -95,7 +95,7 @@ with_phase step c = core_with c (step c.edt) c.loans
 
 -- the creator of a block of so many words holds it, unless the flag says that it does not
 abbrev pub holding_core : ℕ → ℕ → core_type.Core → core_type.Core
-holding_core d size c = core_with c (holding_edt d c.edt) ((d, kept_created size) ∷ c.loans)
+holding_core d size c = core_with c (holding_edt d c.edt) (with_kept d (kept_created size) c.loans)
 
 abbrev pub creating_core : ℕ → ℕ → ℕ → core_type.Core → core_type.Core
 creating_core flags d size c = if flags == 0 then holding_core d size c else c
@@ -105,7 +105,7 @@ dropping_core d c = core_with c (dropped_edt d c.edt) (without_kept d c.loans)
 
 abbrev pub acquiring_core : ℕ → Mode → ℕ → List ℕ → core_type.Core → core_type.Core
 acquiring_core d m size words c =
-    core_with c (acquired_edt (awoken c.edt)) ((d, kept_of m size words) ∷ c.loans)
+    core_with c (acquired_edt (awoken c.edt)) (with_kept d (kept_of m size words) c.loans)
 
 -- the block that an EDT acquires next, with its mode
 abbrev pub next_on : Parts → ℕ → Option (ℕ × Mode)

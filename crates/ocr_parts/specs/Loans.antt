@@ -15,6 +15,10 @@ abbrev pub without_kept : ℕ → List (ℕ × Kept) → List (ℕ × Kept)
 without_kept d [] = []
 without_kept d (one ∷ rest) = if one.0 == d then rest else one ∷ without_kept d rest
 
+-- with something kept with a block, in place of what was kept with it: the newest
+abbrev pub with_kept : ℕ → Kept → List (ℕ × Kept) → List (ℕ × Kept)
+with_kept d kept loans = (d, kept) ∷ without_kept d loans
+
 abbrev pub loan_in : Option Kept → Option Loan
 loan_in None = None
 loan_in (Some kept) = kept.loan

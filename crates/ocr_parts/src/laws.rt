@@ -37,8 +37,8 @@ pub fn block_laws()
     ensures awaited { AwaitedLaw }
 {}
 
-/// A latch was satisfied at most once by each entry, so it counts no more than there are entries. An
-/// output event is a ONCE event that takes an argument.
+/// A latch was satisfied at most once by each entry, so it counts no more than there are entries.
+/// An output event is a ONCE event that takes an argument.
 pub fn event_laws()
     ensures counted { CountedLaw }
     ensures output { OutputLaw }

@@ -4,6 +4,7 @@
 
 mod laws;
 mod loans;
+mod many;
 mod part;
 
 pub use laws::{block_laws, event_laws, machine_laws, run_laws, settled_laws};

@@ -1,5 +1,5 @@
 -- What the EDTs hold, through each entry.
-use Rattle.std.proofs.Common.{◌≡◌, ◌⊎◌, inl, inr, ℕ, ◌+◌, ◌<◌, ◌/◌, List, [], ◌∷◌, ◌++◌, Bool, true, false, not, Option, Some, None, ◌==◌, if◌then◌else◌, refl, sym, ◌∙◌, ap, subst, is_some, length, arith}
+use Rattle.std.proofs.Common.{◌≡◌, ◌⊎◌, inl, inr, ℕ, ◌+◌, ◌/◌, List, [], ◌∷◌, ◌++◌, Bool, true, false, not, Option, Some, None, ◌==◌, if◌then◌else◌, refl, sym, ◌∙◌, ap, subst, is_some, length}
 use Rattle.std.proofs.lemmas.Bool.{eqb-true, ne_eqb}
 use Rattle.ocr_base.proofs.Booleans.{same, eqb_flips}
 use Rattle.ocr_guid.specs.declared.target.Target.{Target}
@@ -14,7 +14,7 @@ use Rattle.ocr_any_event.specs.declared.AnyEvent.{AnyEvent}
 use Rattle.ocr_any_event.specs.AnyEvent as event
 use Rattle.ocr_edt.specs.declared.Edt.{Edt}
 use Rattle.ocr_edt.specs.declared.Edt.TheVariants as phase
-use Rattle.ocr_edt.specs.Phases.{first_of, without}
+use Rattle.ocr_edt.specs.Phases.{without}
 use Rattle.ocr_edt.proofs.Holds.{mode_in-placed, mode_in-placed_other, mode_in-without, mode_in-other}
 use Rattle.ocr_meaning.specs.Holds.{is_done, is_isolated}
 use Rattle.ocr_meaning.specs.declared.call.Call as body
@@ -29,7 +29,7 @@ use Rattle.ocr_parts.specs.declared.loans.Kept.{Kept}
 use Rattle.ocr_parts.specs.declared.part.Core.{Core}
 use Rattle.ocr_parts.specs.declared.part.Part.{Part}
 use Rattle.ocr_parts.specs.declared.part.Part.TheVariants as part
-use Rattle.ocr_parts.specs.Loans.{kept_in, without_kept, kept_of, kept_created}
+use Rattle.ocr_parts.specs.Loans.{kept_in, with_kept, without_kept, kept_of, kept_created}
 use Rattle.ocr_parts.specs.Calls.{is_number, is_object, slot_target}
 use Rattle.ocr_parts.specs.Parts.{Parts, new_identity}
 use Rattle.ocr_finish.specs.Scope as scope
@@ -42,7 +42,7 @@ use Rattle.ocr_quiet.proofs.Standing.{in_front, push_own}
 use Rattle.ocr_quiet.proofs.Waiting.{advances}
 use Rattle.ocr_quiet.specs.Waits.{held_in, rest_in, held_on, rest_on, IsOrdered, AreStanding}
 use Rattle.ocr_standing.specs.Held.{IsLoanKept, IsKeptWith, IsHeldSo, loans_on, AreKeptOnce, AreHeld}
-use Rattle.ocr_standing.proofs.Holding.{if_block, if_any, HoldsElse, IsKeeping, moved_held, faced_held, cored_held, step_stays, linked_stays, vacant_stays, vacant_none, none_kept, doomed_stays, evented_stays, scoped_stays}
+use Rattle.ocr_standing.proofs.Holding.{if_block, if_any, HoldsElse, IsKeeping, moved_held, faced_held, cored_held, step_stays, linked_stays, vacant_stays, vacant_none, doomed_stays, evented_stays, scoped_stays}
 use Rattle.ocr_edt.specs.declared.Identity.{Identity}
 use Rattle.ocr_edt.specs.Steps.{with_next}
 
@@ -183,28 +183,17 @@ destroyed_held f t d w all running agreed =
     (nothing_so t _ _ _ own.none_held own.none_kept) own.else_same own.once
 
 -- A BLOCK IS ACQUIRED
-none_unless : (o : Option Mode) → (is_some o ≡ true → ⊥) → o ≡ None
-none_unless None wrong = refl
-none_unless (Some m) wrong = absurd (wrong refl)
-
-next_none : (held rest : List (ℕ × Mode)) (d : ℕ) (m : Mode) → first_of rest ≡ Some (d, m) → IsOrdered held rest → mode_in d held ≡ None
-next_none held [] d m is ordered = cc is
-next_none held (one ∷ more) d m is ordered =
-    let e : one ≡ (d, m) = cc is in
-    none_unless (mode_in d held) (λ some. let below : d < one.0 = (ordered.above d some).0 in let same : one.0 ≡ d = ap (λ (x : ℕ × Mode). x.0) e in omega (arith, below, same))
-
 record IsTaking (d : ℕ) (m : Mode) (was now : Edt) : Type 0 where
-  before : mode_in d (held_in was) ≡ None
   here : mode_in d (held_in now) ≡ Some m
   there : (e : ℕ) → (d == e) ≡ false → mode_in e (held_in now) ≡ mode_in e (held_in was)
 
 taking : (d : ℕ) (m : Mode) (s : Edt) → next_in (progress_in s) ≡ Some (d, m) → IsOrdered (held_in s) (rest_in s) → IsTaking d m s (acquired_edt (awoken s))
 taking d m (phase.Acquiring p) next ordered =
     let adv = advances p.identity p.holds p.stale p.rest d m next ordered in
-    record { before = next_none p.holds p.rest d m next ordered; here = adv.here; there = adv.there }
+    record { here = adv.here; there = adv.there }
 taking d m (phase.Waiting p) next ordered =
     let adv = advances p.identity p.holds p.stale p.rest d m next ordered in
-    record { before = next_none p.holds p.rest d m next ordered; here = adv.here; there = adv.there }
+    record { here = adv.here; there = adv.there }
 taking d m other next ordered = cc next
 
 -- the core of whoever gets a block
@@ -214,23 +203,23 @@ record IsGetting (d : ℕ) (m : Mode) (k : Kept) (was y : Part) : Type 0 where
   else_same : HoldsElse d was y
   once : AreKeptOnce (loans_on y)
 
-kept_first : (d : ℕ) (k : Kept) (xs : List (ℕ × Kept)) → kept_in d ((d, k) ∷ xs) ≡ Some k
+kept_first : (d : ℕ) (k : Kept) (xs : List (ℕ × Kept)) → kept_in d (with_kept d k xs) ≡ Some k
 kept_first d k xs = rw (same d) refl
 
-kept_later : (d e : ℕ) (k : Kept) (xs : List (ℕ × Kept)) → (d == e) ≡ false → kept_in e ((d, k) ∷ xs) ≡ kept_in e xs
-kept_later d e k xs apart = rw apart refl
+kept_later : (d e : ℕ) (k : Kept) (xs : List (ℕ × Kept)) → (d == e) ≡ false → kept_in e (with_kept d k xs) ≡ kept_in e xs
+kept_later d e k xs apart = rw apart (loan_kept d e xs apart)
 
-getting : (t : ℕ) (z : Part) (d : ℕ) (m : Mode) (size : ℕ) (words : List ℕ) (x : Part) → next_in (core_progress x) ≡ Some (d, m) → IsOrdered (held_on x) (rest_on x) → AreKeptOnce (loans_on x)
-    → IsHeldSo t z (mode_in d (held_on x)) (kept_on x d) → IsGetting d m (kept_of m size words) x (on_core x (acquiring_core d m size words))
-getting t z d m size words (part.Core c) next ordered once so =
+getting : (d : ℕ) (m : Mode) (size : ℕ) (words : List ℕ) (x : Part) → next_in (core_progress x) ≡ Some (d, m) → IsOrdered (held_on x) (rest_on x) → AreKeptOnce (loans_on x)
+    → IsGetting d m (kept_of m size words) x (on_core x (acquiring_core d m size words))
+getting d m size words (part.Core c) next ordered once =
     let takes = taking d m c.edt next ordered in
     record {
       held = takes.here;
       kept = kept_first d (kept_of m size words) c.loans;
       else_same = λ e apart. (takes.there e apart, kept_later d e (kept_of m size words) c.loans apart);
-      once = (none_kept t z _ _ takes.before so, once);
+      once = (without_once d c.loans once, once_without d c.loans once);
     }
-getting t z d m size words other next ordered once so = cc next
+getting d m size words other next ordered once = cc next
 
 -- the words of a block are there, as many as it has, unless they are on loan
 abbrev pub IsWhole : Part → Type 0
@@ -292,7 +281,7 @@ acquired_held : (f : Parts) (t d : ℕ) → AreHeld f → AreStanding f → IsWh
 acquired_held f t d all standing whole next taken =
     let m : Mode = next_mode_on f t in
     let y : Part = on_core (f.core t) (acquiring_core d m (size_on (f.face d)) (words_on (f.face d))) in
-    let own = getting t (f.face d) d m (size_on (f.face d)) (words_on (f.face d)) (f.core t) next (standing.ordered t) (all.once t) (all.so t d) in
+    let own = getting d m (size_on (f.face d)) (words_on (f.face d)) (f.core t) next (standing.ordered t) (all.once t) in
     moved_held f d _ t y all
     (λ u n k apart is. step_stays u (f.face d) (granted t m) n k (if_block (f.face d) _ _ (λ st take. granted_keeps u t m st apart take.not_lent) taken) is)
     (both_so t _ _ _ m (kept_of m (size_on (f.face d)) (words_on (f.face d))) own.held own.kept (taken_kept t m (f.face d) whole taken)) own.else_same own.once
@@ -359,16 +348,16 @@ held_more g (phase.Running w) running = (
 )
 held_more g other running = cc running
 
-creating : (t n g : ℕ) (z x : Part) → is_running x ≡ true → z ≡ part.Vacant → IsHeldSo t z (mode_in g (held_on x)) (kept_on x g) → AreKeptOnce (loans_on x) → IsGetting g mode.Rw (kept_created n) x (on_core x (holding_core g n))
-creating t n g z (part.Core c) running vacant so once =
+creating : (n g : ℕ) (x : Part) → is_running x ≡ true → AreKeptOnce (loans_on x) → IsGetting g mode.Rw (kept_created n) x (on_core x (holding_core g n))
+creating n g (part.Core c) running once =
     let more = held_more g c.edt running in
     record {
       held = more.0;
       kept = kept_first g (kept_created n) c.loans;
       else_same = λ e apart. (more.1 e apart, kept_later g e (kept_created n) c.loans apart);
-      once = ((vacant_none t z _ _ vacant so).1, once);
+      once = (without_once g c.loans once, once_without g c.loans once);
     }
-creating t n g z other running vacant so once = cc running
+creating n g other running once = cc running
 
 unchanged : (x : Part) (step : Core → Core) → ((c : Core) → step c ≡ c) → on_core x step ≡ x
 unchanged (part.Core c) step same = ap part.Core (same c)
@@ -385,7 +374,7 @@ made_held : (f : Parts) (t n fl g : ℕ) (b : Bool) → (fl == 0) ≡ b → AreH
 made_held f t n fl g true is all running some vacant =
     let x : Part = part.Block (block.state_of n (creator_of t fl) []) in
     let y : Part = on_core (f.core t) (holding_core g n) in
-    let own = creating t n g (f.face g) (f.core t) running vacant (all.so t g) (all.once t) in
+    let own = creating n g (f.core t) running (all.once t) in
     moved_held f g x t y all (λ u m k apart so. vacant_stays u (f.face g) x m k vacant so)
     (both_so t x (mode_in g (held_on y)) (kept_on y g) mode.Rw (kept_created n) own.held own.kept (created_so t n fl g some true is refl)) own.else_same own.once
 made_held f t n fl g false is all running some vacant =

@@ -22,7 +22,7 @@ use Rattle.ocr_history.specs.Made.{Made, MadeBlock, MadeEdt, made, is_new, size_
 use Rattle.ocr_parts.specs.declared.loans.Kept.{Kept}
 use Rattle.ocr_parts.specs.declared.part.Part.{Part}
 use Rattle.ocr_parts.specs.declared.part.Part.TheVariants as part
-use Rattle.ocr_parts.specs.Loans.{kept_in, without_kept, loan_in, given_loan, kept_created}
+use Rattle.ocr_parts.specs.Loans.{kept_in, with_kept, without_kept, loan_in, given_loan, kept_created}
 use Rattle.ocr_parts.specs.Calls.{is_holding, is_number, next_mode, ask_calls, lend_calls, grant_calls, return_calls, end_calls, doom_calls, block_step, block_calls, contents_of, kept_now, loan_step, loans_of, edt_calls, link_calls, event_calls, scope_calls}
 use Rattle.ocr_parts.specs.Parts.{face, core, parts_of, identity_of}
 use Rattle.ocr_parts.specs.Kinds.{IsBlock, is_running, mode_on, kept_on}
@@ -30,7 +30,7 @@ use Rattle.ocr_parts.specs.LegalOn.{IsShared}
 use Rattle.ocr_parts.specs.Legal.{IsRun, IsLegal}
 use Rattle.ocr_parts.proofs.Allowed.{allowed_law}
 use Rattle.ocr_parts.proofs.Blocks.{borrower_is, asked_contents}
-use Rattle.ocr_parts.proofs.Lent.{loan_kept}
+use Rattle.ocr_parts.proofs.Lent.{kept_after_put, loan_kept}
 use Rattle.ocr_quiet.specs.Waits.{held_on}
 use Rattle.ocr_quiet.proofs.Choices.{off_from, both_true}
 use Rattle.ocr_parts.proofs.Fresh.{made_old}
@@ -79,8 +79,8 @@ dropped_if : (words : List ℕ) (b : Bool) (e d : ℕ) (loans : List (ℕ × Kep
 dropped_if words true e d loans once is = dropped_found words e d loans (once refl) is
 dropped_if words false e d loans once is = is
 
-added_if : (words : List ℕ) (b : Bool) (e n d : ℕ) (loans : List (ℕ × Kept)) → IsFoundIn words (kept_in d loans) → IsFoundIn words (kept_in d (if b then (e, kept_created n) ∷ loans else loans))
-added_if words true e n d loans is = elim (e == d) as (λ b. IsFoundIn words (if b then Some (kept_created n) else kept_in d loans)) [ true ↦ tt | false ↦ is ]
+added_if : (words : List ℕ) (b : Bool) (e n d : ℕ) (loans : List (ℕ × Kept)) → IsFoundIn words (kept_in d loans) → IsFoundIn words (kept_in d (if b then with_kept e (kept_created n) loans else loans))
+added_if words true e n d loans is = subst (IsFoundIn words) (sym (kept_after_put e d (kept_created n) loans)) (elim (e == d) as (λ b. IsFoundIn words (if b then Some (kept_created n) else kept_in d loans)) [ true ↦ tt | false ↦ is ])
 added_if words false e n d loans is = is
 
 new_found : (words : List ℕ) (b : Bool) (d : ℕ) (loans : List (ℕ × Kept)) → IsFoundIn words (kept_in d loans) → IsFoundIn words (kept_in d (if b then [] else loans))
@@ -94,11 +94,11 @@ step_found s past by (call.DbDestroy e) a t d words run running is = dropped_if 
 step_found s past by other a t d words run running is = is
 
 acquired_found : (s : Setting) (past : History) (u t b d : ℕ) (own : Bool) → IsFoundIn (found s past t d) (kept_in d (loans_of s past t))
-    → IsFoundIn (if own && (b == d) then contents_of s past d else found s past t d) (kept_in d (if own then (b, kept_now s past u b) ∷ loans_of s past t else loans_of s past t))
-acquired_found s past u t b d true is = elim (b == d) as (λ c. (b == d) ≡ c → IsFoundIn (if c then contents_of s past d else found s past t d) (if c then Some (kept_now s past u b) else kept_in d (loans_of s past t))) [
+    → IsFoundIn (if own && (b == d) then contents_of s past d else found s past t d) (kept_in d (if own then with_kept b (kept_now s past u b) (loans_of s past t) else loans_of s past t))
+acquired_found s past u t b d true is = subst (IsFoundIn (if b == d then contents_of s past d else found s past t d)) (sym (kept_after_put b d (kept_now s past u b) (loans_of s past t))) (elim (b == d) as (λ c. (b == d) ≡ c → IsFoundIn (if c then contents_of s past d else found s past t d) (if c then Some (kept_now s past u b) else kept_in d (loans_of s past t))) [
   | true ↦ λ here. subst (λ (n : ℕ). BeganWith (contents_of s past n) (given_loan (next_mode s past u) (contents_of s past b))) (eqb-true b d here) (given_began (next_mode s past u) (contents_of s past b))
   | false ↦ λ _. is
-] refl
+] refl)
 acquired_found s past u t b d false is = is
 
 began : (s : Setting) (past : History) (t d : ℕ) → IsRun s past → IsFoundIn (found s past t d) (kept_in d (loans_of s past t))

@@ -143,9 +143,3 @@ vacant_none u x None None vacant is = (refl, refl)
 vacant_none u x (Some m) (Some k) vacant is = absurd (subst (λ (z : Part). IsBlock z (IsKeptWith u m k)) vacant is)
 vacant_none u x None (Some k) vacant is = absurd is
 vacant_none u x (Some m) None vacant is = absurd is
-
--- who does not hold a block keeps nothing with it
-pub none_kept : (u : ℕ) (x : Part) (m : Option Mode) (k : Option Kept) → m ≡ None → IsHeldSo u x m k → k ≡ None
-none_kept u x None None none is = refl
-none_kept u x (Some m) k none is = cc none
-none_kept u x None (Some k) none is = absurd is

@@ -184,7 +184,7 @@ end_balanced s past u r x run legal =
     omega (arith, living, left, was, sent)
 
 -- A MEMBER LEAVES
-left_at : (b : Bool) (m : Option Made) (calls : List ScopeCall) → (b ≡ true → HasIn (scope_in m calls)) → scope_in m (if b then Parting ∷ calls else calls) ≡ (if b then left (scope_in m calls) else scope_in m calls)
+pub left_at : (b : Bool) (m : Option Made) (calls : List ScopeCall) → (b ≡ true → HasIn (scope_in m calls)) → scope_in m (if b then Parting ∷ calls else calls) ≡ (if b then left (scope_in m calls) else scope_in m calls)
 left_at true m calls has = left_one m calls (has refl)
 left_at false m calls has = refl
 
@@ -196,7 +196,7 @@ left_members false o has = omega arith
 last_gone : (n : ℕ) → (n == 1) ≡ true → ((n - 1) == 0) ≡ true
 last_gone n is = ap (λ (k : ℕ). (k - 1) == 0) (eqb-true n 1 is)
 
-some_stay : (n : ℕ) → 0 < n → (n == 1) ≡ false → ((n - 1) == 0) ≡ false
+pub some_stay : (n : ℕ) → 0 < n → (n == 1) ≡ false → ((n - 1) == 0) ≡ false
 some_stay n some off = grind (arith, common_steps)
 
 pub none_gone : (n : ℕ) → 0 < n → (n == 0) ≡ false
@@ -217,7 +217,7 @@ left_sent x (Some st) has = elim (st.members == 1) as (λ b. (st.members == 1) �
 ] refl
 
 -- A MESSAGE is delivered
-abbrev left_scope : Setting → History → What → Bool → ℕ → Option State
+abbrev pub left_scope : Setting → History → What → Bool → ℕ → Option State
 left_scope s past w done g = scope_in (made s past g) (leave_step w done g (scope_calls past g))
 
 abbrev IsBrought : Setting → History → What → Bool → ℕ → Type 0

@@ -24,7 +24,7 @@ use Rattle.ocr_parts.specs.Bodies.{hold_of, holds_on, first_holds, body_of, says
 use Rattle.ocr_parts.specs.Calls.{is_holding, edt_step, edt_calls, loan_step, loans_of}
 use Rattle.ocr_parts.specs.Kinds.{mode_on, kept_on}
 use Rattle.ocr_parts.specs.Legal.{IsRun, IsLegal}
-use Rattle.ocr_parts.specs.Loans.{without_kept, kept_created}
+use Rattle.ocr_parts.specs.Loans.{with_kept, without_kept, kept_created}
 use Rattle.ocr_parts.specs.Parts.{Parts, identity_of, core, parts_of}
 use Rattle.ocr_parts.proofs.After.{after_law}
 use Rattle.ocr_parts.proofs.Choices.{same, or_rest}
@@ -53,7 +53,7 @@ edt_other by (call.DbDestroy d) a t calls off = if_off _ (edt.DropHold d ∷ cal
 edt_other by other a t calls off = refl
 
 loan_other : (by : ℕ) (c : body.Call) (a : Answer) (t : ℕ) (loans : List (ℕ × Kept)) → (by == t) ≡ false → loan_step by c a t loans ≡ loans
-loan_other by (call.DbCreate n fl) a t loans off = if_off _ ((a.value, kept_created (n / 8)) ∷ loans) loans (holding_off by fl a t off)
+loan_other by (call.DbCreate n fl) a t loans off = if_off _ (with_kept a.value (kept_created (n / 8)) loans) loans (holding_off by fl a t off)
 loan_other by (call.DbRelease d) a t loans off = if_off _ (without_kept d loans) loans (and_right (is_done a.code) (by == t) off)
 loan_other by (call.DbDestroy d) a t loans off = if_off _ (without_kept d loans) loans (and_right (is_done a.code) (by == t) off)
 loan_other by other a t loans off = refl

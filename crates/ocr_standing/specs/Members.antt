@@ -75,8 +75,8 @@ JoiningLaw = (s : Setting) (past : History) (t g : ℕ) → IsRun s past → s.l
     → (home_on ((parts_of s past).core t) == 0) ≡ false → IsFresh s.limit (parts_of s past) g
     → IsJoinable ((parts_of s past).face (home_on ((parts_of s past).core t)))
 
--- THE TREE of scopes: a scope lies in itself, and in all that its outer one lies in, at most so many
--- steps up
+-- THE TREE of scopes: a scope lies in itself, and in all that its outer one lies in, at most so
+-- many steps up
 abbrev pub outer_on : Part → ℕ
 outer_on (part.Scope st) = st.outer
 outer_on other = 0
