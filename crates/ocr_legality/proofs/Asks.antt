@@ -21,8 +21,8 @@ use Rattle.ocr_parts.specs.Kinds.{IsBlock, is_running, mode_on, home_on}
 use Rattle.ocr_parts.specs.Codes.{code_of}
 use Rattle.ocr_parts.specs.LegalOn.{IsFresh, IsNamed, IsShared, IsLoaded, IsBeside, IsScoped, HasOutput, IsAtHome, IsHome, IsJoinable, last_of, IsCallOn}
 use Rattle.ocr_parts.specs.Legal.{IsRun}
-use Rattle.ocr_machine.specs.Table.{state_in, face_on, core_on, IsOf}
-use Rattle.ocr_machine.specs.declared.table.Table.{Table}
+use Rattle.ocr_table.specs.Table.{state_in, face_on, core_on, IsOf}
+use Rattle.ocr_table.specs.declared.table.Table.{Table}
 use Rattle.ocr_legality.specs.Tests.{Whether, AnswersSo, IsCallSo}
 use Rattle.ocr_legality.specs.Asked.{HasRoomAbove, HasRoom, IsRoom, IsRoomy, one_more, edt_numbers, HasAnswer, weighs, weight_with, CanWeigh}
 use Rattle.ocr_legality.proofs.Calls.{call_on}

@@ -15,8 +15,8 @@ use Rattle.ocr_parts.specs.Codes.{ABlock, is_of_other_kind, release_code, code_o
 use Rattle.ocr_parts.specs.LegalOn.{IsAnswered, IsCallOn, IsSatisfiable, HasMember, delivery_code}
 use Rattle.ocr_parts.specs.Legal.{IsRun}
 use Rattle.ocr_parts.proofs.After.{accepted, done_is}
-use Rattle.ocr_machine.specs.Table.{state_in, core_on, IsOf}
-use Rattle.ocr_machine.specs.declared.table.Table.{Table}
+use Rattle.ocr_table.specs.Table.{state_in, core_on, IsOf}
+use Rattle.ocr_table.specs.declared.table.Table.{Table}
 use Rattle.ocr_quiet.proofs.Choices.{or_left, not_off, done_kinds}
 use Rattle.ocr_standing.proofs.Held.{held_law}
 use Rattle.ocr_standing.proofs.Working.{freeing_law, dooming_law}

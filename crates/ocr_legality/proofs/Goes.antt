@@ -17,8 +17,8 @@ use Rattle.ocr_parts.specs.Kinds.{IsBlock, is_held_by, on_core, is_acquiring_edt
 use Rattle.ocr_parts.specs.Effects.{with_phase, made_ready, ready_at, next_on, next_mode_on}
 use Rattle.ocr_parts.specs.Legal.{IsRun}
 use Rattle.ocr_parts.proofs.Lent.{ready_core}
-use Rattle.ocr_machine.specs.Table.{face_on, core_on, IsOf}
-use Rattle.ocr_machine.specs.declared.table.Table.{Table}
+use Rattle.ocr_table.specs.Table.{face_on, core_on, IsOf}
+use Rattle.ocr_table.specs.declared.table.Table.{Table}
 use Rattle.ocr_quiet.specs.Quiet.{IsWakingOf}
 use Rattle.ocr_quiet.specs.Waits.{is_gone_on}
 use Rattle.ocr_quiet.proofs.Choices.{both_true}

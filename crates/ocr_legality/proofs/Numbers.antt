@@ -3,8 +3,8 @@ use Rattle.std.proofs.Common.{◌≡◌, ◌≤◌, ◌<◌, ◌+◌, ◌-◌, �
 use Rattle.ocr_history.specs.History.{History, Setting}
 use Rattle.ocr_parts.specs.Parts.{Parts, parts_of}
 use Rattle.ocr_parts.specs.LegalOn.{IsFresh}
-use Rattle.ocr_machine.specs.Table.{state_in, IsOf}
-use Rattle.ocr_machine.specs.declared.table.Table.{Table}
+use Rattle.ocr_table.specs.Table.{state_in, IsOf}
+use Rattle.ocr_table.specs.declared.table.Table.{Table}
 use Rattle.ocr_legality.specs.Tests.{Whether}
 use Rattle.ocr_legality.specs.Asked.{HasRoomAbove, IsRoom}
 

@@ -7,7 +7,7 @@ ghost use Rattle.ocr_parts.specs.Codes.{code_of};
 ghost use Rattle.ocr_parts.specs.LegalOn.{IsAtHome};
 ghost use Rattle.ocr_parts.specs.Legal.{IsRun};
 ghost use Rattle.ocr_parts.specs.Parts.{parts_of};
-ghost use Rattle.ocr_machine.specs.Table.{state_in, face_on, core_on, IsOf};
+ghost use Rattle.ocr_table.specs.Table.{state_in, face_on, core_on, IsOf};
 ghost use Rattle.ocr_legality.specs.Tests.{Whether};
 ghost use Rattle.ocr_legality.specs.Asked.{IsRoom, IsRoomy, HasAnswer, CanWeigh, weighs, weighs_by, edt_numbers};
 
@@ -15,8 +15,8 @@ use crate::calling::{is_at_home, is_fresh, is_shared};
 use crate::going::both;
 use crate::tests_of::is_running;
 use ocr_guid::{Code, Guid};
-use ocr_machine::Table;
 use ocr_meaning::Call;
+use ocr_table::Table;
 
 fn count_fresh(table: &Table) -> u64
     ensures { IsRoom table.now.limit (state_in table.now) result }

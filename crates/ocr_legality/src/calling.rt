@@ -4,15 +4,15 @@ ghost use Rattle.ocr_meaning.specs.Holds.{is_done};
 ghost use Rattle.ocr_parts.specs.Kinds.{IsBlock, mode_on};
 ghost use Rattle.ocr_parts.specs.LegalOn.{IsNamed, IsFresh, IsShared, IsLoaded, IsBeside, IsScoped, HasOutput, IsAtHome, IsHome, last_of};
 ghost use Rattle.ocr_parts.specs.declared.part.Part.TheVariants as part;
-ghost use Rattle.ocr_machine.specs.Table.{state_in, face_on, core_on};
+ghost use Rattle.ocr_table.specs.Table.{state_in, face_on, core_on};
 ghost use Rattle.ocr_legality.specs.Tests.{Whether, AnswersSo, IsCallSo};
 
 use crate::tests_of::{has_no_core, has_no_face, is_running, mode_at};
 use ocr_acquire::Mode;
 use ocr_guid::{Code, Guid};
-use ocr_machine::Table;
 use ocr_meaning::{Answer, Call};
 use ocr_parts::Part;
+use ocr_table::Table;
 
 /// Whether the number is one that nothing has yet.
 pub(crate) fn is_fresh(table: &Table, number: u64) -> bool

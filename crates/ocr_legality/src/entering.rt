@@ -7,7 +7,7 @@ ghost use Rattle.ocr_history.specs.declared.entry.What.TheVariants as what;
 ghost use Rattle.ocr_parts.specs.Kinds.{is_running, work_of, holds_of};
 ghost use Rattle.ocr_parts.specs.Legal.{IsRun};
 ghost use Rattle.ocr_parts.specs.LegalOn.{IsDeliverOn};
-ghost use Rattle.ocr_machine.specs.Table.{state_in, face_on, core_on, IsOf};
+ghost use Rattle.ocr_table.specs.Table.{state_in, face_on, core_on, IsOf};
 ghost use Rattle.ocr_quiet.specs.Waits.{is_gone_on};
 ghost use Rattle.ocr_legality.specs.Tests.{Whether, MayEnter, MayGoOn, IsDeliverable, is_going, is_this};
 
@@ -18,8 +18,8 @@ use ocr_acquire::Mode;
 use ocr_base::NoMemory;
 use ocr_guid::{Code, Guid};
 use ocr_history::{Entry, Message, What};
-use ocr_machine::Table;
 use ocr_meaning::{Answer, Call};
+use ocr_table::Table;
 use std::alloc::Global;
 
 fn number(edt: Guid) -> u64

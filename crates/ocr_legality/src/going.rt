@@ -3,7 +3,7 @@ ghost use Rattle.std.specs.Prelude.{◌≡◌, ◌&&◌, ℕ, [], true, false, n
 ghost use Rattle.ocr_history.specs.History.{Setting, History};
 ghost use Rattle.ocr_history.specs.declared.entry.Entry.TheVariants as an;
 ghost use Rattle.ocr_parts.specs.Legal.{IsRun};
-ghost use Rattle.ocr_machine.specs.Table.{face_on, core_on, IsOf};
+ghost use Rattle.ocr_table.specs.Table.{face_on, core_on, IsOf};
 ghost use Rattle.ocr_quiet.specs.Waits.{is_gone_on};
 ghost use Rattle.ocr_legality.specs.Tests.{Whether, MayEnter, is_at, is_open, shuts, begins};
 
@@ -11,7 +11,7 @@ use crate::tests_of::{begins, is_gone, is_open, shuts};
 use ocr_acquire::Mode;
 use ocr_base::NoMemory;
 use ocr_guid::Guid;
-use ocr_machine::Table;
+use ocr_table::Table;
 use std::alloc::Global;
 
 /// Whether this block comes next, and has the EDT as a holder or can be granted.

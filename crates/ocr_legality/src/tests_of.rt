@@ -4,15 +4,15 @@ ghost use Rattle.ocr_acquire.specs.Mode.{is_null};
 ghost use Rattle.ocr_edt.specs.Phases.{least_of};
 ghost use Rattle.ocr_parts.specs.Kinds.{is_running, work_of, holds_of, is_held_by, mode_on};
 ghost use Rattle.ocr_parts.specs.declared.part.Part.TheVariants as part;
-ghost use Rattle.ocr_machine.specs.Table.{face_on, core_on};
+ghost use Rattle.ocr_table.specs.Table.{face_on, core_on};
 ghost use Rattle.ocr_quiet.specs.Waits.{is_gone_on};
 ghost use Rattle.ocr_legality.specs.Tests.{begins, opens, is_open, shuts, Whether};
 
 use ocr_acquire::Mode;
 use ocr_edt::Edt;
 use ocr_guid::Guid;
-use ocr_machine::Table;
 use ocr_parts::Part;
+use ocr_table::Table;
 
 /// Whether the EDT runs.
 pub fn is_running(table: &Table, edt: u64) -> bool

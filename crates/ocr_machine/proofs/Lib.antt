@@ -4,5 +4,3 @@ pub mod Footprints
 pub mod Linking
 pub mod Places
 pub mod Steps
-pub mod Tables
-pub mod Wholes

@@ -1,4 +1,1 @@
 pub mod AtHand
-pub mod Lookup
-pub mod Sets
-pub mod Table

@@ -16,7 +16,6 @@ use crate::ending::{destroy, end_hold};
 use crate::events::{depend, satisfy_at};
 use crate::making::{create_block, create_event, create_template, make_edt};
 use crate::scopes::join_home;
-use crate::table::Entered;
 use crate::taken::Taken;
 use ocr_acquire::Mode;
 use ocr_base::NoMemory;
@@ -26,6 +25,13 @@ use ocr_history::{What, Writes};
 use ocr_meaning::{Answer, Call};
 use ocr_parts::Part;
 use std::alloc::Global;
+
+/// What an entry sent, and who goes on by it.
+#[derive(Drop)]
+pub struct Entered {
+    pub messages: Vec<What>,
+    pub resumed: Vec<Guid>,
+}
 
 /// What the entry of an accepted call does; gives what it sends, and who is resumed.
 pub(crate) fn call_entry(

@@ -10,11 +10,11 @@ ghost use Rattle.ocr_parts.specs.LegalOn.{IsSatisfiable, IsDeliverOn};
 ghost use Rattle.ocr_parts.specs.Messages.{what_to, carried_by, satisfied, linked, linked_by, dep_sends, sent_by_message};
 ghost use Rattle.ocr_machine.specs.AtHand.{state, Becomes};
 
-use crate::codes::is_object;
 use crate::scopes::leave_at;
 use crate::taken::Taken;
 use ocr_any_event::AnyEvent;
 use ocr_base::NoMemory;
+use ocr_codes::is_object;
 use ocr_guid::Guid;
 use ocr_guid::target::{Linked, Satisfied, Target};
 use ocr_history::What;

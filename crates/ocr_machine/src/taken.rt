@@ -6,6 +6,7 @@ ghost use Rattle.ocr_parts.specs.declared.part.Part.TheVariants as part;
 ghost use Rattle.ocr_machine.specs.AtHand.{state, with_part, is_core};
 
 use ocr_any_event::AnyEvent;
+use ocr_codes::find;
 use ocr_datablock::Block;
 use ocr_finish::Scope;
 use ocr_parts::{Core, Part};
@@ -59,40 +60,44 @@ impl Taken {
     }
 
     /// Puts a face in the place of the one that an object has.
+    #[inline(always)]
     pub fn put_face(&mut self, object: u64, part: Part)
         ensures { self.new ≡ with_part self.old object part }
     {
-        replace(&mut self.parts, object, part);
+        set(&mut self.parts, object, part);
     }
 
     /// Puts a core in the place of the one that an EDT has.
+    #[inline(always)]
     pub fn put_core(&mut self, edt: u64, core: Core)
         requires { edt ≤ self.old.limit }
         ensures { self.new ≡ with_part self.old (self.old.limit + edt) (part.Core core) }
     {
-        replace(&mut self.parts, self.limit + edt, Part::Core(core));
+        set(&mut self.parts, self.limit + edt, Part::Core(core));
     }
 
     /// Takes the core of an EDT out.
+    #[inline(always)]
     pub fn take_core(&mut self, edt: u64) -> Core
         requires { is_core ((state self.old).core edt) ≡ true }
         ensures within { edt ≤ self.old.limit }
         ensures was { (state self.old).core edt ≡ part.Core result }
         ensures left { self.new ≡ with_part self.old (self.old.limit + edt) part.Vacant }
     {
-        let Part::Core(core) = replace(&mut self.parts, self.limit + edt, Part::Vacant) else {
+        let Part::Core(core) = take(&mut self.parts, self.limit + edt) else {
             unreachable!()
         };
         core
     }
 
     /// Takes a block out.
+    #[inline(always)]
     pub fn take_block(&mut self, block: u64) -> Block
         requires { is_block ((state self.old).face block) ≡ true }
         ensures was { (state self.old).face block ≡ part.Block result }
         ensures left { self.new ≡ with_part self.old block part.Vacant }
     {
-        let Part::Block(state) = replace(&mut self.parts, block, Part::Vacant) else {
+        let Part::Block(state) = take(&mut self.parts, block) else {
             unreachable!()
         };
         state
@@ -152,64 +157,68 @@ impl Taken {
     }
 
     /// Takes an event out.
+    #[inline(always)]
     pub fn take_event(&mut self, event: u64) -> AnyEvent
         requires { is_event ((state self.old).face event) ≡ true }
         ensures was { (state self.old).face event ≡ part.Event result }
         ensures left { self.new ≡ with_part self.old event part.Vacant }
     {
-        let Part::Event(made) = replace(&mut self.parts, event, Part::Vacant) else {
+        let Part::Event(made) = take(&mut self.parts, event) else {
             unreachable!()
         };
         made
     }
 
     /// Takes a finish scope out.
+    #[inline(always)]
     pub fn take_scope(&mut self, scope: u64) -> Scope
         requires { is_scope ((state self.old).face scope) ≡ true }
         ensures was { (state self.old).face scope ≡ part.Scope result }
         ensures left { self.new ≡ with_part self.old scope part.Vacant }
     {
-        let Part::Scope(made) = replace(&mut self.parts, scope, Part::Vacant) else {
+        let Part::Scope(made) = take(&mut self.parts, scope) else {
             unreachable!()
         };
         made
     }
 
     /// Takes the slots of an EDT out.
+    #[inline(always)]
     pub fn take_slots(&mut self, edt: u64) -> Slots
         requires { is_edt_face ((state self.old).face edt) ≡ true }
         ensures was { (state self.old).face edt ≡ part.Edt result }
         ensures left { self.new ≡ with_part self.old edt part.Vacant }
     {
-        let Part::Edt(slots) = replace(&mut self.parts, edt, Part::Vacant) else {
+        let Part::Edt(slots) = take(&mut self.parts, edt) else {
             unreachable!()
         };
         slots
     }
 }
 
-/// Puts a part in the place of the one with this number, and gives that one.
-fn replace(parts: &mut Vec<(u64, Part)>, number: u64, part: Part) -> Part
-    ensures was { result ≡ look parts.old.items number }
-    ensures now { parts.new.items ≡ put parts.old.items number part }
+/// Puts a part in the place of the one with this number.
+#[inline(always)]
+fn set(parts: &mut Vec<(u64, Part)>, number: u64, part: Part)
+    ensures { parts.new.items ≡ put parts.old.items number part }
 {
     for i in 0..parts.len() {
         if parts[i].0 == number {
-            return std::mem::replace(&mut parts[i].1, part);
+            parts[i].1 = part;
+            return;
+        }
+    }
+}
+
+/// Takes the part with this number out.
+#[inline(always)]
+fn take(parts: &mut Vec<(u64, Part)>, number: u64) -> Part
+    ensures was { result ≡ look parts.old.items number }
+    ensures left { parts.new.items ≡ put parts.old.items number part.Vacant }
+{
+    for i in 0..parts.len() {
+        if parts[i].0 == number {
+            return std::mem::replace(&mut parts[i].1, Part::Vacant);
         }
     }
     Part::Vacant
-}
-
-/// The part with this number.
-pub(crate) fn find<'a>(parts: &'a [(u64, Part)], number: u64) -> Option<&'a Part>
-    ensures some { IfSome result (λ p. look parts.now number ≡ p.now) }
-    ensures none { IfNone result (look parts.now number ≡ part.Vacant) }
-{
-    for i in 0..parts.len() {
-        if parts[i].0 == number {
-            return Some(&parts[i].1);
-        }
-    }
-    None
 }

@@ -1,5 +1,5 @@
 use Rattle.std.proofs.Common.{◌-◌, sym, subst}
-use Rattle.ocr_machine.specs.Table.{state_in}
+use Rattle.ocr_table.specs.Table.{state_in}
 use Rattle.ocr_legality.proofs.Numbers.{IsCounted, counted_fresh, counted_past, counted_all}
 use Rattle.ocr_legality.proofs.asking.count_fresh.Goals as goal
 use Rattle.ocr_legality.proofs.asking.count_fresh.Goals.{then-is_fresh, else-is_fresh}

@@ -1,4 +1,4 @@
-use Rattle.ocr_machine.specs.Table.{state_in}
+use Rattle.ocr_table.specs.Table.{state_in}
 use Rattle.ocr_legality.proofs.Numbers.{IsCounted}
 use Rattle.ocr_legality.proofs.asking.count_fresh.Given as goal
 

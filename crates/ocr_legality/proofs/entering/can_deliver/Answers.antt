@@ -1,4 +1,4 @@
-use Rattle.ocr_machine.specs.Table.{state_in}
+use Rattle.ocr_table.specs.Table.{state_in}
 use Rattle.ocr_legality.proofs.Calls.{deliverable_so, leavable_so}
 use Rattle.ocr_legality.proofs.entering.can_deliver.Goals as goal
 
