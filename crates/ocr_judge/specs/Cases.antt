@@ -1,17 +1,18 @@
 -- The case of one EDT in a journal, and how far its judge has come.
-use Rattle.std.specs.Prelude.{◌≡◌, ◌≤◌, ◌<◌, ℕ, List, [], ◌∷◌, ◌++◌, ◌==◌, if◌then◌else◌, length, take, Option, Some, None, true, false}
+use Rattle.std.specs.Prelude.{◌≡◌, ◌≤◌, ◌<◌, ℕ, List, [], length, take, Option, Some, None, true, false}
 use Rattle.ocr_acquire.specs.declared.Mode.{Mode}
 use Rattle.ocr_code.specs.Checked.{checked_tree}
 use Rattle.ocr_history.specs.History.{own, history_of}
 use Rattle.ocr_meaning.specs.Behaviour.{Asked}
 use Rattle.ocr_meaning.specs.Body.{Body}
 use Rattle.ocr_acquire.specs.Mode.{mode_in}
-use Rattle.ocr_meaning.specs.Holds.{Hold, Holds, is_isolated}
+use Rattle.ocr_meaning.specs.Holds.{Holds, is_isolated}
 use Rattle.ocr_tree.specs.Tree.{FunctionTree}
-use Rattle.ocr_datablock.specs.Lent.{Loan, words_in}
+use Rattle.ocr_datablock.specs.Lent.{Loan}
 use Rattle.ocr_parts.specs.declared.loans.Kept.{Kept}
 use Rattle.ocr_parts.specs.Bodies.{hold_of, body_with}
 use Rattle.ocr_parts.specs.Kinds.{mode_on, kept_on}
+use Rattle.ocr_parts.specs.Loans.{kept_in}
 use Rattle.ocr_parts.specs.declared.part.Core.{Core}
 use Rattle.ocr_parts.specs.declared.part.Part.TheVariants as part
 use Rattle.ocr_history.specs.declared.entry.Entry.{Entry}
@@ -41,26 +42,15 @@ abbrev pub IsFitHold : Option Mode → Option Kept → Type 0
 IsFitHold (Some m) (Some kept) = IsFitLoan m kept.size kept.loan
 IsFitHold m kept = Unit {0}
 
+abbrev pub AreFit : List (ℕ × Mode) → List (ℕ × Kept) → Type 0
+AreFit holds loans = (d : ℕ) → IsFitHold (mode_in d holds) (kept_in d loans)
+
 abbrev pub IsFitCore : Core → Type 0
 IsFitCore c = (d : ℕ) → IsFitHold (mode_on (part.Core c) d) (kept_on (part.Core c) d)
 
--- the holds at the start, by what is kept with each block
-abbrev pub begun_loan : ℕ → Mode → ℕ → Option Loan → List (ℕ × Hold)
-begun_loan d m size None = []
-begun_loan d m size (Some l) =
-    if length l.began == size then
-    (d, record { mode = m; size = size; began = words_in l; writes = [] }) ∷ []
-    else []
-
-abbrev pub begun_one : ℕ → Option Mode → Kept → List (ℕ × Hold)
-begun_one d None kept = []
-begun_one d (Some m) kept =
-    if is_isolated m then begun_loan d m kept.size kept.loan
-    else (d, record { mode = m; size = kept.size; began = []; writes = [] }) ∷ []
-
-abbrev pub begun_all : List (ℕ × Mode) → List (ℕ × Kept) → List (ℕ × Hold)
-begun_all holds [] = []
-begun_all holds (one ∷ rest) = begun_one one.0 (mode_in one.0 holds) one.1 ++ begun_all holds rest
+-- the holds at the start, by the modes and what is kept with each block
+abbrev pub begun_holds : List (ℕ × Mode) → List (ℕ × Kept) → Holds
+begun_holds holds loans = λ d. hold_of (mode_in d holds) (kept_in d loans)
 
 abbrev pub judged_body : Judge → Body
 judged_body j = case_body (checked_tree j.program.now) j.core.now j.deps.now

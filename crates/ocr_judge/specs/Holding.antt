@@ -1,36 +1,24 @@
 -- The holds of one EDT, as its judge keeps them.
-use Rattle.std.specs.Prelude.{◌≡◌, ℕ, List, [], ◌∷◌, length, Bool, true, false, ◌==◌, ◌||◌, not, if◌then◌else◌, Some, None}
-use Rattle.std.specs.List.{filter}
+use Rattle.std.specs.Prelude.{◌≡◌, ℕ, List, [], ◌∷◌, length, true, ◌==◌, if◌then◌else◌, Option, Some, None}
 use Rattle.ocr_acquire.specs.Writes.{IsRising, put}
-use Rattle.ocr_meaning.specs.Holds.{Hold, Holds, Access, Refused, Silent, Entered, is_isolated}
+use Rattle.ocr_meaning.specs.Holds.{Hold, Holds, with_hold, Access, Refused, Silent, Entered, is_isolated}
 use Rattle.ocr_judge.specs.declared.holding.Found.{Found}
 use Rattle.ocr_judge.specs.declared.holding.Found.TheVariants as found
 
--- blocks with their holds, the first of each counts
+-- the hold of a block among blocks with their holds
 abbrev pub held_in : List (ℕ × Hold) → Holds
 held_in [] d = None
 held_in (one ∷ rest) d = if one.0 == d then Some one.1 else held_in rest d
 
-abbrev pub without_hold : ℕ → List (ℕ × Hold) → List (ℕ × Hold)
-without_hold d items = filter (λ (one : ℕ × Hold). not (one.0 == d)) items
+-- the holds, with one that begins, where there is one
+abbrev pub with_begun : ℕ → Option Hold → Holds → Holds
+with_begun d None holds = holds
+with_begun d (Some h) holds = with_hold d (Some h) holds
 
-abbrev pub without_first : ℕ → List (ℕ × Hold) → List (ℕ × Hold)
-without_first d [] = []
-without_first d (one ∷ rest) = if one.0 == d then rest else one ∷ without_first d rest
-
-abbrev pub is_among : ℕ → List (ℕ × Hold) → Bool
-is_among d [] = false
-is_among d (one ∷ rest) = (one.0 == d) || is_among d rest
-
+-- with a value in a word
 abbrev pub hold_with : ℕ → ℕ → Hold → Hold
 hold_with w v h =
     record { mode = h.mode; size = h.size; began = h.began; writes = put w v h.writes }
-
--- a value is stored in a word of a block
-abbrev pub stored_in : ℕ → ℕ → ℕ → List (ℕ × Hold) → List (ℕ × Hold)
-stored_in d w v [] = []
-stored_in d w v (one ∷ rest) =
-    if one.0 == d then (one.0, hold_with w v one.1) ∷ rest else one ∷ stored_in d w v rest
 
 -- in EW and CONST all words are there
 pub record IsWhole (h : Hold) : Type 0 where

@@ -1,13 +1,13 @@
 // The holds of one EDT, as its judge keeps them.
 ghost use Rattle.std.specs.Prelude.{◌≡◌, ◌==◌, ◌<◌, ◌≤◌, [], ◌∷◌, ◌++◌, length, map, true, false, Some, None, IfOk, IfSome, IfNone, OnErr};
-ghost use Rattle.ocr_acquire.specs.Mode.{mode_in};
+ghost use Rattle.std.specs.Option.{option_copied};
 ghost use Rattle.ocr_meaning.specs.Holds.{load_of, store_of, word_of, Silent, is_isolated, is_writable, is_done, private_in, private_of, after_call, after_accepted, with_hold, with_write};
 ghost use Rattle.ocr_datablock.specs.Lent.{words_in};
 ghost use Rattle.ocr_parts.specs.Bodies.{hold_of};
-ghost use Rattle.ocr_judge.specs.Cases.{core_holds, begun_one, begun_all, IsFitCore};
+ghost use Rattle.ocr_judge.specs.Cases.{core_holds, begun_holds, AreFit, IsFitCore, IsFitHold};
 ghost use Rattle.ocr_parts.specs.Loans.{kept_in};
 ghost use Rattle.ocr_parts.specs.Legal.{carried};
-ghost use Rattle.ocr_judge.specs.Holding.{held_in, without_hold, without_first, is_among, stored_in, hold_with, access_of, counts_of};
+ghost use Rattle.ocr_judge.specs.Holding.{held_in, hold_with, with_begun, access_of, counts_of};
 ghost use Rattle.ocr_judge.specs.Tests.{Whether};
 
 use ocr_acquire::Mode;
@@ -16,7 +16,7 @@ use ocr_datablock::Lent;
 use ocr_edt::{Edt, Running};
 use ocr_guid::{Code, Guid};
 use ocr_meaning::{Answer, BodyStop, Call};
-use ocr_parts::{Core, Kept};
+use ocr_parts::{Core, Kept, Loans};
 use std::alloc::Global;
 use std::collections::BTreeMap;
 use std::marker::Model;
@@ -30,11 +30,10 @@ pub enum Found {
     Entered,
 }
 
-/// A block with its hold: its mode, its length in words, and in `Ew` and `Const` the words with
-/// which the hold began, and what was stored since.
+/// A hold of a block: its mode, the block's length in words, and in `Ew` and `Const` the words
+/// with which the hold began, and what was stored since.
 #[derive(Drop)]
 pub struct Held {
-    block: Guid,
     mode: Mode,
     size: u64,
     began: Vec<u64>,
@@ -42,21 +41,17 @@ pub struct Held {
 }
 
 impl Model for Held {
-    ghost use Rattle.std.specs.Prelude.{ℕ};
     ghost use Rattle.ocr_meaning.specs.Holds.{Hold};
     ghost use Rattle.ocr_judge.specs.Holding.{IsWhole};
 
-    ghost Value = { ℕ × Hold };
+    ghost Value = { Hold };
 
-    ghost view = { λ h. (
-      h.block,
-      record {
-        mode = h.mode;
-        size = h.size;
-        began = h.began.items;
-        writes = h.writes.entries;
-      },
-    ) };
+    ghost view = { λ h. record {
+      mode = h.mode;
+      size = h.size;
+      began = h.began.items;
+      writes = h.writes.entries;
+    } };
 
     ghost invariant = { λ h. IsWhole (record {
       mode = h.mode;
@@ -68,12 +63,11 @@ impl Model for Held {
 
 impl Held {
     /// A hold in `Rw`, `Ro` or `Null`.
-    fn shared(alloc: Global, block: Guid, mode: Mode, size: u64) -> Held
+    fn shared(alloc: Global, mode: Mode, size: u64) -> Held
         requires { is_isolated mode ≡ false }
-        ensures { result ≡ (block, record { mode = mode; size = size; began = []; writes = [] }) }
+        ensures { result ≡ record { mode = mode; size = size; began = []; writes = [] } }
     {
         Held {
-            block,
             mode,
             size,
             began: Vec::new(alloc),
@@ -82,20 +76,16 @@ impl Held {
     }
 
     /// A hold in `Ew` or `Const` that begins with these words.
-    fn isolated(alloc: Global, block: Guid, mode: Mode, size: u64, began: Vec<u64>) -> Held
+    fn isolated(alloc: Global, mode: Mode, size: u64, began: Vec<u64>) -> Held
         requires { length began.items ≡ size }
-        ensures { result ≡ (
-          block,
-          record {
-            mode = mode;
-            size = size;
-            began = began.items;
-            writes = [];
-          },
-        ) }
+        ensures { result ≡ record {
+          mode = mode;
+          size = size;
+          began = began.items;
+          writes = [];
+        } }
     {
         Held {
-            block,
             mode,
             size,
             began,
@@ -103,22 +93,10 @@ impl Held {
         }
     }
 
-    fn block(&self) -> Guid
-        ensures { result ≡ self.now.0 }
-    {
-        self.block
-    }
-
-    fn is_of(&self, block: Guid) -> bool
-        ensures { result ≡ (self.now.0 == block) }
-    {
-        self.block == block
-    }
-
     /// What a load of a word comes to.
     #[tactic(auto, using(crate::proofs::Held::silent_load))]
     fn load(&self, word: u64) -> Found
-        ensures { access_of result ≡ load_of (Some self.now.1) word }
+        ensures { access_of result ≡ load_of (Some self.now) word }
     {
         if word >= self.size {
             return Found::Refused(BodyStop::BadIndex);
@@ -131,9 +109,9 @@ impl Held {
 
     #[tactic(auto, using(ocr_acquire::proofs::Writes::word_found, ocr_acquire::proofs::Writes::word_not_found))]
     fn word(&self, word: u64) -> u64
-        requires isolated { is_isolated self.now.1.mode ≡ true }
-        requires exists { word < self.now.1.size }
-        ensures { result ≡ word_of self.now.1 word }
+        requires isolated { is_isolated self.now.mode ≡ true }
+        requires exists { word < self.now.size }
+        ensures { result ≡ word_of self.now word }
     {
         match self.writes.get(&word) {
             Some(value) => *value,
@@ -143,7 +121,7 @@ impl Held {
 
     /// What a store in a word comes to.
     fn storing(&self, word: u64) -> Found
-        ensures { access_of result ≡ store_of (Some self.now.1) word }
+        ensures { access_of result ≡ store_of (Some self.now) word }
     {
         if !is_writable(self.mode) {
             return Found::Refused(BodyStop::NotWritable);
@@ -160,7 +138,7 @@ impl Held {
     /// A value is stored in a word.
     #[tactic(auto, using(ocr_acquire::proofs::Writes::insert_is_put, ocr_acquire::proofs::Writes::rises_put))]
     fn store(&mut self, word: u64, value: u64) -> Result<(), NoMemory>
-        ensures ok { IfOk result (λ _. self.new ≡ (self.old.0, hold_with word value self.old.1)) }
+        ensures ok { IfOk result (λ _. self.new ≡ hold_with word value self.old) }
         ensures err { OnErr result (self.new ≡ self.old) }
     {
         match self.writes.insert(word, value) {
@@ -171,7 +149,7 @@ impl Held {
 
     /// Whether these are its private writes.
     fn has_stored(&self, writes: &[(u32, u64)]) -> bool
-        ensures { Whether result (writes.now ≡ self.now.1.writes) }
+        ensures { Whether result (writes.now ≡ self.now.writes) }
     {
         if writes.len() != self.writes.len() {
             return false;
@@ -181,7 +159,7 @@ impl Held {
 
     /// How many private writes it has.
     fn count(&self) -> usize
-        ensures { result ≡ length self.now.1.writes }
+        ensures { result ≡ length self.now.writes }
     {
         self.writes.len()
     }
@@ -221,11 +199,10 @@ fn is_writable(mode: Mode) -> bool
     }
 }
 
-/// The holds of an EDT. Contracts see the list of blocks with their holds, the first of each
-/// counts.
+/// The holds of an EDT. Contracts see the list of blocks with their holds, each block once.
 #[derive(Drop)]
 pub struct Holding {
-    items: Vec<Held>,
+    items: BTreeMap<u64, Held>,
 }
 
 impl Model for Holding {
@@ -234,7 +211,7 @@ impl Model for Holding {
 
     ghost Value = { List (ℕ × Hold) };
 
-    ghost view = { λ h. h.items.items };
+    ghost view = { λ h. h.items.entries };
 }
 
 impl Holding {
@@ -242,7 +219,7 @@ impl Holding {
     pub fn load(&self, block: Guid, word: u64) -> Found
         ensures { access_of result ≡ load_of (held_in self.now block) word }
     {
-        match find(&self.items, block) {
+        match self.find(block) {
             Some(held) => held.load(word),
             None => Found::Refused(BodyStop::NotHeld),
         }
@@ -252,7 +229,7 @@ impl Holding {
     pub fn storing(&self, block: Guid, word: u64) -> Found
         ensures { access_of result ≡ store_of (held_in self.now block) word }
     {
-        match find(&self.items, block) {
+        match self.find(block) {
             Some(held) => held.storing(word),
             None => Found::Refused(BodyStop::NotHeld),
         }
@@ -263,14 +240,17 @@ impl Holding {
         ensures { IfOk result (λ _. held_in self.new
             ≡ with_hold block (with_write word value (held_in self.old block)) (held_in self.old)) }
     {
-        store_in(&mut self.items, block, word, value)
+        let Some(held) = self.items.get_mut(&block.0) else {
+            return Ok(());
+        };
+        held.store(word, value)
     }
 
     /// Whether these are the private writes of a block's hold.
     pub fn has_stored(&self, block: Guid, writes: &[(u32, u64)]) -> bool
         ensures { Whether result (writes.now ≡ private_in (held_in self.now block)) }
     {
-        match find(&self.items, block) {
+        match self.find(block) {
             Some(held) => held.has_stored(writes),
             None => writes.is_empty(),
         }
@@ -280,7 +260,7 @@ impl Holding {
     pub fn count(&self, block: Guid) -> usize
         ensures { result ≡ length (private_in (held_in self.now block)) }
     {
-        match find(&self.items, block) {
+        match self.find(block) {
             Some(held) => held.count(),
             None => 0,
         }
@@ -316,7 +296,11 @@ impl Holding {
     pub fn counts(&self, alloc: Global) -> Result<Vec<(Guid, usize)>, NoMemory>
         ensures { IfOk result (λ v. v.items ≡ counts_of self.now) }
     {
-        counts(alloc, &self.items)
+        let mut counts = Vec::new(alloc);
+        for (block, held) in &self.items {
+            counts.push((Guid(*block), held.count()))?;
+        }
+        Ok(counts)
     }
 
     /// What is held after a call was answered.
@@ -338,70 +322,42 @@ impl Holding {
         match call {
             Call::DbCreate { length, flags } => {
                 if *flags == 0 {
-                    let held = Held::shared(alloc, Guid(answer.value), Mode::Rw, *length / 8);
-                    self.items.insert(0, held)?;
+                    let held = Held::shared(alloc, Mode::Rw, *length / 8);
+                    begin(&mut self.items, Guid(answer.value), Some(held))?;
                 }
             }
-            Call::DbRelease { block } => drop_from(&mut self.items, Guid(*block)),
-            Call::DbDestroy { block } => drop_from(&mut self.items, Guid(*block)),
+            Call::DbRelease { block } => self.end(Guid(*block)),
+            Call::DbDestroy { block } => self.end(Guid(*block)),
             _ => (),
         }
         Ok(())
     }
+
+    fn find(&self, block: Guid) -> Option<&Held>
+        ensures some { IfSome result (λ h. held_in self.now block ≡ Some h.now) }
+        ensures none { IfNone result (held_in self.now block ≡ None) }
+    {
+        self.items.get(&block.0)
+    }
+
+    /// The hold of a block ends, where there is one.
+    fn end(&mut self, block: Guid)
+        ensures { held_in self.new ≡ with_hold block None (held_in self.old) }
+    {
+        let _held = self.items.remove(&block.0);
+    }
 }
 
-fn find<'a>(items: &'a [Held], block: Guid) -> Option<&'a Held>
-    ensures some { IfSome result (λ h. held_in items.now block ≡ Some h.now.1) }
-    ensures none { IfNone result (held_in items.now block ≡ None) }
+/// A hold of a block begins, where there is one.
+fn begin(items: &mut BTreeMap<u64, Held>, block: Guid, held: Option<Held>) -> Result<(), NoMemory>
+    ensures { IfOk result (λ _. held_in items.new.entries
+        ≡ with_begun block held (held_in items.old.entries)) }
 {
-    for held in items {
-        if held.is_of(block) {
-            return Some(held);
-        }
-    }
-    None
-}
-
-fn store_in(items: &mut Vec<Held>, block: Guid, word: u64, value: u64) -> Result<(), NoMemory>
-    ensures { IfOk result (λ _. items.new.items ≡ stored_in block word value items.old.items) }
-{
-    for place in 0..items.len() {
-        if items[place].is_of(block) {
-            return items[place].store(word, value);
-        }
-    }
+    let Some(held) = held else {
+        return Ok(());
+    };
+    items.insert(block.0, held)?;
     Ok(())
-}
-
-fn counts(alloc: Global, items: &[Held]) -> Result<Vec<(Guid, usize)>, NoMemory>
-    ensures { IfOk result (λ v. v.items ≡ counts_of items.now) }
-{
-    let mut counts = Vec::new(alloc);
-    for held in items {
-        counts.push((held.block(), held.count()))?;
-    }
-    Ok(counts)
-}
-
-#[tactic(auto, using(crate::proofs::Held::without_twice, crate::proofs::Held::shorter))]
-fn drop_from(items: &mut Vec<Held>, block: Guid)
-    ensures { items.new.items ≡ without_hold block items.old.items }
-{
-    while drop_first(items, block) {}
-}
-
-/// Takes the first hold of a block out, and tells whether there was one.
-fn drop_first(items: &mut Vec<Held>, block: Guid) -> bool
-    ensures state { items.new.items ≡ without_first block items.old.items }
-    ensures found { result ≡ is_among block items.old.items }
-{
-    for place in 0..items.len() {
-        if items[place].is_of(block) {
-            let _held = items.remove(place);
-            return true;
-        }
-    }
-    false
 }
 
 /// What an EDT holds at its start.
@@ -411,10 +367,10 @@ pub fn begun(alloc: Global, core: &Core) -> Result<Holding, NoMemory>
 {
     match &core.edt {
         Edt::Running(running) => Ok(Holding {
-            items: begun_all(alloc, running, core.loans.as_slice())?,
+            items: begun_all(alloc, running, &core.loans)?,
         }),
         _ => Ok(Holding {
-            items: Vec::new(alloc),
+            items: BTreeMap::new(alloc),
         }),
     }
 }
@@ -422,45 +378,45 @@ pub fn begun(alloc: Global, core: &Core) -> Result<Holding, NoMemory>
 fn begun_all(
     alloc: Global,
     running: &Running,
-    loans: &[(Guid, Kept)],
-) -> Result<Vec<Held>, NoMemory>
-    ensures { IfOk result (λ v. v.items ≡ begun_all running.now.holds loans.now) }
+    loans: &Loans,
+) -> Result<BTreeMap<u64, Held>, NoMemory>
+    requires { AreFit running.now.holds loans.now }
+    ensures { IfOk result (λ items. held_in items.entries
+        ≡ begun_holds running.now.holds loans.now) }
 {
-    let mut items = Vec::new(alloc);
-    for (block, kept) in loans {
-        add_begun(alloc, &mut items, *block, running.mode(*block), kept)?;
+    let mut items = BTreeMap::new(alloc);
+    let blocks = loans.blocks(alloc)?;
+    for block in &blocks {
+        let held = begun_one(alloc, running.mode(*block), loans.get(*block))?;
+        begin(&mut items, *block, held)?;
     }
     Ok(items)
 }
 
-/// Adds a hold; none where it has no words, though it is one in `Ew` or `Const`.
-fn add_begun(
+/// The hold of a block, by its mode and by what is kept with it.
+fn begun_one(
     alloc: Global,
-    items: &mut Vec<Held>,
-    block: Guid,
     mode: Option<Mode>,
-    kept: &Kept,
-) -> Result<(), NoMemory>
-    ensures { IfOk result (λ _. items.new.items
-        ≡ items.old.items ++ begun_one block mode kept.now) }
+    kept: Option<&Kept>,
+) -> Result<Option<Held>, NoMemory>
+    requires { IsFitHold mode (option_copied kept) }
+    ensures { IfOk result (λ held. held ≡ hold_of mode (option_copied kept.entry)) }
 {
     let Some(mode) = mode else {
-        return Ok(());
+        return Ok(None);
+    };
+    let Some(kept) = kept else {
+        return Ok(None);
     };
     let size = u64::from(kept.size);
     if !is_isolated(mode) {
-        items.push(Held::shared(alloc, block, mode, size))?;
-        return Ok(());
+        return Ok(Some(Held::shared(alloc, mode, size)));
     }
     let Some(lent) = &kept.loan else {
-        return Ok(());
+        unreachable!();
     };
-    if lent.words() != kept.size {
-        return Ok(());
-    }
     let words = words_of(alloc, lent)?;
-    items.push(Held::isolated(alloc, block, mode, size, words))?;
-    Ok(())
+    Ok(Some(Held::isolated(alloc, mode, size, words)))
 }
 
 /// The words of a loan as they are now.

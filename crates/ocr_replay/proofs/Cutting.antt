@@ -18,7 +18,7 @@ use Rattle.ocr_edt.specs.declared.Identity.{Identity}
 use Rattle.ocr_parts.specs.declared.loans.Kept.{Kept}
 use Rattle.ocr_history.specs.History.{own}
 use Rattle.ocr_history.specs.Made.{Made, MadeBlock, MadeTemplate, MadeEvent, MadeScope, MadeEdt, made, is_edt_made}
-use Rattle.ocr_machine.specs.Table.{IsOf}
+use Rattle.ocr_table.specs.Table.{IsOf}
 use Rattle.ocr_meaning.specs.Body.{Body, says}
 use Rattle.ocr_parts.specs.Bodies.{body_of}
 use Rattle.ocr_parts.specs.Calls.{edt_calls, loans_of}

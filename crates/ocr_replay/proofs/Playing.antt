@@ -25,8 +25,8 @@ use Rattle.ocr_judge.proofs.Letters.{dropped, sent, waiting}
 use Rattle.ocr_judge.proofs.Steps.{same, not_true, not_false, history_next}
 use Rattle.ocr_legality.specs.Tests.{MayEnter}
 use Rattle.ocr_mail.specs.Mail.{without}
-use Rattle.ocr_machine.specs.Table.{state_in, face_on, core_on, IsOf, IsBefore}
-use Rattle.ocr_machine.specs.declared.table.Table.{Table}
+use Rattle.ocr_table.specs.Table.{state_in, face_on, core_on, IsOf, IsBefore}
+use Rattle.ocr_table.specs.declared.table.Table.{Table}
 use Rattle.ocr_meaning.specs.Body.{Body}
 use Rattle.ocr_meaning.specs.Holds.{is_isolated}
 use Rattle.ocr_meaning.specs.declared.call.Call as body

@@ -11,8 +11,8 @@ use Rattle.ocr_judge.specs.Judging.{IsVerdict}
 use Rattle.ocr_judge.specs.Mailing.{left_from, message_at, delivered_at}
 use Rattle.ocr_judge.specs.declared.judging.Told.TheVariants as told
 use Rattle.ocr_judge.specs.declared.judging.Verdict.{Verdict}
-use Rattle.ocr_machine.specs.Table.{IsOf}
-use Rattle.ocr_machine.specs.declared.table.Table.{Table}
+use Rattle.ocr_table.specs.Table.{IsOf}
+use Rattle.ocr_table.specs.declared.table.Table.{Table}
 use Rattle.ocr_meaning.specs.declared.call.BodyStop.TheVariants as stop
 use Rattle.ocr_parts.specs.Bodies.{body_of}
 use Rattle.ocr_legality.specs.Tests.{MayEnter}

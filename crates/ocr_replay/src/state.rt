@@ -5,7 +5,7 @@ ghost use Rattle.ocr_history.specs.History.{Setting, history_of};
 ghost use Rattle.ocr_history.specs.declared.entry.Entry as entries;
 ghost use Rattle.ocr_judge.specs.Linking.{IsLinked};
 ghost use Rattle.ocr_judge.specs.Tests.{Whether};
-ghost use Rattle.ocr_machine.specs.Table.{core_on};
+ghost use Rattle.ocr_table.specs.Table.{core_on};
 ghost use Rattle.ocr_parts.specs.Kinds.{is_running};
 ghost use Rattle.ocr_parts.specs.Legal.{is_stop, IsSaid};
 
@@ -16,11 +16,11 @@ use ocr_guid::Guid;
 use ocr_history::Entry;
 use ocr_judge::{Links, Mail, Told, Verdict, verdict_on};
 use ocr_legality::is_legal;
-use ocr_machine::Table;
 use ocr_meaning::BodyStop;
 use ocr_parts::{Part, event_laws, machine_laws};
 use ocr_quiet::standing_laws;
 use ocr_standing::{holding_laws, lasting_laws};
+use ocr_table::Table;
 use std::alloc::Global;
 
 /// The state of a run so far, the messages that were not delivered, and the verdict on each EDT

@@ -11,8 +11,8 @@ use Rattle.ocr_parts.specs.Legal.{IsRun}
 use Rattle.ocr_parts.specs.Messages.{pending}
 use Rattle.ocr_parts.specs.Parts.{Parts, parts_of}
 use Rattle.ocr_parts.specs.Taken.{is_within}
-use Rattle.ocr_machine.specs.Table.{IsOf}
-use Rattle.ocr_machine.specs.declared.table.Table.{Table}
+use Rattle.ocr_table.specs.Table.{IsOf}
+use Rattle.ocr_table.specs.declared.table.Table.{Table}
 use Rattle.ocr_judge.specs.Judging.{IsToldAs, IsVerdict, at_place}
 use Rattle.ocr_judge.specs.Mailing.{left_from}
 use Rattle.ocr_judge.specs.declared.judging.Verdict.{Verdict}

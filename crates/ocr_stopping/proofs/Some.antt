@@ -20,8 +20,8 @@ use Rattle.ocr_parts.specs.Messages.{pending}
 use Rattle.ocr_parts.specs.Parts.{Parts, parts_of}
 use Rattle.ocr_parts.specs.Taken.{is_within}
 use Rattle.ocr_parts.proofs.Lent.{ready_core}
-use Rattle.ocr_machine.specs.Table.{state_in, IsOf}
-use Rattle.ocr_machine.specs.declared.table.Table.{Table}
+use Rattle.ocr_table.specs.Table.{state_in, IsOf}
+use Rattle.ocr_table.specs.declared.table.Table.{Table}
 use Rattle.ocr_quiet.proofs.Choices.{both_true}
 use Rattle.ocr_legality.specs.Tests.{Whether, MayGoOn, MayEnter, IsDeliverable}
 use Rattle.ocr_judge.specs.Mailing.{left_from, message_at}

@@ -17,8 +17,8 @@ use Rattle.ocr_parts.specs.Kinds.{work_of, holds_of}
 use Rattle.ocr_parts.specs.Legal.{IsRun, IsCreating, IsWeighed}
 use Rattle.ocr_parts.specs.Messages.{pending}
 use Rattle.ocr_parts.specs.Parts.{Parts}
-use Rattle.ocr_machine.specs.Table.{IsOf}
-use Rattle.ocr_machine.specs.declared.table.Table.{Table}
+use Rattle.ocr_table.specs.Table.{IsOf}
+use Rattle.ocr_table.specs.declared.table.Table.{Table}
 use Rattle.ocr_legality.specs.Asked.{CanWeigh}
 use Rattle.ocr_legality.specs.Tests.{MayGoOn, IsDeliverable}
 use Rattle.ocr_judge.specs.Holding.{count_in}

@@ -1,12 +1,12 @@
 // Whether a message could be delivered now.
-ghost use Rattle.ocr_machine.specs.Table.{state_in};
+ghost use Rattle.ocr_table.specs.Table.{state_in};
 ghost use Rattle.ocr_legality.specs.Tests.{Whether};
 ghost use Rattle.ocr_stopping.specs.Stopping.{Delivers, RowDelivers, MailDelivers};
 
 use ocr_history::What;
 use ocr_judge::Mail;
 use ocr_legality::can_deliver;
-use ocr_machine::Table;
+use ocr_table::Table;
 
 fn delivers(table: &Table, message: Option<What>) -> bool
     ensures { Whether result (Delivers (state_in table.now) message) }

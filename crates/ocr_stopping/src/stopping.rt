@@ -18,8 +18,8 @@ use ocr_guid::Guid;
 use ocr_history::{Fault, Stop};
 use ocr_judge::{Mail, Verdict};
 use ocr_legality::{can_wake, is_running, room};
-use ocr_machine::Table;
 use ocr_meaning::BodyStop;
+use ocr_table::Table;
 use std::alloc::Global;
 
 fn both(one: bool, other: bool) -> bool

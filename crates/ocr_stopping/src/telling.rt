@@ -5,7 +5,7 @@ ghost use Rattle.ocr_history.specs.History.{Setting, History};
 ghost use Rattle.ocr_parts.specs.Kinds.{work_of, holds_of};
 ghost use Rattle.ocr_parts.specs.Legal.{IsRun};
 ghost use Rattle.ocr_parts.specs.Parts.{parts_of};
-ghost use Rattle.ocr_machine.specs.Table.{face_on, core_on, IsOf};
+ghost use Rattle.ocr_table.specs.Table.{face_on, core_on, IsOf};
 ghost use Rattle.ocr_legality.specs.Tests.{Whether};
 ghost use Rattle.ocr_legality.specs.Asked.{IsRoom};
 ghost use Rattle.ocr_judge.specs.Holding.{count_in};
@@ -15,8 +15,8 @@ ghost use Rattle.ocr_stopping.specs.Stopping.{CreatesBy, WeighsBy, count_of};
 use ocr_guid::{Code, Guid};
 use ocr_judge::{Told, Verdict};
 use ocr_legality::{can_weigh, least_held};
-use ocr_machine::Table;
 use ocr_meaning::BodyStop;
+use ocr_table::Table;
 
 /// The verdict on the EDT; None where there is none.
 pub(crate) fn verdict_of(verdicts: &[Verdict], edt: u64) -> Option<&Verdict>

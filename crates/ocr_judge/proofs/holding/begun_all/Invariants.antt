@@ -1,6 +1,6 @@
-use Rattle.std.proofs.Common.{◌≡◌, ◌++◌, drop}
-use Rattle.ocr_judge.specs.Cases.{begun_all}
+use Rattle.std.proofs.Common.{take}
+use Rattle.ocr_judge.proofs.Begun.{HasBegun}
 use Rattle.ocr_judge.proofs.holding.begun_all.Given as goal
 
 abbrev pub invariant-loop-block : goal.invariant-loop-block
-invariant-loop-block l = l.items.items ++ begun_all l.running.holds (drop l.block-index l.loans) ≡ begun_all l.running.holds l.loans
+invariant-loop-block l = HasBegun l.running.holds l.loans (take l.block-index l.block-items) l.items.entries

@@ -2,7 +2,7 @@ use Rattle.std.proofs.Common.{◌⊎◌, inl, inr, ◌≤◌, ◌<◌, ℕ, zero
 use Rattle.ocr_history.specs.declared.entry.What.{What}
 use Rattle.ocr_judge.specs.Mailing.{message_at}
 use Rattle.ocr_legality.specs.Tests.{Whether}
-use Rattle.ocr_machine.specs.Table.{state_in}
+use Rattle.ocr_table.specs.Table.{state_in}
 use Rattle.ocr_parts.specs.Parts.{Parts}
 use Rattle.ocr_stopping.specs.Stopping.{Delivers, RowDelivers, MailDelivers}
 use Rattle.ocr_stopping.proofs.delivering.mail_delivers.Goals as goal

@@ -1,5 +1,5 @@
 use Rattle.std.proofs.Common.{◌<◌, ℕ, slice_index_or, None}
-use Rattle.ocr_machine.specs.Table.{state_in}
+use Rattle.ocr_table.specs.Table.{state_in}
 use Rattle.ocr_stopping.specs.Stopping.{Delivers}
 use Rattle.ocr_stopping.proofs.delivering.row_delivers.Given as goal
 

@@ -1,7 +1,7 @@
 use Rattle.std.proofs.Common.{◌≡◌, ℕ, true, arith, rules, subst}
 use Rattle.ocr_history.specs.History.{History, Setting}
 use Rattle.ocr_judge.proofs.Nexts.{following_start}
-use Rattle.ocr_machine.specs.Table.{IsOf}
+use Rattle.ocr_table.specs.Table.{IsOf}
 use Rattle.ocr_parts.specs.Calls.{depv_of}
 use Rattle.ocr_parts.specs.Kinds.{is_running}
 use Rattle.ocr_parts.specs.Parts.{parts_of}
