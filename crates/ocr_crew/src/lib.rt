@@ -5,6 +5,7 @@ mod gathering;
 mod limits;
 mod running;
 mod seats;
+mod sharing;
 mod threads;
 
 pub use limits::Limits;

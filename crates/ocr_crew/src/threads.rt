@@ -5,6 +5,7 @@ ghost use Rattle.ocr_steal.specs.Pool.{IsOf, hands_in};
 ghost use Rattle.ocr_crew.specs.Seats.{AreBack, AreSeats, IsBack, IsHired};
 
 use crate::seats::Seat;
+use crate::sharing::{parts_move, programs_are_shared};
 use crossbeam_utils::CachePadded;
 use ocr_clerks::{Gate, Job, Ocr};
 use ocr_code::Checked;
@@ -52,6 +53,9 @@ pub(crate) fn work_all<R: Threads + Wait + Sync, G: Gate + Sync>(
     ensures many { IfOk result (λ backs. vec_len backs ≡ vec_len seats) }
     ensures backs { IfOk result (λ backs. AreBack turns.now program.now pool.now backs.items) }
 {
+    // only for the proof: what the closure borrows may be shared
+    parts_move();
+    programs_are_shared();
     thread::map_vec(
         rt,
         seats,

@@ -9,9 +9,9 @@ ghost use Rattle.ocr_delivering.specs.Delivering.{Delivers, IsOwed, OwesTo, Sati
 use ocr_clerks::{
     Gate, Job, Ocr, Over, close_memory, enter_at_work, give_all, lift_parts, take_part,
 };
+use ocr_codes::delivery_code;
 use ocr_guid::Guid;
 use ocr_history::{Entry, Message, What};
-use ocr_machine::delivery_code;
 use ocr_turns::Clerk;
 use std::alloc::Global;
 use std::sync::Wait;

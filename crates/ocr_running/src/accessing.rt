@@ -1,12 +1,11 @@
 // What the loads and stores of a body come to, by the core of its EDT.
-ghost use Rattle.std.specs.Prelude.{◌≡◌, ◌<◌, ◌^◌, ◌∷◌, [], Some, None, IfSome, IfNone};
+ghost use Rattle.std.specs.Prelude.{◌≡◌, ◌<◌, ◌^◌, ◌∷◌, [], Some};
 ghost use Rattle.ocr_acquire.specs.Mode.{mode_in};
 ghost use Rattle.ocr_meaning.specs.Holds.{is_isolated, is_writable, load_of, store_of};
 ghost use Rattle.ocr_parts.specs.declared.part.Core.{Core};
 ghost use Rattle.ocr_parts.specs.declared.part.Part.TheVariants as part;
 ghost use Rattle.ocr_parts.specs.Bodies.{hold_of};
 ghost use Rattle.ocr_parts.specs.Kinds.{holds_of, work_in};
-ghost use Rattle.ocr_parts.specs.Loans.{kept_in};
 ghost use Rattle.ocr_running.specs.Accesses.{IfDone, IsFit, IsFitCore, access_of};
 ghost use Rattle.ocr_running.specs.Serving.{holds_in};
 
@@ -65,7 +64,7 @@ pub(crate) fn find_load(core: &Core, block: Guid, word: u64) -> Found
     let Some(mode) = mode_of(&core.edt, block) else {
         return Found::Refused(BodyStop::NotHeld);
     };
-    let Some(kept) = find_kept(core.loans.as_slice(), block) else {
+    let Some(kept) = core.loans.get(block) else {
         return Found::Refused(BodyStop::NotHeld);
     };
     load_in(mode, kept, word)
@@ -81,7 +80,7 @@ pub(crate) fn find_store(core: &Core, block: Guid, word: u64) -> Found
     let Some(mode) = mode_of(&core.edt, block) else {
         return Found::Refused(BodyStop::NotHeld);
     };
-    let Some(kept) = find_kept(core.loans.as_slice(), block) else {
+    let Some(kept) = core.loans.get(block) else {
         return Found::Refused(BodyStop::NotHeld);
     };
     store_in(mode, kept, word)
@@ -129,19 +128,6 @@ fn mode_of(edt: &Edt, block: Guid) -> Option<Mode>
         Edt::Running(work) => work.mode(block),
         _ => None,
     }
-}
-
-// What is kept with the block.
-fn find_kept(items: &[(Guid, Kept)], block: Guid) -> Option<&Kept>
-    ensures some { IfSome result (λ k. kept_in block items.now ≡ Some k.now) }
-    ensures none { IfNone result (kept_in block items.now ≡ None) }
-{
-    for (held, kept) in items {
-        if *held == block {
-            return Some(kept);
-        }
-    }
-    None
 }
 
 // In these modes loads and stores are no entries.

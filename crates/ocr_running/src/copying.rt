@@ -6,9 +6,9 @@ ghost use Rattle.ocr_parts.specs.Footprint.{makes_core};
 ghost use Rattle.ocr_running.specs.Calls.{IsCallIn, faces_of, is_call};
 
 use ocr_base::NoMemory;
+use ocr_codes::footprint;
 use ocr_guid::{Code, Guid};
 use ocr_history::{Entry, Writes};
-use ocr_machine::footprint;
 use ocr_meaning::{Answer, Call};
 use std::alloc::Global;
 

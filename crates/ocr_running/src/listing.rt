@@ -19,7 +19,7 @@ use ocr_edt::Edt;
 use ocr_guid::{Code, Guid};
 use ocr_history::Writes;
 use ocr_meaning::Call;
-use ocr_parts::{Core, Kept};
+use ocr_parts::{Core, Kept, Loans};
 use std::alloc::Global;
 
 /// The private writes of the hold of a block, by the core of the EDT that holds it; none where it
@@ -30,7 +30,7 @@ pub fn listed_writes(alloc: Global, core: &mut Core, block: Guid) -> Result<Writ
 {
     core.loans.list_writes(block);
     if holds_apart(&core.edt, block) {
-        return writes_among(alloc, core.loans.as_slice(), block);
+        return writes_among(alloc, &core.loans, block);
     }
     Ok(Writes::none(alloc))
 }
@@ -49,16 +49,14 @@ fn holds_apart(edt: &Edt, block: Guid) -> bool
 }
 
 // The writes of the loan that is kept with a block.
-fn writes_among(alloc: Global, items: &[(Guid, Kept)], block: Guid) -> Result<Writes, NoMemory>
-    requires { IsListed (loan_in (kept_in block items.now)) }
-    ensures { IfOk result (λ w. w ≡ writes_in (loan_in (kept_in block items.now))) }
+fn writes_among(alloc: Global, loans: &Loans, block: Guid) -> Result<Writes, NoMemory>
+    requires { IsListed (loan_in (kept_in block loans.now)) }
+    ensures { IfOk result (λ w. w ≡ writes_in (loan_in (kept_in block loans.now))) }
 {
-    for i in 0..items.len() {
-        if items[i].0 == block {
-            return writes_of(alloc, &items[i].1);
-        }
+    match loans.get(block) {
+        Some(kept) => writes_of(alloc, kept),
+        None => Ok(Writes::none(alloc)),
     }
-    Ok(Writes::none(alloc))
 }
 
 fn writes_of(alloc: Global, kept: &Kept) -> Result<Writes, NoMemory>

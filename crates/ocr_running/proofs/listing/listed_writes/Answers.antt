@@ -10,13 +10,13 @@ use Rattle.ocr_running.proofs.Loaned.{loans_listed, ok_map, private_is, private_
 use Rattle.ocr_running.proofs.listing.listed_writes.Goals as goal
 
 pub writes_among-requires : goal.writes_among-requires
-writes_among-requires c = loans_listed c.args.block c.args.core.now.loans c.as_slice.result.now (c.as_slice.ensures ∙ c.list_writes.ensures)
+writes_among-requires c = loans_listed c.args.block c.args.core.now.loans c.list_writes.new.self c.list_writes.ensures
 
 pub returns-then-holds_apart-clause-writes : goal.returns-then-holds_apart-clause-writes
 returns-then-holds_apart-clause-writes c =
     let core = c.args.core.now in let d = c.args.block in
-    ok_map c.writes_among.result (λ w. w ≡ writes_in (loan_in (kept_in d c.as_slice.result.now))) (λ w. w ≡ private_in (holds_in (part.Core core) d)) c.writes_among.ensures
-    (λ w is. is ∙ (writes_listed d core.loans c.as_slice.result.now (c.as_slice.ensures ∙ c.list_writes.ensures) ∙ sym (private_is (mode_in d (holds_of (work_in core.edt))) (kept_in d core.loans) (sym c.holds_apart.ensures ∙ c.if-holds_apart.true))))
+    ok_map c.writes_among.result (λ w. w ≡ writes_in (loan_in (kept_in d c.list_writes.new.self))) (λ w. w ≡ private_in (holds_in (part.Core core) d)) c.writes_among.ensures
+    (λ w is. is ∙ (writes_listed d core.loans c.list_writes.new.self c.list_writes.ensures ∙ sym (private_is (mode_in d (holds_of (work_in core.edt))) (kept_in d core.loans) (sym c.holds_apart.ensures ∙ c.if-holds_apart.true))))
 
 pub returns-clause-writes : goal.returns-clause-writes
 returns-clause-writes c =
