@@ -12,6 +12,3 @@ mod words;
 pub use merged::{Merged, merge};
 pub use text::{entry_text, journal_text};
 pub use words::phrase;
-
-#[cfg(test)]
-mod tests;

@@ -7,6 +7,7 @@ use Rattle.ocr_history.specs.declared.entry.Entry.TheVariants.{Call}
 use Rattle.ocr_history.specs.History.{History}
 use Rattle.ocr_history.specs.Made.{made_edts}
 use Rattle.ocr_history.specs.Numbers.{placed, IsRising, RisesFrom}
+use Rattle.ocr_history.proofs.Left.{rising_from}
 
 rises_if : (b : Bool) (a : ℕ) (xs ys : List ℕ) → (b ≡ true → RisesFrom a xs) → (b ≡ false → RisesFrom a ys) → RisesFrom a (if b then xs else ys)
 rises_if true a xs ys p q = p refl
@@ -55,10 +56,6 @@ rises_at : (a : ℕ) (xs : List ℕ) (j : ℕ) → RisesFrom a xs → j < length
 rises_at a [] j rises within = absurd (omega arith)
 rises_at a (k ∷ rest) zero rises within = rises.0
 rises_at a (k ∷ rest) (suc j) rises within = let r = rises_at k rest j rises.1 (omega arith) in omega (arith, rises.0)
-
-rising_from : (a : ℕ) (xs : List ℕ) → RisesFrom a xs → IsRising xs
-rising_from a [] rises = tt
-rising_from a (k ∷ rest) rises = rises.1
 
 pub placed_behind : (n j : ℕ) (xs : List ℕ) → IsRising xs → j < length xs → slice_index xs j < n → placed n xs ≡ take (suc j) xs ++ placed n (drop (suc j) xs)
 placed_behind n j [] rises within less = absurd (omega arith)

@@ -23,6 +23,3 @@ pub use left::left_text;
 pub use refused::refused_text;
 pub use stale::stale_text;
 pub use summary::summary_text;
-
-#[cfg(test)]
-mod tests;

@@ -17,6 +17,8 @@ mod lines;
 #[cfg(test)]
 mod linked;
 #[cfg(test)]
+mod machine;
+#[cfg(test)]
 mod outputs;
 #[cfg(test)]
 mod runs;

@@ -10,6 +10,17 @@ use std::thread::Threads;
 
 const FIRST: &[u8] = b"fn mainEdt { print 42; ocrShutdown(); }";
 
+// It holds twelve blocks, and all but the first to its end.
+const TWELVE_BLOCKS: &[u8] = b"fn mainEdt {
+  let i = 0; let d = 0;
+  while i < 12 { d = ocrDbCreate(8, 0); store(d, 0, i); i = i + 1; }
+  print load(d, 0);
+  d = d - 11;
+  print load(d, 0);
+  ocrDbRelease(d);
+  print load(d + 1, 0);
+}";
+
 #[test]
 fn first_program_prints_42(rt: HostRuntime) -> Result<(), Fail> {
     let done = run(&rt, rt.alloc(), FIRST, NO_FAULTS)?;
@@ -23,7 +34,7 @@ fn first_program_prints_42(rt: HostRuntime) -> Result<(), Fail> {
 
 #[test]
 fn runs_have_their_statuses_and_lines(rt: HostRuntime) -> Result<(), Fail> {
-    let rows: [(&[u8], u8, &[u8], &[u8]); 10] = [
+    let rows: [(&[u8], u8, &[u8], &[u8]); 11] = [
         (b"fn mainEdt { }", 0, b"", b""),
         (
             b"fn\tmainEdt\r\n{print 007;print 18446744073709551615 ;ocrShutdown ( ) ;print 3;}#",
@@ -79,6 +90,7 @@ fn runs_have_their_statuses_and_lines(rt: HostRuntime) -> Result<(), Fail> {
             b"3\n",
             b"",
         ),
+        (TWELVE_BLOCKS, 0, b"11\n0\n1\n", b""),
     ];
     for (text, status, out, err) in rows {
         let done = run(&rt, rt.alloc(), text, NO_FAULTS)?;

@@ -1,9 +1,9 @@
 // A journal with each kind of line of each report, which were written by hand.
-use crate::{blocks_text, left_text, refused_text, stale_text, summary_text};
 use ocr_base::Seq;
 use ocr_guid::{Code, Guid};
 use ocr_history::{Entry, Journal, Message, Stop, What, Writes};
 use ocr_meaning::{Answer, Call};
+use ocr_report::{blocks_text, left_text, refused_text, stale_text, summary_text};
 use std::alloc::Global;
 use std::test::Fail;
 

@@ -1,0 +1,7 @@
+//! Tests of the text of a journal and of the reports, against texts written by hand.
+#![tactic(auto)]
+
+#[cfg(test)]
+mod journals;
+#[cfg(test)]
+mod reports;
