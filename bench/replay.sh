@@ -1,9 +1,10 @@
 #!/usr/bin/env bash
 # Replays journals that a program may be handed by somebody who means ill, each of a run, and prints for each how many
 # entries it has, the processor's seconds of one replay, those at half the size, the one by the other (2 where time rises
-# with the length), those of a journal of prints of the same length, how many times as long the replay takes, and the most
-# memory. Fails where a replay does not end with Ok, takes more than 1 s, or takes more than 2.6 times as long as at half the
-# size, and where journals of blocks, events and scopes take more than 3 times as long as prints.
+# with the length), those of a journal of prints of the same length with the same limit of objects, how many times as long
+# the replay takes, and the most memory. Fails where a replay does not end with Ok, takes more than 1 s, or takes more than
+# 2.6 times as long as at half the size, and where journals of blocks, events and scopes take more than 3 times as long as
+# prints.
 #
 #   prints      mainEdt prints
 #   turns       EDTs side by side: their entries take turns one by one, each stands as far off as there are EDTs
@@ -39,10 +40,11 @@ complain() {
     failed=1
 }
 
-# the seconds of one replay of a case of this size, of so many; leaves its entries, its outcome and its memory
+# the seconds of one replay of a case of this size, of so many, with at least this limit of objects; leaves its entries, its
+# objects, its outcome and its memory
 replay() {
-    /usr/bin/time -q -o "$work/taken" -f '%U %S %M' "$program" "$1" "$2" "$3" >"$work/out"
-    read -r _ entries outcome <"$work/out"
+    /usr/bin/time -q -o "$work/taken" -f '%U %S %M' "$program" "$1" "$2" "$3" "${4:-2}" >"$work/out"
+    read -r _ entries objects outcome <"$work/out"
     read -r user system kilobytes <"$work/taken"
     seconds=$(awk -v u="$user" -v s="$system" -v n="$3" 'BEGIN { printf "%.4f", (u + s) / n }')
 }
@@ -58,16 +60,16 @@ quotient() {
 
 # a case of this size: enough replays to be told from the clock's own steps
 measure() {
-    local length rounds whole half kept
+    local length limit rounds whole half kept
     replay "$1" "$2" 1
-    length=$entries
+    length=$entries limit=$objects
     rounds=$((1 + 1000000 / length))
     replay "$1" "$2" "$rounds"
     whole=$seconds kept=$kilobytes
     [ "$outcome" = "Ok(())" ] || complain "$1 $2: not Ok"
     replay "$1" $(($2 / 2)) $((2 * rounds))
     half=$seconds
-    replay prints $((length - 5)) "$rounds"
+    replay prints $((length - 5)) "$rounds" "$limit"
     printf '%-10s %7d %8d %8.3f %8.3f %6s %8.3f %6s %6d\n' "$1" "$2" "$length" "$whole" "$half" \
         "$(quotient "$whole" "$half")" "$seconds" "$(quotient "$whole" "$seconds")" $((kept / 1024))
     ! passes "$whole" 1 1 || complain "more than 1 s"

@@ -1,6 +1,7 @@
-//! Replays journals that are made for it. The words are a case, its size, and how often its journal
-//! is replayed; for the case `each` all cases are replayed once, each of this size. It prints for
-//! each case how many entries its journal has, and what replay says of them.
+//! Replays journals that are made for it. The words are a case, its size, how often its journal is
+//! replayed, and, where it is not as many as the journal makes, the limit of objects; for the case
+//! `each` all cases are replayed, each of this size. It prints for each case how many entries its
+//! journal has, how many objects these make, and what replay says of them.
 #![tactic(auto)]
 
 mod blocks;
@@ -44,15 +45,15 @@ fn program(alloc: Global, text: &str) -> io::Result<Checked> {
     }
 }
 
-// What replay says so often; its last word.
+// What replay says so often, with this limit of objects; its last word.
 fn replayed(
     alloc: Global,
     program: &Checked,
     journal: &Journal,
+    limit: u64,
     size: u32,
     rounds: u32,
 ) -> io::Result<Result<(), ReplayStop>> {
-    let limit = journal.objects;
     if limit < 2 || limit > MOST_OBJECTS {
         return Err(Error::from(ErrorKind::InvalidInput));
     }
@@ -64,14 +65,26 @@ fn replayed(
     Ok(outcome)
 }
 
-fn measure(rt: &HostRuntime, name: &str, case: Case, size: u32, rounds: u32) -> io::Result<()> {
+fn measure(
+    rt: &HostRuntime,
+    name: &str,
+    case: Case,
+    size: u32,
+    rounds: u32,
+    objects: u32,
+) -> io::Result<()> {
     let alloc = rt.alloc();
     let program = program(alloc, text_of(case))?;
     let Ok(journal) = journal_of(alloc, case, size) else {
         return Err(Error::from(ErrorKind::OutOfMemory));
     };
-    let outcome = replayed(alloc, &program, &journal, size, rounds)?;
-    println!(rt; "{name} {} {outcome:?}", journal.entries.len())
+    let limit = journal.objects.max(u64::from(objects));
+    let outcome = replayed(alloc, &program, &journal, limit, size, rounds)?;
+    println!(rt;
+        "{name} {} {} {outcome:?}",
+        journal.entries.len(),
+        journal.objects
+    )
 }
 
 // The number that a word is.
@@ -91,9 +104,10 @@ fn main(rt: HostRuntime) -> io::Result<()> {
     };
     let size = number(&rt, 2)?;
     let rounds = number(&rt, 3)?;
+    let objects = number(&rt, 4).unwrap_or(0);
     for (name, case) in CASES {
         if word.as_str() == "each" || word.as_str() == name {
-            measure(&rt, name, case, size, rounds)?;
+            measure(&rt, name, case, size, rounds, objects)?;
         }
     }
     Ok(())
