@@ -30,7 +30,8 @@ impl Model for Holders {
 
     ghost Value = { List (ℕ × Mode) };
 
-    ghost view = { λ holders. option_map_or (λ one. one ∷ holders.others) holders.first holders.others };
+    ghost view = { λ holders. option_map_or (λ one. one ∷ holders.others) holders.first
+        holders.others };
 }
 
 impl Holders {

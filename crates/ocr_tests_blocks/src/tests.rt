@@ -1,4 +1,5 @@
-// Each test plays on a block that is lent to it: one held by value would be dropped on each way out.
+// Each test plays on a block that is lent to it: one held by value would be dropped on each way
+// out.
 ghost use Rattle.std.specs.Prelude.{◌≡◌, []};
 ghost use Rattle.ocr_datablock.specs.Block.{state_of};
 
