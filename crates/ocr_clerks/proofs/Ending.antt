@@ -28,11 +28,11 @@ use Rattle.ocr_facts.specs.declared.fact.Fact.{Fact}
 use Rattle.ocr_facts.specs.declared.fact.Fact.TheVariants.{Short}
 use Rattle.ocr_facts.proofs.Entered.{fitting_parts, goes_on}
 use Rattle.ocr_facts.proofs.Runs.{reverse_snoc, run_is}
-use Rattle.ocr_turns.specs.Contract.{DrawTells, MayClose, SameHand}
-use Rattle.ocr_turns.specs.Rule.{FactsOf, Fits}
-use Rattle.ocr_turns.specs.Steps.{filled_by, with_drawn}
-use Rattle.ocr_turns.specs.Sums.{load_of}
-use Rattle.ocr_turns.specs.declared.answers.Drawn.TheVariants as drawn
+use Rattle.ocr_rule.specs.Contract.{DrawTells, MayClose, SameHand}
+use Rattle.ocr_rule.specs.Rule.{FactsOf, Fits}
+use Rattle.ocr_rule.specs.Steps.{filled_by, with_drawn}
+use Rattle.ocr_rule.specs.Sums.{load_of}
+use Rattle.ocr_rule.specs.declared.answers.Drawn.TheVariants as drawn
 use Rattle.ocr_clerks.specs.Drawing.{object_count, one_if}
 use Rattle.ocr_clerks.specs.Entering.{CanMake, Hand, OcrKnown}
 use Rattle.ocr_clerks.specs.Work.{AtWork, IsOwnStop, MayStopSo, OcrTable, Stays, stop_in, told}

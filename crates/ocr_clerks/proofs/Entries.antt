@@ -21,13 +21,13 @@ use Rattle.ocr_facts.specs.Ocr.{wakes}
 use Rattle.ocr_standing.proofs.Kept.{alike_kept}
 use Rattle.ocr_parts.proofs.Local.{effect_law}
 use Rattle.ocr_acquire.specs.declared.Mode.{Mode}
-use Rattle.ocr_turns.proofs.Numbered.{weigh_keys}
-use Rattle.ocr_turns.specs.Contract.{CommitTells, MayCommit}
-use Rattle.ocr_turns.specs.Steps.{SeesEnd, deed, logged, shut_by}
-use Rattle.ocr_turns.specs.Sums.{as_some, one_at, replace_all}
-use Rattle.ocr_turns.specs.Sums as sums
-use Rattle.ocr_turns.specs.declared.answers.Committed.{Committed}
-use Rattle.ocr_turns.specs.declared.answers.Committed.TheVariants as committed
+use Rattle.ocr_rule.proofs.Numbered.{weigh_keys}
+use Rattle.ocr_rule.specs.Contract.{CommitTells, MayCommit}
+use Rattle.ocr_rule.specs.Steps.{SeesEnd, deed, logged, shut_by}
+use Rattle.ocr_rule.specs.Sums.{as_some, one_at, replace_all}
+use Rattle.ocr_rule.specs.Sums as sums
+use Rattle.ocr_rule.specs.declared.answers.Committed.{Committed}
+use Rattle.ocr_rule.specs.declared.answers.Committed.TheVariants as committed
 use Rattle.ocr_clerks.specs.Entering.{CanMake, Entered, Hand, Logged, OcrKnown}
 use Rattle.ocr_clerks.specs.Work.{EntersAs}
 

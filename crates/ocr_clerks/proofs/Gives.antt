@@ -11,11 +11,11 @@ use Rattle.ocr_parts.specs.Taken.{is_within}
 use Rattle.ocr_quiet.specs.Waits.{awaits_in}
 use Rattle.ocr_facts.specs.Clerks.{OcrTerms, OcrView}
 use Rattle.ocr_facts.specs.Ocr.{meaning}
-use Rattle.ocr_turns.specs.Contract.{GiveTells, MayGive}
-use Rattle.ocr_turns.specs.Counting.{tied_to}
-use Rattle.ocr_turns.specs.Owing.{times}
-use Rattle.ocr_turns.specs.Steps.{without_part}
-use Rattle.ocr_turns.specs.Sums.{as_some, keys, one_at, remove_at}
+use Rattle.ocr_rule.specs.Contract.{GiveTells, MayGive}
+use Rattle.ocr_rule.specs.Counting.{tied_to}
+use Rattle.ocr_rule.specs.Owing.{times}
+use Rattle.ocr_rule.specs.Steps.{without_part}
+use Rattle.ocr_rule.specs.Sums.{as_some, keys, one_at, remove_at}
 use Rattle.ocr_clerks.specs.Entering.{OcrKnown}
 use Rattle.ocr_clerks.specs.Work.{AtWork, HasTakenOn, KeepsFaces, KeepsLoose, OcrTable, RunsOnly}
 use Rattle.ocr_clerks.proofs.Going.{Calm, work_still}

@@ -16,11 +16,11 @@ use Rattle.ocr_parts.specs.Legal.{is_stop}
 use Rattle.ocr_facts.specs.Clerks.{OcrTerms, OcrView}
 use Rattle.ocr_facts.specs.Ocr.{makes, meaning}
 use Rattle.ocr_facts.specs.declared.fact.Fact.{Fact}
-use Rattle.ocr_turns.specs.Contract.{ClosedBy, CommitTells, CloseTells}
-use Rattle.ocr_turns.specs.Steps.{SeesEnd, deed, ended_by, logged, shut_by}
-use Rattle.ocr_turns.specs.Sums.{as_some, less_all, less_one, load_of, replace, replace_all}
-use Rattle.ocr_turns.specs.declared.answers.Committed.{Committed}
-use Rattle.ocr_turns.specs.declared.answers.Committed.TheVariants as committed
+use Rattle.ocr_rule.specs.Contract.{ClosedBy, CommitTells, CloseTells}
+use Rattle.ocr_rule.specs.Steps.{SeesEnd, deed, ended_by, logged, shut_by}
+use Rattle.ocr_rule.specs.Sums.{as_some, less_all, less_one, load_of, replace, replace_all}
+use Rattle.ocr_rule.specs.declared.answers.Committed.{Committed}
+use Rattle.ocr_rule.specs.declared.answers.Committed.TheVariants as committed
 use Rattle.ocr_clerks.specs.Entering.{OcrDeed, OcrKnown}
 use Rattle.ocr_clerks.specs.Work.{AtWork, HasLeft, IsGone, IsOwnStop, OcrTable, Stays, stop_in, stop_of, told}
 

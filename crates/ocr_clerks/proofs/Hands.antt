@@ -7,12 +7,12 @@ use Rattle.ocr_code.specs.declared.checked.Checked.{Checked}
 use Rattle.ocr_parts.specs.declared.part.Part.{Part}
 use Rattle.ocr_facts.specs.Clerks.{OcrView}
 use Rattle.ocr_facts.specs.Ocr.{meaning}
-use Rattle.ocr_turns.specs.Contract.{TakeTells}
-use Rattle.ocr_turns.specs.Sums.{as_some, find, keys, one_at, replace, replace_all, weigh}
-use Rattle.ocr_turns.specs.declared.answers.Taken.TheVariants as taken
+use Rattle.ocr_rule.specs.Contract.{TakeTells}
+use Rattle.ocr_rule.specs.Sums.{as_some, find, keys, one_at, replace, replace_all, weigh}
+use Rattle.ocr_rule.specs.declared.answers.Taken.TheVariants as taken
 use Rattle.ocr_clerks.specs.Entering.{OcrKnown}
 use Rattle.ocr_clerks.specs.Work.{AtWork, OcrTable, Stays, Took, in_hand, lifted}
-use Rattle.ocr_turns.proofs.Numbered.{weigh_keys}
+use Rattle.ocr_rule.proofs.Numbered.{weigh_keys}
 use Rattle.ocr_clerks.proofs.Going.{Calm, stays_still, work_still}
 
 module _ {A : Type 0} where

@@ -17,8 +17,8 @@ use Rattle.ocr_facts.specs.Ocr.{meaning, part_of}
 use Rattle.ocr_facts.proofs.Awaiting.{unqueued}
 use Rattle.ocr_facts.proofs.Runs.{run_is}
 use Rattle.ocr_facts.proofs.Waits.{waits_is}
-use Rattle.ocr_turns.specs.Counting.{awaited, is_ended, is_started, tied_to}
-use Rattle.ocr_turns.specs.Rule.{Fits}
+use Rattle.ocr_rule.specs.Counting.{awaited, is_ended, is_started, tied_to}
+use Rattle.ocr_rule.specs.Rule.{Fits}
 
 -- THE PLACES of cores lie behind those of faces
 pub core_place : (limit t : ℕ) → is_within limit t ≡ true → (is_within limit (limit + t) ≡ false) × ((limit + t) - limit ≡ t)

@@ -6,10 +6,10 @@ use Rattle.ocr_history.specs.declared.entry.Entry.{Entry}
 use Rattle.ocr_parts.specs.declared.part.Part.{Part}
 use Rattle.ocr_facts.specs.Clerks.{OcrTerms, OcrView}
 use Rattle.ocr_facts.specs.Ocr.{meaning}
-use Rattle.ocr_turns.specs.Contract.{SameRoom}
-use Rattle.ocr_turns.specs.Steps.{deed, logged}
-use Rattle.ocr_turns.specs.Sums.{as_some, keys, one_at, weigh}
-use Rattle.ocr_turns.proofs.Numbered.{weigh_keys}
+use Rattle.ocr_rule.specs.Contract.{SameRoom}
+use Rattle.ocr_rule.specs.Steps.{deed, logged}
+use Rattle.ocr_rule.specs.Sums.{as_some, keys, one_at, weigh}
+use Rattle.ocr_rule.proofs.Numbered.{weigh_keys}
 use Rattle.ocr_clerks.specs.Entering.{CanMake, Hand, OcrKnown}
 use Rattle.ocr_clerks.specs.Work.{AtWork, EntersAs, EntersKept, HasAllAtHand, OcrTable, Stays, in_hand, lifted}
 use Rattle.ocr_clerks.proofs.Entries.{turns_keys}

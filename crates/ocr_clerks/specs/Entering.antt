@@ -15,12 +15,12 @@ use Rattle.ocr_parts.specs.Legal.{is_stop}
 use Rattle.ocr_parts.specs.Messages.{delivered}
 use Rattle.ocr_parts.specs.Taken.{face_in, keys, parts_in}
 use Rattle.ocr_standing.specs.Kept.{kept_ready}
-use Rattle.ocr_turns.specs.Contract.{Claims, Known}
-use Rattle.ocr_turns.specs.Rule.{OPEN}
-use Rattle.ocr_turns.specs.Steps.{Deed, Sees, SeesEnd, deed, logged, shut_by}
-use Rattle.ocr_turns.specs.Sums.{HasAll, as_some, one_at, replace_all, weigh}
-use Rattle.ocr_turns.specs.declared.answers.Committed.{Committed}
-use Rattle.ocr_turns.specs.declared.answers.Committed.TheVariants as committed
+use Rattle.ocr_rule.specs.Contract.{Claims, Known}
+use Rattle.ocr_rule.specs.Rule.{OPEN}
+use Rattle.ocr_rule.specs.Steps.{Deed, Sees, SeesEnd, deed, logged, shut_by}
+use Rattle.ocr_rule.specs.Sums.{HasAll, as_some, one_at, replace_all, weigh}
+use Rattle.ocr_rule.specs.declared.answers.Committed.{Committed}
+use Rattle.ocr_rule.specs.declared.answers.Committed.TheVariants as committed
 
 abbrev pub OcrKnown : Type 0
 OcrKnown = Known Setting Entry Part What Fact

@@ -1,6 +1,6 @@
 -- The laws that the table asks of the machine.
-use Rattle.ocr_turns.specs.Counting.{CountingLaws}
-use Rattle.ocr_turns.specs.Meaning.{Lawful}
+use Rattle.ocr_rule.specs.Counting.{CountingLaws}
+use Rattle.ocr_rule.specs.Meaning.{Lawful}
 use Rattle.ocr_facts.specs.Ocr.{meaning}
 use Rattle.ocr_facts.proofs.Counted as counted_proof
 use Rattle.ocr_facts.proofs.Lawful as lawful_proof

@@ -33,10 +33,10 @@ use Rattle.ocr_quiet.specs.Waits.{awaits_in}
 use Rattle.ocr_slots.specs.declared.Slot.{Slot}
 use Rattle.ocr_standing.specs.Kept.{plan_from}
 use Rattle.ocr_standing.specs.Lasting.{is_own}
-use Rattle.ocr_turns.specs.Contract.{IsOf}
-use Rattle.ocr_turns.specs.Rule.{RunsIn}
-use Rattle.ocr_turns.specs.Steps.{Sees, deed, logged}
-use Rattle.ocr_turns.specs.Sums.{as_some, entries, is_among, keys, load_of, replace_all}
+use Rattle.ocr_rule.specs.Contract.{IsOf}
+use Rattle.ocr_rule.specs.Rule.{RunsIn}
+use Rattle.ocr_rule.specs.Steps.{Sees, deed, logged}
+use Rattle.ocr_rule.specs.Sums.{as_some, entries, is_among, keys, load_of, replace_all}
 use Rattle.ocr_clerks.specs.Drawing.{object_count}
 use Rattle.ocr_clerks.specs.Entering.{Hand, OcrKnown}
 

@@ -6,7 +6,7 @@ ghost use Rattle.ocr_history.specs.declared.entry.Entry.TheVariants as an;
 ghost use Rattle.ocr_history.specs.Weight.{weight_of};
 ghost use Rattle.ocr_parts.specs.declared.part.Part.{Part};
 ghost use Rattle.ocr_parts.specs.Legal.{IsCreating};
-ghost use Rattle.ocr_turns.specs.Rule.{FactsOf};
+ghost use Rattle.ocr_rule.specs.Rule.{FactsOf};
 ghost use Rattle.ocr_clerks.specs.Drawing.{object_count};
 ghost use Rattle.ocr_clerks.specs.Entering.{CanMake, Hand};
 ghost use Rattle.ocr_clerks.specs.Work.{AtWork, IsGone, IsOwnStop, MayStopSo, Stays, told};

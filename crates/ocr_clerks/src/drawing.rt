@@ -3,9 +3,9 @@ ghost use Rattle.std.specs.Prelude.{◌≡◌, ◌<◌, ◌≤◌, length, rever
 ghost use Rattle.ocr_facts.specs.Clerks.{Knows, of_terms};
 ghost use Rattle.ocr_facts.specs.Ocr.{meaning};
 ghost use Rattle.ocr_parts.specs.Legal.{IsCreating};
-ghost use Rattle.ocr_turns.specs.Contract.{SameHand};
-ghost use Rattle.ocr_turns.specs.Steps.{Sees, with_drawn};
-ghost use Rattle.ocr_turns.specs.Sums.{AreBelow};
+ghost use Rattle.ocr_rule.specs.Contract.{SameHand};
+ghost use Rattle.ocr_rule.specs.Steps.{Sees, with_drawn};
+ghost use Rattle.ocr_rule.specs.Sums.{AreBelow};
 ghost use Rattle.ocr_clerks.specs.Drawing.{object_count};
 ghost use Rattle.ocr_clerks.specs.Work.{AtWork, IsGone, Stays};
 

@@ -1,6 +1,6 @@
 // An entry that does not end the run.
 ghost use Rattle.std.specs.Prelude.{◌≡◌, ◌≤◌, IfOk, OnErr, OnOk};
-ghost use Rattle.ocr_turns.specs.Contract.{IsOf};
+ghost use Rattle.ocr_rule.specs.Contract.{IsOf};
 ghost use Rattle.ocr_facts.specs.Ocr.{wakes};
 ghost use Rattle.ocr_clerks.specs.Entering.{CanEnter, CanMake, Entered, Hand};
 ghost use Rattle.ocr_clerks.specs.Work.{AtWork, EntersAs, IsGone, Stays};

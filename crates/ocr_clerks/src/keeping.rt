@@ -1,8 +1,8 @@
 // An entry that names all parts that the clerk keeps.
 ghost use Rattle.std.specs.Prelude.{◌≡◌, ◌≤◌, ℕ, IfOk, OnOk, OnErr};
 ghost use Rattle.ocr_facts.specs.Ocr.{wakes};
-ghost use Rattle.ocr_turns.specs.Contract.{SameRoom};
-ghost use Rattle.ocr_turns.specs.Sums.{as_some, one_at, weigh};
+ghost use Rattle.ocr_rule.specs.Contract.{SameRoom};
+ghost use Rattle.ocr_rule.specs.Sums.{as_some, one_at, weigh};
 ghost use Rattle.ocr_clerks.specs.Entering.{CanMake, Hand};
 ghost use Rattle.ocr_clerks.specs.Work.{AtWork, EntersKept, HasAllAtHand, IsGone, Stays, in_hand, lifted};
 

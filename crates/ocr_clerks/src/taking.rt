@@ -1,7 +1,7 @@
 // A worker takes parts.
 ghost use Rattle.std.specs.Prelude.{◌≡◌, ◌≤◌, ◌<◌, ◌+◌, ◌∷◌, [], length, OnOk, OnErr};
 ghost use Rattle.std.specs.List.{All};
-ghost use Rattle.ocr_turns.specs.Steps.{SeesBoth};
+ghost use Rattle.ocr_rule.specs.Steps.{SeesBoth};
 ghost use Rattle.ocr_facts.specs.Ocr.{meaning};
 ghost use Rattle.ocr_clerks.specs.Work.{AtWork, IsGone, Stays, Took};
 

@@ -1,8 +1,8 @@
 // Claims, and the payloads that a claim lets be read.
 ghost use Rattle.std.specs.Prelude.{◌≡◌};
-ghost use Rattle.ocr_turns.specs.Contract.{IsOf, SameHand};
-ghost use Rattle.ocr_turns.specs.Owing.{IsNumber};
-ghost use Rattle.ocr_turns.specs.Words.{HasClaim, HasSlot, OwesResume, Waits, resuming, unclaiming};
+ghost use Rattle.ocr_rule.specs.Contract.{IsOf, SameHand};
+ghost use Rattle.ocr_rule.specs.Owing.{IsNumber};
+ghost use Rattle.ocr_rule.specs.Words.{HasClaim, HasSlot, OwesResume, Waits, resuming, unclaiming};
 ghost use Rattle.ocr_count.specs.Counts.{ClaimTells, PayloadTells};
 
 use crate::answers::Claimed;

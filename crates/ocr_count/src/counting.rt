@@ -1,7 +1,7 @@
 // Payloads and countdowns.
 ghost use Rattle.std.specs.Prelude.{◌≡◌};
-ghost use Rattle.ocr_turns.specs.Contract.{IsOf, SameHand};
-ghost use Rattle.ocr_turns.specs.Words.{OwesCount, OwesMaking, OwesPayload, counting_down, counting_made, putting};
+ghost use Rattle.ocr_rule.specs.Contract.{IsOf, SameHand};
+ghost use Rattle.ocr_rule.specs.Words.{OwesCount, OwesMaking, OwesPayload, counting_down, counting_made, putting};
 ghost use Rattle.ocr_count.specs.Counts.{DownTells, LeavesSome, left_of};
 
 use crate::answers::Down;

@@ -7,8 +7,8 @@ use Rattle.ocr_history.specs.History.{History}
 use Rattle.ocr_history.specs.History as history
 use Rattle.ocr_history.specs.Made.{Made, made}
 use Rattle.ocr_parts.specs.Legal.{IsRun}
-use Rattle.ocr_turns.specs.Sums.{sum_of, one_at, up_to, made_sum}
-use Rattle.ocr_turns.proofs.Totals.{one_most, one_else, one_here, up_to_none}
+use Rattle.ocr_rule.specs.Sums.{sum_of, one_at, up_to, made_sum}
+use Rattle.ocr_rule.proofs.Totals.{one_most, one_else, one_here, up_to_none}
 use Rattle.ocr_facts.specs.Ocr as ocr
 use Rattle.ocr_facts.proofs.Making.{unmade_sum}
 use Rattle.ocr_crew.specs.Limits.{free_numbers}

@@ -16,10 +16,10 @@ use Rattle.ocr_parts.specs.Calls.{edt_calls}
 use Rattle.ocr_parts.specs.Effects.{settled}
 use Rattle.ocr_parts.specs.Parts.{Parts, core, parts_of, plain_identity}
 use Rattle.ocr_parts.specs.Taken.{ArePlaced, as_core, as_face, is_within, keys, look, parts_in, place_of, seen}
-use Rattle.ocr_turns.specs.Contract.{OpensWith, faces}
-use Rattle.ocr_turns.specs.Rule.{PartsOf}
-use Rattle.ocr_turns.specs.Sums.{one_at, sum_of, weigh}
-use Rattle.ocr_turns.proofs.Totals.{one_else, one_here, one_most, weigh_at}
+use Rattle.ocr_rule.specs.Contract.{OpensWith, faces}
+use Rattle.ocr_rule.specs.Rule.{PartsOf}
+use Rattle.ocr_rule.specs.Sums.{one_at, sum_of, weigh}
+use Rattle.ocr_rule.proofs.Totals.{one_else, one_here, one_most, weigh_at}
 
 -- nothing was stored in a loan yet
 core_settled : (m : Option Made) (i : Identity) (calls : List edt.EdtCall) → settled (core m i calls []) ≡ core m i calls []

@@ -23,10 +23,10 @@ use Rattle.ocr_steal.specs.Hand.{IsSame}
 use Rattle.ocr_steal.specs.Pool.{IsOf, hands_in}
 use Rattle.ocr_worker.specs.declared.leaving.Worked.{Worked}
 use Rattle.ocr_crew.specs.declared.seats.Seat.{Seat}
-use Rattle.ocr_turns.specs.Contract.{SameHand}
-use Rattle.ocr_turns.specs.Steps.{fresh, gathered, parted}
-use Rattle.ocr_turns.specs.Sums.{load_of}
-use Rattle.ocr_turns.proofs.Totals.{at_append}
+use Rattle.ocr_rule.specs.Contract.{SameHand}
+use Rattle.ocr_rule.specs.Steps.{fresh, gathered, parted}
+use Rattle.ocr_rule.specs.Sums.{load_of}
+use Rattle.ocr_rule.proofs.Totals.{at_append}
 use Rattle.ocr_worker.specs.Leaving.{DrainLeaves, WorkLeaves}
 use Rattle.ocr_worker.specs.Working.{IsBetween}
 use Rattle.ocr_worker.specs.declared.leaving.Leave.{Leave}

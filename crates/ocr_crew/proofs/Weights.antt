@@ -7,8 +7,8 @@ use lib.ListN.{get_elem?}
 use Rattle.ocr_history.specs.declared.entry.Entry.{Entry}
 use Rattle.ocr_history.specs.History.{History}
 use Rattle.ocr_history.specs.Weight.{weight, weight_of}
-use Rattle.ocr_turns.specs.Rule.{LogOf, LogsOf}
-use Rattle.ocr_turns.specs.Sums.{weigh, weigh_all, below, load_of}
+use Rattle.ocr_rule.specs.Rule.{LogOf, LogsOf}
+use Rattle.ocr_rule.specs.Sums.{weigh, weigh_all, below, load_of}
 
 abbrev heavy_in : maybe.Option Entry → ℕ
 heavy_in maybe.none = 0

@@ -17,11 +17,11 @@ use Rattle.ocr_history.specs.History as history
 use Rattle.ocr_history.specs.Weight.{weight}
 use Rattle.ocr_parts.specs.Legal.{IsCreating, IsRun, IsStop, is_stop}
 use Rattle.ocr_parts.specs.Runs.{IsQuiet}
-use Rattle.ocr_turns.specs.Contract.{Finished}
-use Rattle.ocr_turns.specs.Meaning.{Ended, Open}
-use Rattle.ocr_turns.specs.Rule.{FactsOf, Fits, LogOf, LogsOf}
-use Rattle.ocr_turns.specs.Sums.{made_sum, sum_of, up_to}
-use Rattle.ocr_turns.proofs.Totals.{at_less, at_snoc_at, made_snoc}
+use Rattle.ocr_rule.specs.Contract.{Finished}
+use Rattle.ocr_rule.specs.Meaning.{Ended, Open}
+use Rattle.ocr_rule.specs.Rule.{FactsOf, Fits, LogOf, LogsOf}
+use Rattle.ocr_rule.specs.Sums.{made_sum, sum_of, up_to}
+use Rattle.ocr_rule.proofs.Totals.{at_less, at_snoc_at, made_snoc}
 use Rattle.ocr_facts.specs.Clerks.{OcrTerms, OcrView, of_terms}
 use Rattle.ocr_facts.specs.Ocr.{makes, meaning, stands}
 use Rattle.ocr_facts.specs.declared.fact.Fact.TheVariants.{Short}

@@ -15,8 +15,8 @@ use Rattle.ocr_history.specs.declared.entry.Stop as run
 use Rattle.ocr_history.specs.declared.entry.Stop.TheVariants as by
 use Rattle.ocr_history.specs.Weight.{weight_of}
 use Rattle.ocr_parts.specs.Runs.{IsQuiet}
-use Rattle.ocr_turns.specs.Rule.{Fits}
-use Rattle.ocr_turns.specs.Sums.{load_of}
+use Rattle.ocr_rule.specs.Rule.{Fits}
+use Rattle.ocr_rule.specs.Sums.{load_of}
 
 -- one of the workers ended the run, where its log would have passed its share
 abbrev pub EndsBy : ℕ → ℕ → List (ℕ × Entry) → run.Stop → Type 0

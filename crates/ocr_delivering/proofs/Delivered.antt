@@ -16,16 +16,16 @@ use Rattle.ocr_facts.specs.Ocr.{ends, meaning, set_by, starts}
 use Rattle.ocr_facts.proofs.Slots.{number_same}
 use Rattle.ocr_steal.specs.declared.hand.Hand.{Hand}
 use Rattle.ocr_steal.specs.Hand.{own}
-use Rattle.ocr_turns.proofs.Histories.{ran}
-use Rattle.ocr_turns.specs.Contract.{SameHand}
-use Rattle.ocr_turns.specs.Owing.{counted_debts, last_if, listed, of_edt, put_debts, remove_edt, without_all}
-use Rattle.ocr_turns.specs.Counting.{leaves}
-use Rattle.ocr_turns.specs.Rule.{RunsIn}
-use Rattle.ocr_turns.specs.Steps.{deed, logged}
-use Rattle.ocr_turns.specs.Sums.{as_some}
-use Rattle.ocr_turns.specs.Words.{OwesCount, OwesPayload, counting_down, putting}
-use Rattle.ocr_turns.specs.declared.debts.Debts.{Debts}
-use Rattle.ocr_turns.proofs.Totals.{one_here}
+use Rattle.ocr_rule.proofs.Histories.{ran}
+use Rattle.ocr_rule.specs.Contract.{SameHand}
+use Rattle.ocr_rule.specs.Owing.{counted_debts, last_if, listed, of_edt, put_debts, remove_edt, without_all}
+use Rattle.ocr_rule.specs.Counting.{leaves}
+use Rattle.ocr_rule.specs.Rule.{RunsIn}
+use Rattle.ocr_rule.specs.Steps.{deed, logged}
+use Rattle.ocr_rule.specs.Sums.{as_some}
+use Rattle.ocr_rule.specs.Words.{OwesCount, OwesPayload, counting_down, putting}
+use Rattle.ocr_rule.specs.declared.debts.Debts.{Debts}
+use Rattle.ocr_rule.proofs.Totals.{one_here}
 use Rattle.ocr_clerks.specs.Entering.{OcrKnown}
 use Rattle.ocr_clerks.specs.Work.{AtWork, EntersKept, IsIdle, OcrTable, Stays}
 use Rattle.ocr_clerks.proofs.Going.{Calm, stays_both, stays_still, work_still}

@@ -22,8 +22,8 @@ use Rattle.ocr_facts.specs.Ocr.{meaning, touches}
 use Rattle.ocr_facts.specs.declared.fact.Fact.{Fact}
 use Rattle.ocr_facts.proofs.Owed.{owed_is}
 use Rattle.ocr_facts.proofs.Runs.{run_is}
-use Rattle.ocr_turns.specs.Rule.{Fits, FactsOf}
-use Rattle.ocr_turns.specs.Sums.{as_some, keys}
+use Rattle.ocr_rule.specs.Rule.{Fits, FactsOf}
+use Rattle.ocr_rule.specs.Sums.{as_some, keys}
 use Rattle.ocr_clerks.specs.Entering.{CanMake, OcrKnown}
 use Rattle.ocr_clerks.specs.Work.{AtWork, HasAllAtHand, IsIdle, OcrTable, in_hand}
 use Rattle.ocr_clerks.proofs.Counters.{none_counted}

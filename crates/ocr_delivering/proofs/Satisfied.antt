@@ -23,15 +23,15 @@ use Rattle.ocr_facts.specs.Clerks.{AreAtHand, HasEvent, MayEnter, OcrView, of_te
 use Rattle.ocr_facts.specs.Ocr.{ends, meaning, set_by, starts, touches}
 use Rattle.ocr_facts.proofs.Owed.{deliver_law, hand_counted, knows_satisfiable}
 use Rattle.ocr_facts.proofs.Slots.{number_same}
-use Rattle.ocr_turns.specs.Contract.{LookTells}
-use Rattle.ocr_turns.specs.Rule.{Fits, RunsIn}
-use Rattle.ocr_turns.specs.Counting.{leaves}
-use Rattle.ocr_turns.specs.Owing.{listed, without_all}
-use Rattle.ocr_turns.specs.Steps.{SeesBoth, deed, logged}
-use Rattle.ocr_turns.specs.Sums.{as_some, keys, one_at, weigh}
-use Rattle.ocr_turns.proofs.Histories.{ran}
-use Rattle.ocr_turns.proofs.Numbered.{weigh_keys}
-use Rattle.ocr_turns.proofs.Totals.{one_most}
+use Rattle.ocr_rule.specs.Contract.{LookTells}
+use Rattle.ocr_rule.specs.Rule.{Fits, RunsIn}
+use Rattle.ocr_rule.specs.Counting.{leaves}
+use Rattle.ocr_rule.specs.Owing.{listed, without_all}
+use Rattle.ocr_rule.specs.Steps.{SeesBoth, deed, logged}
+use Rattle.ocr_rule.specs.Sums.{as_some, keys, one_at, weigh}
+use Rattle.ocr_rule.proofs.Histories.{ran}
+use Rattle.ocr_rule.proofs.Numbered.{weigh_keys}
+use Rattle.ocr_rule.proofs.Totals.{one_most}
 use Rattle.ocr_clerks.specs.Entering.{CanMake, OcrKnown}
 use Rattle.ocr_clerks.specs.Work.{AtWork, EntersAs, EntersKept, HasAllAtHand, IsIdle, KeepsLoose, OcrTable, Took, in_hand, lifted}
 use Rattle.ocr_clerks.proofs.Entries.{turns_keys}

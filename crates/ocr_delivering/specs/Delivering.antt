@@ -17,9 +17,9 @@ use Rattle.ocr_parts.specs.Messages.{satisfied, sent_by_leave}
 use Rattle.ocr_parts.specs.Parts.{parts_of}
 use Rattle.ocr_steal.specs.declared.hand.Hand.{Hand}
 use Rattle.ocr_steal.specs.Hand.{own}
-use Rattle.ocr_turns.specs.Contract.{SameHand}
-use Rattle.ocr_turns.specs.Rule.{Fits}
-use Rattle.ocr_turns.specs.Words.{counting_down, putting}
+use Rattle.ocr_rule.specs.Contract.{SameHand}
+use Rattle.ocr_rule.specs.Rule.{Fits}
+use Rattle.ocr_rule.specs.Words.{counting_down, putting}
 use Rattle.ocr_facts.specs.Clerks.{OcrTerms, OcrView, OwesSatisfaction, of_terms}
 use Rattle.ocr_facts.specs.Ocr.{meaning}
 use Rattle.ocr_clerks.specs.Entering as entering

@@ -2,7 +2,7 @@
 ghost use Rattle.std.specs.Prelude.{◌≡◌, ◌<◌, length, OnOk, OnErr};
 ghost use Rattle.ocr_history.specs.declared.entry.Message.{Message};
 ghost use Rattle.ocr_steal.specs.Hand.{IsSame, knows, misses_of};
-ghost use Rattle.ocr_turns.specs.Words.{OwesPayload};
+ghost use Rattle.ocr_rule.specs.Words.{OwesPayload};
 ghost use Rattle.ocr_clerks.specs.Work.{AtWork, EntersKept, IsGone, IsIdle, Stays};
 ghost use Rattle.ocr_delivering.specs.Delivering.{Delivers, IsFirstOwed, IsOwed, PushesReady, SetsSlot, Settles, delivery_of, no_parts};
 

@@ -1,6 +1,6 @@
 // A worker delivers a message that leaves a finish scope.
 ghost use Rattle.std.specs.Prelude.{◌≡◌, ◌∷◌, [], true, OnOk, OnErr};
-ghost use Rattle.ocr_turns.specs.Steps.{SeesBoth};
+ghost use Rattle.ocr_rule.specs.Steps.{SeesBoth};
 ghost use Rattle.ocr_facts.specs.Clerks.{OwesLeave};
 ghost use Rattle.ocr_facts.specs.Ocr.{meaning};
 ghost use Rattle.ocr_parts.specs.Taken.{is_within};

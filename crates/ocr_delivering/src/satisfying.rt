@@ -1,6 +1,6 @@
 // A worker delivers a message that satisfies an event.
 ghost use Rattle.std.specs.Prelude.{◌≡◌, ◌∷◌, [], true, OnOk, OnErr};
-ghost use Rattle.ocr_turns.specs.Steps.{SeesBoth};
+ghost use Rattle.ocr_rule.specs.Steps.{SeesBoth};
 ghost use Rattle.ocr_facts.specs.Ocr.{meaning};
 ghost use Rattle.ocr_parts.specs.Taken.{is_within};
 ghost use Rattle.ocr_clerks.specs.Work.{AtWork, IsGone, IsIdle, Stays, Took};

@@ -23,12 +23,12 @@ use Rattle.ocr_quiet.proofs.Draining.{done_law, drain_law, queued_idle}
 use Rattle.ocr_quiet.proofs.Edts.{edts_law}
 use Rattle.ocr_quiet.proofs.Stages.{standing_law, told_law}
 use Rattle.ocr_standing.proofs.Lasting.{all_set}
-use Rattle.ocr_turns.specs.Counting.{Account, Found, IsBusy, IsCounting, IsInOrder, IsParked, IsSet, READY, awaited, is_none, is_true, is_ended, is_started, payload_of, slots_of, unset_of}
-use Rattle.ocr_turns.specs.Owing.{IsNumber, making, of_edt, times}
-use Rattle.ocr_turns.specs.Rule.{Fits}
-use Rattle.ocr_turns.specs.Sums.{below}
-use Rattle.ocr_turns.specs.Words.{Knows, claiming}
-use Rattle.ocr_turns.proofs.Sole.{same_histories}
+use Rattle.ocr_rule.specs.Counting.{Account, Found, IsBusy, IsCounting, IsInOrder, IsParked, IsSet, READY, awaited, is_none, is_true, is_ended, is_started, payload_of, slots_of, unset_of}
+use Rattle.ocr_rule.specs.Owing.{IsNumber, making, of_edt, times}
+use Rattle.ocr_rule.specs.Rule.{Fits}
+use Rattle.ocr_rule.specs.Sums.{below}
+use Rattle.ocr_rule.specs.Words.{Knows, claiming}
+use Rattle.ocr_rule.proofs.Sole.{same_histories}
 use Rattle.ocr_facts.specs.Clerks.{OcrTerms, OcrView, of_terms}
 use Rattle.ocr_facts.specs.Ocr.{meaning}
 use Rattle.ocr_facts.proofs.Entered.{goes_on}

@@ -4,11 +4,11 @@ use Rattle.ocr_history.specs.declared.entry.Entry.{Entry}
 use Rattle.ocr_history.specs.Made.{is_edt}
 use Rattle.ocr_parts.specs.Runs.{IsQuiet}
 use Rattle.ocr_quiet.specs.Quiet.{IsIdle}
-use Rattle.ocr_turns.specs.Counting.{READY}
-use Rattle.ocr_turns.specs.Meaning.{Open}
-use Rattle.ocr_turns.specs.Owing.{IsNumber}
-use Rattle.ocr_turns.specs.Rule.{Fits}
-use Rattle.ocr_turns.specs.Words.{SeesReady, SeesWord, claiming}
+use Rattle.ocr_rule.specs.Counting.{READY}
+use Rattle.ocr_rule.specs.Meaning.{Open}
+use Rattle.ocr_rule.specs.Owing.{IsNumber}
+use Rattle.ocr_rule.specs.Rule.{Fits}
+use Rattle.ocr_rule.specs.Words.{SeesReady, SeesWord, claiming}
 use Rattle.ocr_facts.specs.Clerks.{OcrTerms, OcrView, of_terms}
 use Rattle.ocr_facts.specs.Ocr.{meaning}
 

@@ -38,7 +38,7 @@ use Rattle.ocr_parts.proofs.Within.{within_law}
 use Rattle.ocr_quiet.specs.Waits.{AreStanding, IsOnce, awaits, awaits_in, queue_on, standing}
 use Rattle.ocr_quiet.proofs.Choices.{on_from}
 use Rattle.ocr_quiet.proofs.Stages.{once}
-use Rattle.ocr_turns.specs.Counting.{is_in}
+use Rattle.ocr_rule.specs.Counting.{is_in}
 use Rattle.ocr_any_event.specs.declared.AnyEvent.{AnyEvent}
 use Rattle.ocr_facts.proofs.Queues.{Leaves, doomed, granted_queue, links_queue, released, scope_queue, template_queue, event_queue}
 use Rattle.ocr_any_event.specs.AnyEvent as event

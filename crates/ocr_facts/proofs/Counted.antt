@@ -26,10 +26,10 @@ use Rattle.ocr_parts.proofs.Within.{within_law}
 use Rattle.ocr_quiet.proofs.Edts.{edts_law}
 use Rattle.ocr_standing.specs.Lasting.{is_own}
 use Rattle.ocr_standing.proofs.Once.{set_once_law}
-use Rattle.ocr_turns.specs.Counting.{CountingLaws, IsReady, MayCome, awaited, is_ended, is_in, is_started, payload_of, slots_of}
-use Rattle.ocr_turns.specs.Sums.{one_at, sum_of}
-use Rattle.ocr_turns.specs.declared.view.Terms.{Terms}
-use Rattle.ocr_turns.proofs.Totals.{one_here}
+use Rattle.ocr_rule.specs.Counting.{CountingLaws, IsReady, MayCome, awaited, is_ended, is_in, is_started, payload_of, slots_of}
+use Rattle.ocr_rule.specs.Sums.{one_at, sum_of}
+use Rattle.ocr_rule.specs.declared.view.Terms.{Terms}
+use Rattle.ocr_rule.proofs.Totals.{one_here}
 use Rattle.ocr_facts.specs.Facts.{Stands}
 use Rattle.ocr_facts.specs.Ocr.{beside, creates, ends, meaning, resumed, set_by, sets, setting_of, stands, starts, touches, waits}
 use Rattle.ocr_facts.specs.Ocr as ocr

@@ -34,11 +34,11 @@ use Rattle.ocr_parts.proofs.Within.{within_law}
 use Rattle.ocr_quiet.proofs.Choices.{done_kinds, not_off, on_from, or_left}
 use Rattle.ocr_standing.specs.Kept.{AreKept}
 use Rattle.ocr_standing.proofs.Kept.{after_kept_law, alike_kept, kept_law}
-use Rattle.ocr_turns.specs.Meaning.{Open}
-use Rattle.ocr_turns.specs.Owing.{listed}
-use Rattle.ocr_turns.specs.Rule.{Fits, PartsOf}
-use Rattle.ocr_turns.specs.Sums.{one_at, picked, weigh}
-use Rattle.ocr_turns.proofs.Totals.{picked_append, picked_none, weigh_at}
+use Rattle.ocr_rule.specs.Meaning.{Open}
+use Rattle.ocr_rule.specs.Owing.{listed}
+use Rattle.ocr_rule.specs.Rule.{Fits, PartsOf}
+use Rattle.ocr_rule.specs.Sums.{one_at, picked, weigh}
+use Rattle.ocr_rule.proofs.Totals.{picked_append, picked_none, weigh_at}
 use Rattle.ocr_facts.specs.Clerks.{EntryLaw, OcrTerms, OcrView, of_terms}
 use Rattle.ocr_facts.specs.Ocr.{MayFollow, counts, creates, meaning, part_of, slots_meant}
 use Rattle.ocr_facts.proofs.Runs.{reverse_snoc, run_is}

@@ -15,9 +15,9 @@ use Rattle.ocr_parts.specs.Taken.{as_core, core_in, has, is_within, look, place_
 use Rattle.ocr_parts.proofs.Within.{within_law}
 use Rattle.ocr_quiet.proofs.Choices.{on_from}
 use Rattle.ocr_standing.proofs.Room.{joining_law}
-use Rattle.ocr_turns.specs.Owing.{times}
-use Rattle.ocr_turns.specs.Rule.{Fits}
-use Rattle.ocr_turns.specs.Sums.{made_sum, one_at}
+use Rattle.ocr_rule.specs.Owing.{times}
+use Rattle.ocr_rule.specs.Rule.{Fits}
+use Rattle.ocr_rule.specs.Sums.{made_sum, one_at}
 use Rattle.ocr_facts.specs.Clerks.{AreAtHand, HandHome, KnowsHome, OcrTerms, OcrView, of_terms}
 use Rattle.ocr_facts.specs.Ocr.{meaning}
 use Rattle.ocr_facts.specs.Ocr as ocr

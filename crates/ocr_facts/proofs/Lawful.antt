@@ -26,9 +26,9 @@ use Rattle.ocr_quiet.proofs.Choices.{off_from}
 use Rattle.ocr_standing.specs.Lasting.{has_own, is_own}
 use Rattle.ocr_standing.proofs.Kept.{own_core_law, untouched_law}
 use Rattle.ocr_standing.proofs.Own.{no_own_law}
-use Rattle.ocr_turns.specs.Meaning.{ArePlaces, IsBare, IsNewNumber, Lawful, Run}
-use Rattle.ocr_turns.specs.Sums.{made_sum, one_at, picked, sum_of, up_to}
-use Rattle.ocr_turns.proofs.Totals.{picked_append}
+use Rattle.ocr_rule.specs.Meaning.{ArePlaces, IsBare, IsNewNumber, Lawful, Run}
+use Rattle.ocr_rule.specs.Sums.{made_sum, one_at, picked, sum_of, up_to}
+use Rattle.ocr_rule.proofs.Totals.{picked_append}
 use Rattle.ocr_facts.specs.Facts.{Stands}
 use Rattle.ocr_facts.specs.Ocr.{MayFollow, core_place, makes, meaning, part_of, setting_of, stands, starts, touches}
 use Rattle.ocr_facts.specs.declared.fact.Fact.{Fact}

@@ -30,8 +30,8 @@ use Rattle.ocr_parts.proofs.Within.{fresh_free}
 use Rattle.ocr_parts.specs.Taken.{is_within}
 use Rattle.ocr_quiet.proofs.Edts.{edts_law}
 use Rattle.ocr_standing.proofs.Lasting.{made_law}
-use Rattle.ocr_turns.specs.Sums.{made_sum, one_at, sum_of, up_to}
-use Rattle.ocr_turns.proofs.Totals.{made_snoc, sum_append}
+use Rattle.ocr_rule.specs.Sums.{made_sum, one_at, sum_of, up_to}
+use Rattle.ocr_rule.proofs.Totals.{made_snoc, sum_append}
 use Rattle.ocr_facts.proofs.Runs.{reverse_cons}
 use Rattle.ocr_facts.specs.Ocr as ocr
 use Rattle.ocr_finish.specs.Scope.{ScopeCall}

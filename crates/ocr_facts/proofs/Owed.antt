@@ -26,8 +26,8 @@ use Rattle.ocr_parts.specs.Parts.{parts_of}
 use Rattle.ocr_parts.specs.Taken.{as_face, face_in, has, is_within, look, parts_in, place_of, seen}
 use Rattle.ocr_parts.proofs.Counted.{counted_law}
 use Rattle.ocr_parts.proofs.Within.{within_law}
-use Rattle.ocr_turns.specs.Rule.{FactsOf, Fits, mail}
-use Rattle.ocr_turns.proofs.Histories.{owed_pending}
+use Rattle.ocr_rule.specs.Rule.{FactsOf, Fits, mail}
+use Rattle.ocr_rule.proofs.Histories.{owed_pending}
 use Rattle.ocr_facts.specs.Clerks.{AreAtHand, DeliverLaw, HandCounted, HandMember, HandSatisfiable, KnowsCounted, KnowsMember, KnowsSatisfiable, LeaveLaw, OcrTerms, OcrView, OwesLeave, OwesSatisfaction, of_terms}
 use Rattle.ocr_facts.specs.Ocr.{meaning}
 use Rattle.ocr_facts.specs.declared.fact.Fact.{Fact}

@@ -18,8 +18,8 @@ use Rattle.ocr_parts.specs.Codes.{Sort, wanted}
 use Rattle.ocr_parts.specs.Effects.{joins}
 use Rattle.ocr_parts.specs.Footprint.{and_beside, and_core, and_face, and_made, and_wanted, call_footprint, footprint_of, is_brought_to, is_touched, is_wanted, makes_core, message_footprint, names_beside, on_core_of, on_face}
 use Rattle.ocr_parts.specs.Taken.{is_within}
-use Rattle.ocr_turns.specs.Sums.{one_at, sum_of}
-use Rattle.ocr_turns.proofs.Totals.{one_here, one_most}
+use Rattle.ocr_rule.specs.Sums.{one_at, sum_of}
+use Rattle.ocr_rule.proofs.Totals.{one_here, one_most}
 
 -- A LIST THAT RISES from a number on
 abbrev RisesFrom : ℕ → List ℕ → Type 0

@@ -20,8 +20,8 @@ use Rattle.ocr_any_event.specs.declared.AnyEvent.{AnyEvent}
 use Rattle.ocr_parts.specs.LegalOn.{IsTaken, IsRefused}
 use Rattle.ocr_quiet.specs.Waits.{queue_on, stands}
 use Rattle.ocr_quiet.proofs.Standing.{once_tail, returned_kept}
-use Rattle.ocr_turns.specs.Counting.{is_in}
-use Rattle.ocr_turns.specs.Sums.{one_at, sum_of}
+use Rattle.ocr_rule.specs.Counting.{is_in}
+use Rattle.ocr_rule.specs.Sums.{one_at, sum_of}
 
 -- WHO LEAVES stood in front of the others
 splits : (b : Bool) (l : block.Line) → l.queue ≡ block.leavers b l ++ (block.line_after_grants b l).queue

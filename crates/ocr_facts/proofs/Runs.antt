@@ -9,9 +9,9 @@ use Rattle.ocr_history.specs.declared.entry.Entry.{Entry}
 use Rattle.ocr_history.specs.History.{History}
 use Rattle.ocr_history.specs.History as history
 use Rattle.ocr_parts.specs.Legal.{IsRun, IsLegal}
-use Rattle.ocr_turns.specs.Counting.{MayCome}
-use Rattle.ocr_turns.specs.Meaning.{Run}
-use Rattle.ocr_turns.specs.declared.view.Terms.{Terms}
+use Rattle.ocr_rule.specs.Counting.{MayCome}
+use Rattle.ocr_rule.specs.Meaning.{Run}
+use Rattle.ocr_rule.specs.declared.view.Terms.{Terms}
 use Rattle.ocr_facts.specs.Ocr.{MayFollow, meaning, setting_of}
 use Rattle.ocr_facts.specs.declared.setting.Setting.{Setting}
 

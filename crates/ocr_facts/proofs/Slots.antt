@@ -25,8 +25,8 @@ use Rattle.ocr_parts.proofs.Within.{beside_free, new_free}
 use Rattle.ocr_quiet.proofs.Edts.{edts_law}
 use Rattle.ocr_standing.proofs.Lasting.{edt_not_new}
 use Rattle.ocr_standing.proofs.Once.{set_once_law}
-use Rattle.ocr_turns.specs.Counting.{count_if, is_ended, is_started, payload_if, payload_of, slots_of}
-use Rattle.ocr_turns.specs.declared.view.Terms.{Terms}
+use Rattle.ocr_rule.specs.Counting.{count_if, is_ended, is_started, payload_if, payload_of, slots_of}
+use Rattle.ocr_rule.specs.declared.view.Terms.{Terms}
 use Rattle.ocr_facts.specs.Ocr.{creates, meaning}
 use Rattle.ocr_facts.specs.Ocr as ocr
 use Rattle.ocr_facts.specs.declared.setting.Setting.{Setting}

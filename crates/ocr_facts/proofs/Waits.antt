@@ -34,8 +34,8 @@ use Rattle.ocr_quiet.proofs.Stages.{readied_standing, ready_told, standing_law, 
 use Rattle.ocr_quiet.proofs.Standing.{push_other, push_own}
 use Rattle.ocr_standing.proofs.Held.{running_core}
 use Rattle.ocr_standing.proofs.Lasting.{all_set}
-use Rattle.ocr_turns.specs.Counting.{IsReady, awaited, is_ended, is_in, is_started, place_or}
-use Rattle.ocr_turns.specs.declared.view.Terms.{Terms}
+use Rattle.ocr_rule.specs.Counting.{IsReady, awaited, is_ended, is_in, is_started, place_or}
+use Rattle.ocr_rule.specs.declared.view.Terms.{Terms}
 use Rattle.ocr_facts.specs.Ocr.{meaning, resumed}
 use Rattle.ocr_facts.specs.declared.setting.Setting.{Setting}
 use Rattle.ocr_facts.proofs.Awaiting.{IsAwaiting, IsQueued, Moving, acquiring_awaits, effect_awaits, entry_effect, none_left, still_awaits, unqueued}

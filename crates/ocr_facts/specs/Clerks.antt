@@ -23,14 +23,14 @@ use Rattle.ocr_parts.specs.Messages.{sends}
 use Rattle.ocr_parts.specs.Parts.{parts_of}
 use Rattle.ocr_parts.specs.Taken.{core_in, face_in, has, is_within, keys, look, parts_in, seen}
 use Rattle.ocr_standing.specs.Kept.{IsPlanFor, kept_ready}
-use Rattle.ocr_turns.specs.Contract.{Legal}
-use Rattle.ocr_turns.specs.Meaning.{Open}
-use Rattle.ocr_turns.specs.Owing.{times}
-use Rattle.ocr_turns.specs.Rule.{FactsOf, Fits}
-use Rattle.ocr_turns.specs.Steps.{deed}
-use Rattle.ocr_turns.specs.Sums.{one_at, weigh}
-use Rattle.ocr_turns.specs.declared.view.Terms.{Terms}
-use Rattle.ocr_turns.specs.declared.view.View.{View}
+use Rattle.ocr_rule.specs.Contract.{Legal}
+use Rattle.ocr_rule.specs.Meaning.{Open}
+use Rattle.ocr_rule.specs.Owing.{times}
+use Rattle.ocr_rule.specs.Rule.{FactsOf, Fits}
+use Rattle.ocr_rule.specs.Steps.{deed}
+use Rattle.ocr_rule.specs.Sums.{one_at, weigh}
+use Rattle.ocr_rule.specs.declared.view.Terms.{Terms}
+use Rattle.ocr_rule.specs.declared.view.View.{View}
 use Rattle.ocr_facts.specs.Facts.{learns}
 use Rattle.ocr_facts.specs.Ocr.{MayFollow, meaning, setting_of, stands}
 use Rattle.ocr_facts.specs.declared.fact.Fact.{Fact}

@@ -24,8 +24,8 @@ use Rattle.ocr_parts.specs.Legal.{IsLegal, is_stop}
 use Rattle.ocr_parts.specs.Messages.{delivered, resumes, sends}
 use Rattle.ocr_parts.specs.Parts.{parts_of}
 use Rattle.ocr_parts.specs.Taken.{look, parts_in, place_of, seen}
-use Rattle.ocr_turns.specs.Meaning.{Counting, Meaning}
-use Rattle.ocr_turns.specs.Sums.{one_at, sum_of}
+use Rattle.ocr_rule.specs.Meaning.{Counting, Meaning}
+use Rattle.ocr_rule.specs.Sums.{one_at, sum_of}
 use Rattle.ocr_standing.specs.Lasting.{is_own}
 use Rattle.ocr_facts.specs.Facts.{Stands, learns}
 use Rattle.ocr_facts.specs.declared.fact.Fact.{Fact}

@@ -1,6 +1,6 @@
 // The laws that a table of turns asks.
-ghost use Rattle.ocr_turns.specs.Counting.{CountingLaws};
-ghost use Rattle.ocr_turns.specs.Meaning.{Lawful};
+ghost use Rattle.ocr_rule.specs.Counting.{CountingLaws};
+ghost use Rattle.ocr_rule.specs.Meaning.{Lawful};
 ghost use Rattle.ocr_facts.specs.Clerks.{DeliverLaw, EntryLaw, HandCounted, HandHome, HandMember, HandSatisfiable, KnowsCounted, KnowsHome, KnowsMember, KnowsSatisfiable, LeaveLaw};
 ghost use Rattle.ocr_facts.specs.Ocr.{meaning};
 

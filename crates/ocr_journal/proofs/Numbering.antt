@@ -8,11 +8,11 @@ use mathlib.Core.Logic.{dite}
 use native.Mathlib.Decide.{ℕ_discrete}
 use lib.ListN.{get_elem?}
 use Rattle.atomic_table.proofs.Lists.{set_here, set_else}
-use Rattle.ocr_turns.specs.Openings.{placed}
-use Rattle.ocr_turns.specs.Rule.{LogOf}
-use Rattle.ocr_turns.specs.Sums.{weigh, weigh_all, below, one_at}
-use Rattle.ocr_turns.proofs.Opens.{placed_length}
-use Rattle.ocr_turns.proofs.Totals.{below_ones, one_else, at_less}
+use Rattle.ocr_rule.specs.Openings.{placed}
+use Rattle.ocr_rule.specs.Rule.{LogOf}
+use Rattle.ocr_rule.specs.Sums.{weigh, weigh_all, below, one_at}
+use Rattle.ocr_rule.proofs.Opens.{placed_length}
+use Rattle.ocr_rule.proofs.Totals.{below_ones, one_else, at_less}
 use Rattle.ocr_history.specs.declared.entry.Entry.{Entry}
 use Rattle.ocr_journal.specs.Merged.{IsHistoryOf}
 use Rattle.ocr_journal.specs.Numbered.{AllBelow, AreByNumber, AreFull, IsBelow}

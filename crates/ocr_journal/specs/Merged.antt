@@ -3,7 +3,7 @@ use Rattle.std.specs.Prelude.{◌≡◌, ℕ, List, length}
 use Rattle.ocr_facts.specs.Clerks.{OcrTerms, OcrView}
 use Rattle.ocr_facts.specs.Ocr.{meaning}
 use Rattle.ocr_history.specs.declared.entry.Entry.{Entry}
-use Rattle.ocr_turns.specs.Contract.{Finished}
+use Rattle.ocr_rule.specs.Contract.{Finished}
 
 -- a table of these terms, whose root came to this view, was finished with these logs and so many
 -- entries, and this is its history

@@ -2,8 +2,8 @@
 use Rattle.std.specs.Prelude.{◌≡◌, ℕ, ◌<◌, List, length, Option, Some}
 use mathlib.Core.Option.{some}
 use lib.ListN.{get_elem?}
-use Rattle.ocr_turns.specs.Rule.{LogsOf}
-use Rattle.ocr_turns.specs.Sums.{weigh_all, below}
+use Rattle.ocr_rule.specs.Rule.{LogsOf}
+use Rattle.ocr_rule.specs.Sums.{weigh_all, below}
 
 module _ {E : Type 0} where
   -- the logs hold the entries of the list, each at its number, and each number stands in them once

@@ -1,6 +1,6 @@
 // Entries of several logs, in the order of their numbers.
 ghost use Rattle.std.specs.Prelude.{◌≡◌, ◌<◌, ◌≤◌, ℕ, List, None, Option, Some, map, length, replicate, IfOk};
-ghost use Rattle.ocr_turns.specs.Openings.{placed};
+ghost use Rattle.ocr_rule.specs.Openings.{placed};
 ghost use Rattle.ocr_journal.specs.Numbered.{AreByNumber, AreFull, IsBelow};
 
 use crate::ordered::{bare_entries, whole_place};

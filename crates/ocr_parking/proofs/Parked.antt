@@ -5,9 +5,9 @@ use Rattle.ocr_acquire.specs.Mode.{mode_in}
 use Rattle.ocr_parts.specs.declared.part.Part.{Part}
 use Rattle.ocr_parts.specs.declared.part.Part.TheVariants as part
 use Rattle.ocr_quiet.specs.Waits.{queue_on}
-use Rattle.ocr_turns.specs.Owing.{times}
-use Rattle.ocr_turns.specs.Sums.{less_one}
-use Rattle.ocr_turns.specs.Words.{Waits, unclaiming}
+use Rattle.ocr_rule.specs.Owing.{times}
+use Rattle.ocr_rule.specs.Sums.{less_one}
+use Rattle.ocr_rule.specs.Words.{Waits, unclaiming}
 use Rattle.ocr_facts.specs.Clerks.{OcrView}
 use Rattle.ocr_facts.specs.Ocr.{meaning}
 use Rattle.ocr_facts.proofs.Runs.{run_is}

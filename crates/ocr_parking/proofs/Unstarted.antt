@@ -20,9 +20,9 @@ use Rattle.ocr_quiet.proofs.Choices.{off_from}
 use Rattle.ocr_quiet.proofs.Stages.{told_law}
 use Rattle.ocr_standing.specs.Lasting.{has_own, is_own}
 use Rattle.ocr_standing.proofs.Own.{started_by}
-use Rattle.ocr_turns.specs.Rule.{Fits}
-use Rattle.ocr_turns.specs.Sums.{entries, is_among, picked}
-use Rattle.ocr_turns.proofs.Totals.{log_none}
+use Rattle.ocr_rule.specs.Rule.{Fits}
+use Rattle.ocr_rule.specs.Sums.{entries, is_among, picked}
+use Rattle.ocr_rule.proofs.Totals.{log_none}
 use Rattle.ocr_facts.specs.Clerks.{OcrTerms, OcrView, of_terms}
 use Rattle.ocr_facts.specs.Ocr.{meaning}
 use Rattle.ocr_facts.proofs.Lawful.{none_picked}

@@ -8,7 +8,7 @@ use Rattle.ocr_datablock.specs.Block as block
 use Rattle.ocr_facts.specs.Clerks.{OcrTerms}
 use Rattle.ocr_parts.specs.declared.part.Part.TheVariants as part
 use Rattle.ocr_parts.specs.Taken.{is_within}
-use Rattle.ocr_turns.specs.Sums.{as_some, keys}
+use Rattle.ocr_rule.specs.Sums.{as_some, keys}
 use Rattle.ocr_clerks.specs.Entering.{OcrKnown}
 use Rattle.ocr_clerks.specs.Work.{RunsNone}
 

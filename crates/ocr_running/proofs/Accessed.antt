@@ -22,9 +22,9 @@ use Rattle.ocr_parts.specs.Parts.{Parts, parts_of}
 use Rattle.ocr_parts.specs.Taken.{face_in, has, is_within, look}
 use Rattle.ocr_legality.specs.Tests.{AnswersSo}
 use Rattle.ocr_standing.specs.Plain.{IsEntered}
-use Rattle.ocr_turns.specs.Owing.{listed}
-use Rattle.ocr_turns.specs.Rule.{Fits}
-use Rattle.ocr_turns.specs.Sums.{one_at, weigh}
+use Rattle.ocr_rule.specs.Owing.{listed}
+use Rattle.ocr_rule.specs.Rule.{Fits}
+use Rattle.ocr_rule.specs.Sums.{one_at, weigh}
 use Rattle.ocr_facts.specs.Clerks.{AreAtHand, OcrView, of_terms}
 use Rattle.ocr_facts.specs.Ocr.{counts, meaning, wakes}
 use Rattle.ocr_facts.proofs.Places.{within_is}

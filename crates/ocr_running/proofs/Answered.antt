@@ -15,8 +15,8 @@ use Rattle.ocr_parts.specs.declared.part.Part.{Part}
 use Rattle.ocr_parts.specs.declared.part.Part.TheVariants as part
 use Rattle.ocr_parts.specs.Footprint.{makes_core}
 use Rattle.ocr_parts.specs.LegalOn.{last_of}
-use Rattle.ocr_turns.specs.Owing.{times}
-use Rattle.ocr_turns.specs.Steps.{Sees}
+use Rattle.ocr_rule.specs.Owing.{times}
+use Rattle.ocr_rule.specs.Steps.{Sees}
 use Rattle.ocr_facts.specs.Clerks.{OcrTerms, OcrView}
 use Rattle.ocr_facts.specs.Ocr.{beside, meaning, some_number}
 use Rattle.ocr_clerks.specs.Entering.{OcrKnown}

@@ -16,10 +16,10 @@ use Rattle.ocr_parts.specs.Codes.{Sort, wanted}
 use Rattle.ocr_parts.specs.Footprint.{and_beside, and_core, and_face, and_made, and_wanted, footprint_of, makes_core}
 use Rattle.ocr_parts.specs.Taken.{is_within}
 use Rattle.ocr_history.specs.Numbers.{placed}
-use Rattle.ocr_turns.specs.Steps.{Sees}
-use Rattle.ocr_turns.specs.Sums.{as_some, keys, one_at, sum_of, weigh}
-use Rattle.ocr_turns.proofs.Numbered.{weigh_keys}
-use Rattle.ocr_turns.proofs.Totals.{one_here}
+use Rattle.ocr_rule.specs.Steps.{Sees}
+use Rattle.ocr_rule.specs.Sums.{as_some, keys, one_at, sum_of, weigh}
+use Rattle.ocr_rule.proofs.Numbered.{weigh_keys}
+use Rattle.ocr_rule.proofs.Totals.{one_here}
 use Rattle.ocr_facts.specs.Clerks.{OcrTerms, OcrView}
 use Rattle.ocr_facts.specs.Ocr.{meaning}
 use Rattle.ocr_facts.proofs.Places.{places_good}

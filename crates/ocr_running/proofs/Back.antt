@@ -16,12 +16,12 @@ use Rattle.ocr_parts.specs.declared.part.Part.TheVariants as part
 use Rattle.ocr_parts.specs.Kinds.{is_running}
 use Rattle.ocr_quiet.specs.Waits.{awaits_in}
 use Rattle.ocr_parts.specs.Taken.{is_within}
-use Rattle.ocr_turns.specs.Counting.{tied_to}
-use Rattle.ocr_turns.specs.Owing.{times}
-use Rattle.ocr_turns.specs.Rule.{Fits, PartsOf}
-use Rattle.ocr_turns.specs.Steps.{Sees}
-use Rattle.ocr_turns.specs.Sums.{one_at, weigh}
-use Rattle.ocr_turns.proofs.Totals.{one_here, one_same}
+use Rattle.ocr_rule.specs.Counting.{tied_to}
+use Rattle.ocr_rule.specs.Owing.{times}
+use Rattle.ocr_rule.specs.Rule.{Fits, PartsOf}
+use Rattle.ocr_rule.specs.Steps.{Sees}
+use Rattle.ocr_rule.specs.Sums.{one_at, weigh}
+use Rattle.ocr_rule.proofs.Totals.{one_here, one_same}
 use Rattle.ocr_facts.specs.Clerks.{OcrTerms, OcrView}
 use Rattle.ocr_facts.specs.Ocr.{meaning}
 use Rattle.ocr_clerks.specs.Entering.{OcrKnown}

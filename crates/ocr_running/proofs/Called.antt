@@ -27,11 +27,11 @@ use Rattle.ocr_parts.specs.Parts.{parts_of}
 use Rattle.ocr_parts.specs.Taken.{face_in, has, is_within, look, seen}
 use Rattle.ocr_legality.specs.Tests.{AnswersSo}
 use Rattle.ocr_standing.specs.Kept.{kept_ready}
-use Rattle.ocr_turns.specs.Owing.{times}
-use Rattle.ocr_turns.specs.Rule.{Fits}
-use Rattle.ocr_turns.specs.Sums.{HasAll, keys, one_at, sum_of, weigh}
-use Rattle.ocr_turns.proofs.Numbered.{weigh_keys}
-use Rattle.ocr_turns.proofs.Totals.{one_here}
+use Rattle.ocr_rule.specs.Owing.{times}
+use Rattle.ocr_rule.specs.Rule.{Fits}
+use Rattle.ocr_rule.specs.Sums.{HasAll, keys, one_at, sum_of, weigh}
+use Rattle.ocr_rule.proofs.Numbered.{weigh_keys}
+use Rattle.ocr_rule.proofs.Totals.{one_here}
 use Rattle.ocr_facts.specs.Clerks.{AreAtHand, OcrTerms, OcrView, of_terms}
 use Rattle.ocr_facts.specs.Ocr.{beside, makes, meaning, some_number, touches, wakes}
 use Rattle.ocr_facts.proofs.Homes.{home_settled}

@@ -25,9 +25,9 @@ use Rattle.ocr_parts.proofs.Local.{code_law}
 use Rattle.ocr_legality.specs.Tests.{AnswersSo, IsCallSo}
 use Rattle.ocr_legality.proofs.Calls.{call_on}
 use Rattle.ocr_standing.specs.Kept.{kept_ready}
-use Rattle.ocr_turns.specs.Owing.{times}
-use Rattle.ocr_turns.specs.Rule.{Fits}
-use Rattle.ocr_turns.proofs.Totals.{one_here}
+use Rattle.ocr_rule.specs.Owing.{times}
+use Rattle.ocr_rule.specs.Rule.{Fits}
+use Rattle.ocr_rule.proofs.Totals.{one_here}
 use Rattle.ocr_facts.specs.Clerks.{AreAtHand, OcrTerms, OcrView, of_terms}
 use Rattle.ocr_facts.specs.Ocr.{beside, meaning}
 use Rattle.ocr_facts.proofs.Homes.{drawn_free, drawn_fresh, knows_home}

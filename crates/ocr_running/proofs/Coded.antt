@@ -14,9 +14,9 @@ use Rattle.ocr_parts.specs.Footprint.{Covers}
 use Rattle.ocr_parts.specs.Legal.{IsCreating}
 use Rattle.ocr_parts.specs.Parts.{parts_of}
 use Rattle.ocr_parts.specs.Taken.{face_in, is_within}
-use Rattle.ocr_turns.specs.Rule.{Fits}
-use Rattle.ocr_turns.specs.Sums.{keys, one_at, sum_of, weigh}
-use Rattle.ocr_turns.proofs.Totals.{one_here}
+use Rattle.ocr_rule.specs.Rule.{Fits}
+use Rattle.ocr_rule.specs.Sums.{keys, one_at, sum_of, weigh}
+use Rattle.ocr_rule.proofs.Totals.{one_here}
 use Rattle.ocr_facts.specs.Clerks.{AreAtHand, Knows, OcrView, of_terms}
 use Rattle.ocr_facts.specs.Ocr.{meaning, touches}
 use Rattle.ocr_clerks.specs.Entering.{OcrKnown}

@@ -11,11 +11,11 @@ use Rattle.ocr_meaning.specs.declared.call.Answer.{Answer}
 use Rattle.ocr_meaning.specs.declared.call.Call as body
 use Rattle.ocr_meaning.specs.declared.call.Call.TheVariants as call
 use Rattle.ocr_parts.specs.LegalOn.{last_of}
-use Rattle.ocr_turns.specs.Contract.{SameHand}
-use Rattle.ocr_turns.specs.Owing.{times}
-use Rattle.ocr_turns.specs.Steps.{Sees, with_drawn}
-use Rattle.ocr_turns.specs.Sums.{one_at}
-use Rattle.ocr_turns.proofs.Totals.{one_here, sum_append}
+use Rattle.ocr_rule.specs.Contract.{SameHand}
+use Rattle.ocr_rule.specs.Owing.{times}
+use Rattle.ocr_rule.specs.Steps.{Sees, with_drawn}
+use Rattle.ocr_rule.specs.Sums.{one_at}
+use Rattle.ocr_rule.proofs.Totals.{one_here, sum_append}
 use Rattle.ocr_facts.specs.Clerks.{Knows, OcrTerms, OcrView}
 use Rattle.ocr_facts.specs.Ocr.{beside, meaning, some_number}
 use Rattle.ocr_history.specs.declared.entry.Entry.{Entry}

@@ -13,12 +13,12 @@ use Rattle.ocr_parts.specs.declared.part.Part.TheVariants as part
 use Rattle.ocr_parts.specs.Footprint.{Covers, and_core}
 use Rattle.ocr_parts.specs.Kinds.{holds_of, work_of}
 use Rattle.ocr_parts.specs.Taken.{is_within}
-use Rattle.ocr_turns.specs.Counting.{leaves}
-use Rattle.ocr_turns.specs.Owing.{without_all}
-use Rattle.ocr_turns.specs.Rule.{RunsIn}
-use Rattle.ocr_turns.specs.Sums.{as_some, entries, is_among, keys, one_at, sum_of, weigh}
-use Rattle.ocr_turns.proofs.Numbered.{weigh_keys}
-use Rattle.ocr_turns.proofs.Totals.{one_here}
+use Rattle.ocr_rule.specs.Counting.{leaves}
+use Rattle.ocr_rule.specs.Owing.{without_all}
+use Rattle.ocr_rule.specs.Rule.{RunsIn}
+use Rattle.ocr_rule.specs.Sums.{as_some, entries, is_among, keys, one_at, sum_of, weigh}
+use Rattle.ocr_rule.proofs.Numbered.{weigh_keys}
+use Rattle.ocr_rule.proofs.Totals.{one_here}
 use Rattle.ocr_facts.specs.Clerks.{AreAtHand, OcrView}
 use Rattle.ocr_facts.specs.Ocr.{ends, meaning, starts, touches}
 use Rattle.ocr_facts.proofs.Owed.{hand_counted}

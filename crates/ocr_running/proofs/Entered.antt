@@ -14,9 +14,9 @@ use Rattle.ocr_parts.specs.LegalOn.{IsCallOn}
 use Rattle.ocr_parts.specs.Parts.{Parts}
 use Rattle.ocr_parts.specs.Taken.{is_within, parts_in}
 use Rattle.ocr_parts.specs.Taken as taken
-use Rattle.ocr_turns.specs.Owing.{listed}
-use Rattle.ocr_turns.specs.Rule.{RunsIn}
-use Rattle.ocr_turns.specs.Sums.{as_some, keys, less_all}
+use Rattle.ocr_rule.specs.Owing.{listed}
+use Rattle.ocr_rule.specs.Rule.{RunsIn}
+use Rattle.ocr_rule.specs.Sums.{as_some, keys, less_all}
 use Rattle.ocr_facts.specs.Clerks.{OcrView}
 use Rattle.ocr_facts.specs.Ocr.{counts, ends, makes, starts, wakes}
 use Rattle.ocr_facts.proofs.Slots.{number_same}

@@ -32,9 +32,9 @@ use Rattle.ocr_quiet.specs.Waits.{queue_on, standing}
 use Rattle.ocr_quiet.proofs.Stages.{once}
 use Rattle.ocr_standing.specs.Kept.{kept_ready}
 use Rattle.ocr_standing.proofs.Working.{freeing_law}
-use Rattle.ocr_turns.specs.Counting.{is_in}
-use Rattle.ocr_turns.specs.Owing.{times}
-use Rattle.ocr_turns.specs.Rule.{FactsOf, Fits}
+use Rattle.ocr_rule.specs.Counting.{is_in}
+use Rattle.ocr_rule.specs.Owing.{times}
+use Rattle.ocr_rule.specs.Rule.{FactsOf, Fits}
 use Rattle.ocr_facts.specs.Clerks.{AreAtHand, MayEnter, OcrTerms, OcrView, of_terms}
 use Rattle.ocr_facts.specs.Ocr.{meaning, wakes}
 use Rattle.ocr_facts.specs.declared.fact.Fact.{Fact}

@@ -17,7 +17,7 @@ use Rattle.ocr_parts.specs.Parts.{parts_of}
 use Rattle.ocr_parts.specs.Taken.{is_within}
 use Rattle.ocr_standing.specs.Held.{IsFitting, KeepsFor}
 use Rattle.ocr_standing.proofs.Held.{kept_fits_law}
-use Rattle.ocr_turns.specs.Rule.{Fits}
+use Rattle.ocr_rule.specs.Rule.{Fits}
 use Rattle.ocr_facts.specs.Clerks.{AreAtHand, OcrTerms, OcrView, of_terms}
 use Rattle.ocr_facts.specs.Ocr.{meaning}
 use Rattle.ocr_clerks.specs.Entering.{OcrKnown}

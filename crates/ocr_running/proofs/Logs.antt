@@ -10,10 +10,10 @@ use Rattle.ocr_history.specs.declared.entry.Entry.TheVariants.{Call, Start, Free
 use Rattle.ocr_history.specs.History.{own}
 use Rattle.ocr_meaning.specs.Body.{Body}
 use Rattle.ocr_standing.specs.Lasting.{is_own}
-use Rattle.ocr_turns.specs.Owing.{without_all}
-use Rattle.ocr_turns.specs.Rule.{RunsIn}
-use Rattle.ocr_turns.specs.Sums.{entries, is_among}
-use Rattle.ocr_turns.proofs.Totals.{among_append, entries_append}
+use Rattle.ocr_rule.specs.Owing.{without_all}
+use Rattle.ocr_rule.specs.Rule.{RunsIn}
+use Rattle.ocr_rule.specs.Sums.{entries, is_among}
+use Rattle.ocr_rule.proofs.Totals.{among_append, entries_append}
 use Rattle.ocr_facts.specs.Clerks.{OcrTerms, OcrView}
 use Rattle.ocr_facts.specs.Ocr.{ends, starts}
 use Rattle.ocr_facts.specs.declared.fact.Fact.{Fact}

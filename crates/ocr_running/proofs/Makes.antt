@@ -32,7 +32,7 @@ use Rattle.ocr_parts.specs.Kinds.{work_in}
 use Rattle.ocr_parts.specs.Taken.{as_face, face_in, has, is_within, look}
 use Rattle.ocr_parts.proofs.After.{accepted, done_is}
 use Rattle.ocr_parts.proofs.Local.{code_law}
-use Rattle.ocr_turns.specs.Sums.{as_some}
+use Rattle.ocr_rule.specs.Sums.{as_some}
 use Rattle.ocr_facts.specs.Clerks.{OcrTerms, OcrView}
 use Rattle.ocr_facts.specs.Ocr.{counts, slots_meant}
 use Rattle.ocr_clerks.specs.Entering.{OcrKnown}

@@ -7,8 +7,8 @@ use Rattle.ocr_history.specs.declared.entry.Entry.TheVariants.{Call, Start, Free
 use Rattle.ocr_history.specs.Edts as edts
 use Rattle.ocr_history.specs.History.{History, own}
 use Rattle.ocr_standing.specs.Lasting.{is_own}
-use Rattle.ocr_turns.specs.Sums.{entries, is_among, picked}
-use Rattle.ocr_turns.proofs.Totals.{among_append, picked_append}
+use Rattle.ocr_rule.specs.Sums.{entries, is_among, picked}
+use Rattle.ocr_rule.proofs.Totals.{among_append, picked_append}
 use Rattle.ocr_facts.specs.Ocr.{ends}
 use Rattle.ocr_running.specs.Serving.{own_log}
 

@@ -15,7 +15,7 @@ use Rattle.ocr_parts.proofs.Within.{within_law}
 use Rattle.ocr_acquire.specs.declared.Mode.{Mode}
 use Rattle.ocr_standing.specs.Kept.{IsPlanFor, kept_ready}
 use Rattle.ocr_standing.proofs.Kept.{alike_kept, back_law}
-use Rattle.ocr_turns.specs.Rule.{Fits}
+use Rattle.ocr_rule.specs.Rule.{Fits}
 use Rattle.ocr_facts.specs.Clerks.{AreAtHand, OcrTerms, OcrView, of_terms}
 use Rattle.ocr_facts.specs.Ocr.{meaning}
 use Rattle.ocr_facts.proofs.Entered.{fitting_parts}

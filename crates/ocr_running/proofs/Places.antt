@@ -14,8 +14,8 @@ use Rattle.ocr_parts.specs.Codes.{Sort, wanted}
 use Rattle.ocr_parts.specs.declared.part.Part.{Part}
 use Rattle.ocr_parts.specs.Footprint.{Covers, and_beside, and_core, and_face, and_made, and_wanted, call_footprint, makes_core}
 use Rattle.ocr_parts.specs.Taken.{has, is_within}
-use Rattle.ocr_turns.specs.Sums.{one_at, sum_of, weigh}
-use Rattle.ocr_turns.proofs.Totals.{one_here, one_same}
+use Rattle.ocr_rule.specs.Sums.{one_at, sum_of, weigh}
+use Rattle.ocr_rule.proofs.Totals.{one_here, one_same}
 use Rattle.ocr_facts.specs.Ocr.{touches}
 use Rattle.ocr_facts.proofs.Places.{named_place, places_differ}
 use Rattle.ocr_running.specs.Calls.{faces_of}

@@ -15,7 +15,7 @@ use Rattle.ocr_parts.specs.Calls.{depc_of, link_calls, payloads_of, set_calls}
 use Rattle.ocr_parts.specs.Legal.{IsSaid, carried}
 use Rattle.ocr_standing.specs.Kept.{AreSet}
 use Rattle.ocr_standing.proofs.Filled.{all_payloads, set_from}
-use Rattle.ocr_turns.specs.Rule.{Fits}
+use Rattle.ocr_rule.specs.Rule.{Fits}
 use Rattle.ocr_facts.specs.Clerks.{Knows, OcrTerms, OcrView, of_terms}
 use Rattle.ocr_facts.specs.Facts.{HasBegun, IsCount, IsPayload, Stands, body_by}
 use Rattle.ocr_facts.specs.Ocr.{meaning, stands}

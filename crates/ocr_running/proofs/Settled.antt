@@ -5,13 +5,13 @@ use Rattle.std.proofs.Math.ListN.{drop_of_length-le}
 use Rattle.ocr_history.specs.declared.entry.Entry.{Entry}
 use Rattle.ocr_parts.specs.declared.part.Part.{Part}
 use Rattle.ocr_meaning.specs.Body.{Body}
-use Rattle.ocr_turns.specs.Rule.{Fits}
-use Rattle.ocr_turns.specs.Owing.{made_debts, resumed_debts, times}
-use Rattle.ocr_turns.specs.Steps.{Sees}
-use Rattle.ocr_turns.specs.Sums.{less_one, remove_at}
-use Rattle.ocr_turns.proofs.Totals.{one_here}
-use Rattle.ocr_turns.specs.Words.{counting_made, resuming}
-use Rattle.ocr_turns.specs.declared.debts.Debts.{Debts}
+use Rattle.ocr_rule.specs.Rule.{Fits}
+use Rattle.ocr_rule.specs.Owing.{made_debts, resumed_debts, times}
+use Rattle.ocr_rule.specs.Steps.{Sees}
+use Rattle.ocr_rule.specs.Sums.{less_one, remove_at}
+use Rattle.ocr_rule.proofs.Totals.{one_here}
+use Rattle.ocr_rule.specs.Words.{counting_made, resuming}
+use Rattle.ocr_rule.specs.declared.debts.Debts.{Debts}
 use Rattle.ocr_facts.specs.Clerks.{OcrTerms, OcrView}
 use Rattle.ocr_facts.specs.Ocr.{meaning}
 use Rattle.ocr_facts.proofs.Slots.{number_same}
@@ -21,7 +21,7 @@ use Rattle.ocr_clerks.proofs.Going.{Calm, stays_both, stays_still, work_still}
 use Rattle.ocr_code.specs.declared.checked.Checked.{Checked}
 use Rattle.ocr_steal.specs.declared.hand.Hand as deque
 use Rattle.ocr_steal.specs.Hand.{IsSame, knows, misses_of}
-use Rattle.ocr_turns.specs.Contract.{SameHand}
+use Rattle.ocr_rule.specs.Contract.{SameHand}
 use Rattle.ocr_running.specs.Running.{HasEntered, IsPushed}
 use Rattle.ocr_running.proofs.Logs.{serves_same}
 

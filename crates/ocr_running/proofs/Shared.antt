@@ -22,7 +22,7 @@ use Rattle.ocr_parts.specs.Taken.{as_face, has, is_within, look, place_of, seen}
 use Rattle.ocr_parts.proofs.Within.{within_law}
 use Rattle.ocr_standing.specs.Plain.{IsEntered}
 use Rattle.ocr_standing.proofs.Working.{sharing_law}
-use Rattle.ocr_turns.specs.Rule.{Fits}
+use Rattle.ocr_rule.specs.Rule.{Fits}
 use Rattle.ocr_facts.specs.Clerks.{AreAtHand, OcrTerms, OcrView, of_terms}
 use Rattle.ocr_facts.specs.Ocr.{meaning}
 use Rattle.ocr_running.specs.Accesses.{HasWord, word_at}

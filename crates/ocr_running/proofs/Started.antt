@@ -22,8 +22,8 @@ use Rattle.ocr_parts.specs.Kinds.{is_acquiring_edt, is_running, on_core}
 use Rattle.ocr_parts.specs.Parts.{Parts}
 use Rattle.ocr_parts.specs.Taken.{as_face, is_within, look, parts_in}
 use Rattle.ocr_standing.specs.Kept.{plan_from}
-use Rattle.ocr_turns.specs.Rule.{RunsIn}
-use Rattle.ocr_turns.specs.Sums.{as_some, keys, one_at, sum_of, weigh}
+use Rattle.ocr_rule.specs.Rule.{RunsIn}
+use Rattle.ocr_rule.specs.Sums.{as_some, keys, one_at, sum_of, weigh}
 use Rattle.ocr_facts.specs.Clerks.{OcrView}
 use Rattle.ocr_facts.specs.Facts.{body_by}
 use Rattle.ocr_facts.specs.Ocr.{ends, starts, touches}

@@ -22,8 +22,8 @@ use Rattle.ocr_parts.specs.Parts.{parts_of}
 use Rattle.ocr_parts.specs.Taken.{has, is_within, look, parts_in, place_of, seen}
 use Rattle.ocr_standing.specs.Kept.{AreSet, IsFilled, kept_ready, plan_from}
 use Rattle.ocr_standing.proofs.Filled.{filled_law}
-use Rattle.ocr_turns.specs.Rule.{FactsOf, Fits}
-use Rattle.ocr_turns.specs.Sums.{one_at, weigh}
+use Rattle.ocr_rule.specs.Rule.{FactsOf, Fits}
+use Rattle.ocr_rule.specs.Sums.{one_at, weigh}
 use Rattle.ocr_facts.specs.Clerks.{AreAtHand, MayEnter, OcrTerms, OcrView, of_terms}
 use Rattle.ocr_facts.specs.Facts.{IsPayload, Stands, learns}
 use Rattle.ocr_facts.specs.Ocr.{MayFollow, meaning, stands}

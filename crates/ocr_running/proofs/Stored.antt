@@ -18,9 +18,9 @@ use Rattle.ocr_parts.specs.declared.part.Part.TheVariants as part
 use Rattle.ocr_parts.specs.Bodies.{hold_in, hold_of}
 use Rattle.ocr_parts.specs.Kinds.{kept_on, mode_on, on_core}
 use Rattle.ocr_parts.specs.Loans.{IsStorable, kept_after, kept_in, loan_after, loan_in, with_loan}
-use Rattle.ocr_turns.specs.Contract.{SameRoom}
-use Rattle.ocr_turns.specs.Steps.{Sees}
-use Rattle.ocr_turns.specs.Sums.{find, replace}
+use Rattle.ocr_rule.specs.Contract.{SameRoom}
+use Rattle.ocr_rule.specs.Steps.{Sees}
+use Rattle.ocr_rule.specs.Sums.{find, replace}
 use Rattle.ocr_facts.specs.Clerks.{OcrTerms, OcrView}
 use Rattle.ocr_facts.specs.Ocr.{meaning}
 use Rattle.ocr_facts.proofs.Slots.{number_same}

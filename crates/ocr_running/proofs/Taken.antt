@@ -3,11 +3,11 @@ use Rattle.std.proofs.Common.{◌≡◌, ℕ, suc, ◌+◌, ◌≤◌, ◌==◌,
 use Rattle.ocr_code.specs.declared.checked.Checked.{Checked}
 use Rattle.ocr_parts.specs.declared.part.Part.{Part}
 use Rattle.ocr_parts.specs.declared.part.Part.TheVariants as part
-use Rattle.ocr_turns.specs.Contract.{SameRoom}
-use Rattle.ocr_turns.specs.Steps.{Sees}
-use Rattle.ocr_turns.specs.Sums.{as_some, find, keys, one_at, replace, weigh}
-use Rattle.ocr_turns.proofs.Numbered.{weigh_keys}
-use Rattle.ocr_turns.proofs.Totals.{one_here, weigh_append}
+use Rattle.ocr_rule.specs.Contract.{SameRoom}
+use Rattle.ocr_rule.specs.Steps.{Sees}
+use Rattle.ocr_rule.specs.Sums.{as_some, find, keys, one_at, replace, weigh}
+use Rattle.ocr_rule.proofs.Numbered.{weigh_keys}
+use Rattle.ocr_rule.proofs.Totals.{one_here, weigh_append}
 use Rattle.ocr_facts.specs.Clerks.{OcrTerms, OcrView}
 use Rattle.ocr_facts.specs.Ocr.{meaning}
 use Rattle.ocr_facts.proofs.Slots.{number_same}

@@ -13,7 +13,7 @@ use Rattle.ocr_parts.specs.declared.part.Part.{Part}
 use Rattle.ocr_parts.specs.Footprint.{and_face, and_wanted, makes_core}
 use Rattle.ocr_parts.specs.Kinds.{home_on}
 use Rattle.ocr_parts.specs.LegalOn.{last_of}
-use Rattle.ocr_turns.specs.Owing.{times}
+use Rattle.ocr_rule.specs.Owing.{times}
 use Rattle.ocr_facts.specs.Clerks.{OcrView}
 use Rattle.ocr_facts.specs.Ocr.{beside}
 

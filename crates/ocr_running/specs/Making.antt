@@ -12,9 +12,9 @@ use Rattle.ocr_parts.specs.declared.part.Part.TheVariants as part
 use Rattle.ocr_parts.specs.Effects.{settled_core}
 use Rattle.ocr_parts.specs.Taken.{look}
 use Rattle.ocr_template.specs.Template.{counts_of}
-use Rattle.ocr_turns.specs.Contract.{SameHand}
-use Rattle.ocr_turns.specs.Steps.{Sees, with_drawn}
-use Rattle.ocr_turns.specs.Sums.{AreBelow}
+use Rattle.ocr_rule.specs.Contract.{SameHand}
+use Rattle.ocr_rule.specs.Steps.{Sees, with_drawn}
+use Rattle.ocr_rule.specs.Sums.{AreBelow}
 use Rattle.ocr_facts.specs.Ocr.{meaning}
 use Rattle.ocr_clerks.specs.Entering.{OcrKnown}
 use Rattle.ocr_running.specs.Calls.{IsAnswer, drawn_for}

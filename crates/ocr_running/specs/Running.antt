@@ -20,9 +20,9 @@ use Rattle.ocr_slots.specs.declared.Slot.{Slot}
 use Rattle.ocr_standing.specs.Kept.{plan_from}
 use Rattle.ocr_code.specs.Checked.{checked_tree}
 use Rattle.ocr_facts.specs.Facts.{body_by}
-use Rattle.ocr_turns.specs.Owing.{listed}
-use Rattle.ocr_turns.specs.Steps.{Sees}
-use Rattle.ocr_turns.specs.Sums.{as_some, keys}
+use Rattle.ocr_rule.specs.Owing.{listed}
+use Rattle.ocr_rule.specs.Steps.{Sees}
+use Rattle.ocr_rule.specs.Sums.{as_some, keys}
 use Rattle.ocr_facts.specs.Clerks.{OcrTerms, OcrView}
 use Rattle.ocr_facts.specs.Ocr.{beside, counts, meaning}
 use Rattle.ocr_steal.specs.declared.hand.Hand as deque

@@ -14,8 +14,8 @@ use Rattle.ocr_parts.specs.declared.part.Part.{Part}
 use Rattle.ocr_parts.specs.Bodies.{hold_of}
 use Rattle.ocr_parts.specs.Kinds.{kept_on, mode_on}
 use Rattle.ocr_parts.specs.Taken.{is_within}
-use Rattle.ocr_turns.specs.Rule.{RunsIn}
-use Rattle.ocr_turns.specs.Sums.{entries}
+use Rattle.ocr_rule.specs.Rule.{RunsIn}
+use Rattle.ocr_rule.specs.Sums.{entries}
 use Rattle.ocr_facts.specs.Clerks.{OcrTerms, OcrView}
 use Rattle.ocr_facts.specs.Facts.{body_by}
 use Rattle.ocr_facts.specs.Ocr.{ends, starts}

@@ -6,7 +6,7 @@ ghost use Rattle.ocr_meaning.specs.Holds.{is_done, private_of};
 ghost use Rattle.ocr_parts.specs.Codes.{code_of};
 ghost use Rattle.ocr_parts.specs.Legal.{carried};
 ghost use Rattle.ocr_parts.specs.Taken.{face_in};
-ghost use Rattle.ocr_turns.specs.Sums.{as_some};
+ghost use Rattle.ocr_rule.specs.Sums.{as_some};
 ghost use Rattle.ocr_clerks.specs.Entering.{OcrKnown};
 ghost use Rattle.ocr_clerks.specs.Work.{AtWork, IsGone, Stays};
 ghost use Rattle.ocr_running.specs.Calls.{IsAnswer, IsCoded, drawn_for, faces_of};

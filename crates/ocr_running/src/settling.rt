@@ -3,7 +3,7 @@
 ghost use Rattle.std.specs.Prelude.{◌≡◌, ◌∷◌, [], List, ℕ, OnOk, OnErr};
 ghost use Rattle.ocr_meaning.specs.Body.{Body};
 ghost use Rattle.ocr_clerks.specs.Work.{AtWork, IsGone, Stays};
-ghost use Rattle.ocr_turns.specs.Owing.{listed};
+ghost use Rattle.ocr_rule.specs.Owing.{listed};
 ghost use Rattle.ocr_running.specs.Running.{AreOthers, HasEntered, IsPushed, Runs, first_in, holds_at};
 
 use ocr_clerks::{Gate, Job, Ocr, Over, close_memory, give_faces};

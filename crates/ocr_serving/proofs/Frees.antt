@@ -30,11 +30,11 @@ use Rattle.ocr_parts.specs.Taken as taken
 use Rattle.ocr_parts.proofs.Lent.{loan_kept}
 use Rattle.ocr_parts.proofs.Within.{within_law}
 use Rattle.ocr_standing.proofs.Working.{freeing_law}
-use Rattle.ocr_turns.specs.Owing.{times}
-use Rattle.ocr_turns.specs.Rule.{Fits, RunsIn}
-use Rattle.ocr_turns.specs.Sums.{as_some, keys, one_at, sum_of, weigh}
-use Rattle.ocr_turns.proofs.Numbered.{weigh_keys}
-use Rattle.ocr_turns.proofs.Totals.{one_here}
+use Rattle.ocr_rule.specs.Owing.{times}
+use Rattle.ocr_rule.specs.Rule.{Fits, RunsIn}
+use Rattle.ocr_rule.specs.Sums.{as_some, keys, one_at, sum_of, weigh}
+use Rattle.ocr_rule.proofs.Numbered.{weigh_keys}
+use Rattle.ocr_rule.proofs.Totals.{one_here}
 use Rattle.ocr_facts.specs.Clerks.{AreAtHand, OcrView, of_terms}
 use Rattle.ocr_facts.specs.Ocr.{ends, meaning, starts, touches, wakes}
 use Rattle.ocr_facts.proofs.Owed.{hand_counted}

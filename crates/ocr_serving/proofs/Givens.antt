@@ -18,7 +18,7 @@ use Rattle.ocr_parts.specs.Effects.{made_ready, settled_core, started_edt, with_
 use Rattle.ocr_parts.specs.Kinds.{core_progress, holds_of, is_acquiring_edt, is_running, progress_in, work_in}
 use Rattle.ocr_parts.specs.Loans.{kept_in, settled_loans}
 use Rattle.ocr_standing.specs.Kept.{filled, plan_from}
-use Rattle.ocr_turns.specs.Sums.{find}
+use Rattle.ocr_rule.specs.Sums.{find}
 use Rattle.ocr_facts.specs.Clerks.{OcrView}
 use Rattle.ocr_facts.specs.Facts.{body_by, holds_by, stale_in}
 use Rattle.ocr_facts.proofs.Slots.{number_same}

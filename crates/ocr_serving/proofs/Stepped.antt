@@ -9,9 +9,9 @@ use Rattle.ocr_parts.specs.declared.part.Part.TheVariants as part
 use Rattle.ocr_parts.specs.Effects.{core_with, settled_core}
 use Rattle.ocr_parts.specs.Loans.{settled_loan, settled_loans}
 use Rattle.ocr_datablock.specs.Lent.{Loan}
-use Rattle.ocr_turns.specs.Contract.{SameRoom}
-use Rattle.ocr_turns.specs.Steps.{Sees}
-use Rattle.ocr_turns.specs.Sums.{find, replace}
+use Rattle.ocr_rule.specs.Contract.{SameRoom}
+use Rattle.ocr_rule.specs.Steps.{Sees}
+use Rattle.ocr_rule.specs.Sums.{find, replace}
 use Rattle.ocr_facts.specs.Clerks.{OcrTerms, OcrView}
 use Rattle.ocr_facts.specs.Ocr.{meaning}
 use Rattle.ocr_facts.proofs.Slots.{number_same}

@@ -13,7 +13,7 @@ use Rattle.ocr_history.specs.declared.entry.Entry.TheVariants as an
 use Rattle.ocr_parts.specs.declared.part.Core.{Core}
 use Rattle.ocr_parts.specs.declared.part.Part.TheVariants as part
 use Rattle.ocr_parts.specs.Kinds.{work_in}
-use Rattle.ocr_turns.specs.Contract.{SameRoom}
+use Rattle.ocr_rule.specs.Contract.{SameRoom}
 use Rattle.ocr_facts.specs.Clerks.{OcrTerms}
 use Rattle.ocr_clerks.specs.Entering.{OcrKnown}
 use Rattle.ocr_clerks.specs.Work.{AtWork, IsGone, OcrTable}

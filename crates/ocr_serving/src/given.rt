@@ -6,7 +6,7 @@ ghost use Rattle.ocr_parts.specs.Effects.{settled_core};
 ghost use Rattle.ocr_parts.specs.Kinds.{is_running};
 ghost use Rattle.ocr_slots.specs.Slots.{slot_at};
 ghost use Rattle.ocr_slots.specs.declared.Slot.{Slot};
-ghost use Rattle.ocr_turns.specs.Sums.{find};
+ghost use Rattle.ocr_rule.specs.Sums.{find};
 ghost use Rattle.ocr_clerks.specs.Work.{AtWork, CanRun, IsGone, Stays};
 ghost use Rattle.ocr_serving.specs.Given.{are_used, is_used, value_by, values_by};
 ghost use Rattle.ocr_serving.specs.Serving.{HasCore, IsGiven, IsRead, StepsCore};

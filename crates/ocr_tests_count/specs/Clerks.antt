@@ -3,9 +3,9 @@ use Rattle.std.specs.Prelude.{◌≡◌, ◌<◌, ◌≤◌, ◌+◌, ℕ, List,
 use mathlib.Core.Option.{some}
 use lib.ListN.{get_elem?}
 use Rattle.atomic_table.specs.Seated.{TableId}
-use Rattle.ocr_turns.specs.Contract.{IsOf, Known}
-use Rattle.ocr_turns.specs.Sums.{one_at, sum_of}
-use Rattle.ocr_turns.specs.declared.view.Terms.{Terms}
+use Rattle.ocr_rule.specs.Contract.{IsOf, Known}
+use Rattle.ocr_rule.specs.Sums.{one_at, sum_of}
+use Rattle.ocr_rule.specs.declared.view.Terms.{Terms}
 use Rattle.ocr_tests_count.specs.declared.toy.Entry.{Entry}
 
 -- a clerk of the toy

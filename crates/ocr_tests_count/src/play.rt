@@ -1,6 +1,6 @@
 // What clerks do with the toy's EDT.
 ghost use Rattle.std.specs.Prelude.{◌≡◌, All, true, ◌<◌, ◌≤◌, ◌+◌, ◌++◌, ◌∷◌, [], Some, IfOk, MatchOption};
-ghost use Rattle.ocr_turns.specs.Contract.{IsOf, TermsAre};
+ghost use Rattle.ocr_rule.specs.Contract.{IsOf, TermsAre};
 ghost use Rattle.ocr_tests_count.specs.Clerks.{CanMake, CanSet, CanWait, CanWake, IsIdle, Owes};
 
 use crate::toy::{Entry, FILLED, OPEN, SLOTS, Toy, UNMADE, WAITING, WAITS};

@@ -6,11 +6,11 @@ use Rattle.std.proofs.lemmas.List.{reverse-append}
 use mathlib.Core.Option.{some, some-injective, some-ne-none}
 use lib.ListN.{get_elem?}
 use Rattle.ocr_mail.specs.Mail.{Has}
-use Rattle.ocr_turns.specs.declared.view.View.{View}
-use Rattle.ocr_turns.specs.declared.view.Terms.{Terms}
-use Rattle.ocr_turns.specs.Contract.{Claims, Keeps, Legal, MayClose, MayCommit}
-use Rattle.ocr_turns.specs.Steps.{deed}
-use Rattle.ocr_turns.specs.Sums.{weigh, one_at}
+use Rattle.ocr_rule.specs.declared.view.View.{View}
+use Rattle.ocr_rule.specs.declared.view.Terms.{Terms}
+use Rattle.ocr_rule.specs.Contract.{Claims, Keeps, Legal, MayClose, MayCommit}
+use Rattle.ocr_rule.specs.Steps.{deed}
+use Rattle.ocr_rule.specs.Sums.{weigh, one_at}
 use Rattle.ocr_tests_turns.specs.declared.toy.Entry.{Entry}
 use Rattle.ocr_tests_turns.specs.declared.toy.Entry.TheVariants.{Add, Stop}
 use Rattle.ocr_tests_turns.specs.Toy.{counter_at, legal, part, meaning}

@@ -1,8 +1,8 @@
 -- Clerks of the toy that are made and come home.
 use Rattle.std.proofs.Common.{◌≡◌, ℕ, ◌+◌, ◌-◌, ◌≤◌, [], ap, ◌∙◌, arith}
 use Rattle.atomic_table.specs.Seated.{TableId}
-use Rattle.ocr_turns.specs.Steps.{fresh, gathered, parted}
-use Rattle.ocr_turns.specs.declared.view.Terms.{Terms}
+use Rattle.ocr_rule.specs.Steps.{fresh, gathered, parted}
+use Rattle.ocr_rule.specs.declared.view.Terms.{Terms}
 use Rattle.ocr_tests_turns.specs.Clerks.{Hand, IsIdle, IsRoot}
 
 pub hired : (t : TableId × Terms ℕ) (root clerk : Hand) (n : ℕ) → IsRoot t root n → clerk.table ≡ root.table → clerk.view ≡ fresh root.view → clerk.parts ≡ [] → 1 ≤ clerk.room → 64 ≤ clerk.spare → IsIdle t clerk

@@ -1,11 +1,11 @@
 -- What the tests ask of a clerk.
 use Rattle.std.specs.Prelude.{◌≡◌, ◌≤◌, ℕ, List, [], length}
 use Rattle.atomic_table.specs.Seated.{TableId}
-use Rattle.ocr_turns.specs.Contract.{IsOf, Known}
-use Rattle.ocr_turns.specs.Meaning.{Run}
-use Rattle.ocr_turns.specs.Rule.{LogsOf}
-use Rattle.ocr_turns.specs.Sums.{below, weigh_all}
-use Rattle.ocr_turns.specs.declared.view.Terms.{Terms}
+use Rattle.ocr_rule.specs.Contract.{IsOf, Known}
+use Rattle.ocr_rule.specs.Meaning.{Run}
+use Rattle.ocr_rule.specs.Rule.{LogsOf}
+use Rattle.ocr_rule.specs.Sums.{below, weigh_all}
+use Rattle.ocr_rule.specs.declared.view.Terms.{Terms}
 use Rattle.ocr_tests_turns.specs.declared.toy.Entry.{Entry}
 use Rattle.ocr_tests_turns.specs.Toy.{legal}
 

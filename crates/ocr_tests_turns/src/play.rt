@@ -1,7 +1,7 @@
 // What clerks do with the toy's counters.
 ghost use Rattle.std.specs.Prelude.{◌≡◌, ◌<◌, ◌≤◌, ◌+◌, ◌*◌, [], All, IfOk, IsTrue, vec_len};
 ghost use Rattle.ocr_mail.specs.Mail as mail;
-ghost use Rattle.ocr_turns.specs.Contract.{IsOf};
+ghost use Rattle.ocr_rule.specs.Contract.{IsOf};
 ghost use Rattle.ocr_tests_turns.specs.Clerks.{IsIdle, IsOut};
 
 use crate::toy::{Entry, Toy};

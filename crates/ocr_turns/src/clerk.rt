@@ -3,13 +3,12 @@ ghost use Rattle.std.specs.Prelude.{◌≡◌, ◌<◌, ◌≤◌, ◌+◌, ℕ,
 ghost use Rattle.std.specs.List.{remove};
 ghost use mathlib.Core.Option.{some};
 ghost use lib.ListN.{get_elem?};
-ghost use Rattle.ocr_turns.specs.Clerks.{IsFirst};
-ghost use Rattle.ocr_turns.specs.Sums.{find, replace};
-ghost use Rattle.ocr_turns.specs.Contract.{SameRoom};
+ghost use Rattle.ocr_rule.specs.Clerks.{IsFirst};
+ghost use Rattle.ocr_rule.specs.Sums.{find, replace};
+ghost use Rattle.ocr_rule.specs.Contract.{SameRoom};
 
-use crate::machine::Machine;
-use crate::view::View;
 use atomic_table::Seat;
+use ocr_rule::{Machine, View};
 use std::marker::Model;
 
 /// The parts that a clerk keeps, by place. `None` stands where a part was lifted.
@@ -34,10 +33,10 @@ pub struct Clerk<M: Machine> {
 
 impl<M: Machine> Model for Clerk<M> {
     ghost use Rattle.std.specs.Prelude.{◌≡◌, ◌≤◌, ◌⊎◌, ℕ, List, vec_capacity, ◌-◌, length, map, [], None, MatchOption};
-    ghost use Rattle.ocr_turns.specs.declared.view.View.{View};
+    ghost use Rattle.ocr_rule.specs.declared.view.View.{View};
     ghost use Rattle.atomic_table.specs.Seated.{TableId};
-    ghost use Rattle.ocr_turns.specs.Contract.{Known};
-    ghost use Rattle.ocr_turns.specs.Clerks.{IsTrueTo};
+    ghost use Rattle.ocr_rule.specs.Contract.{Known};
+    ghost use Rattle.ocr_rule.specs.Clerks.{IsTrueTo};
 
     ghost Value = { Known M.Setting M.Entry M.Part M.Message M.Fact };
 

@@ -1,14 +1,14 @@
 // The end: the logs of all clerks.
 ghost use Rattle.std.specs.Prelude.{◌≡◌, ◌<◌, ◌≤◌, ◌+◌, ◌^◌, map, length, IfOk};
 ghost use Rattle.std.specs.Slots.{IsFull};
-ghost use Rattle.ocr_turns.specs.Sums.{weigh_all};
-ghost use Rattle.ocr_turns.specs.Contract.{Finished, IsOf};
+ghost use Rattle.ocr_rule.specs.Sums.{weigh_all};
+ghost use Rattle.ocr_rule.specs.Contract.{Finished, IsOf};
 
 use crate::clerk::Clerk;
-use crate::machine::Machine;
 use crate::turns::Turns;
 use atomic_table::Closed;
 use ocr_base::NoMemory;
+use ocr_rule::Machine;
 use std::alloc::Global;
 use std::marker::Model;
 

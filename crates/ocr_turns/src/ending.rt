@@ -1,15 +1,13 @@
 // Entering an entry that ends the run.
 ghost use Rattle.std.specs.Prelude.{◌≡◌, ◌<◌, ◌≤◌, ◌+◌, None, Some};
-ghost use Rattle.ocr_turns.specs.Steps as steps;
-ghost use Rattle.ocr_turns.specs.Contract.{CloseTells, IsOf, MayClose};
+ghost use Rattle.ocr_rule.specs.Steps as steps;
+ghost use Rattle.ocr_rule.specs.Contract.{CloseTells, IsOf, MayClose};
 
-use crate::answers::Committed;
 use crate::clerk::Clerk;
-use crate::machine::Machine;
-use crate::rule::{Closes, Stops};
 use crate::turns::{COMMIT, ENDED, Turns};
-use crate::view::View;
 use atomic_table::Seat;
+use ocr_rule::rule::{Closes, Stops};
+use ocr_rule::{Committed, Machine, View};
 use std::marker::Brand;
 
 impl<M: Machine> Turns<M> {

@@ -1,19 +1,17 @@
 // Entering an entry that does not end the run.
 ghost use Rattle.std.specs.Prelude.{◌≡◌, ◌<◌, ◌≤◌, ◌+◌, ◌^◌, ◌++◌, ℕ, None, Some, vec_len, vec_capacity, length, IfOk};
 ghost use Rattle.ocr_mail.specs.Mail as mail;
-ghost use Rattle.ocr_turns.specs.Steps as steps;
-ghost use Rattle.ocr_turns.specs.Clerks.{HasKeys, IsFirstNamed};
-ghost use Rattle.ocr_turns.specs.Sums.{as_some, replace_all};
-ghost use Rattle.ocr_turns.specs.Contract.{CommitTells, IsOf, MayCommit};
+ghost use Rattle.ocr_rule.specs.Steps as steps;
+ghost use Rattle.ocr_rule.specs.Clerks.{HasKeys, IsFirstNamed};
+ghost use Rattle.ocr_rule.specs.Sums.{as_some, replace_all};
+ghost use Rattle.ocr_rule.specs.Contract.{CommitTells, IsOf, MayCommit};
 
-use crate::answers::{Change, Committed};
 use crate::clerk::{Clerk, Hand, swap_part, take_out};
-use crate::machine::Machine;
-use crate::rule::{Commits, Told};
 use crate::turns::{COMMIT, ENDED, Turns};
-use crate::view::View;
 use atomic_table::Seat;
 use ocr_base::NoMemory;
+use ocr_rule::rule::{Commits, Told};
+use ocr_rule::{Change, Committed, Machine, View};
 use std::alloc::Global;
 use std::marker::Brand;
 

@@ -1,16 +1,15 @@
 // Giving back a part.
 ghost use Rattle.std.specs.Prelude.{◌≡◌, ◌<◌, ◌≤◌, ◌+◌, ◌*◌, ◌-◌, ℕ, [], Option, None, Some, length, vec_capacity};
-ghost use Rattle.ocr_turns.specs.Sums.{find, remove_at};
-ghost use Rattle.ocr_turns.specs.Steps.{without_part};
-ghost use Rattle.ocr_turns.specs.Contract.{GiveTells, IsOf, Loose, MayGive, Rests, SeenAs};
+ghost use Rattle.ocr_rule.specs.Sums.{find, remove_at};
+ghost use Rattle.ocr_rule.specs.Steps.{without_part};
+ghost use Rattle.ocr_rule.specs.Contract.{GiveTells, IsOf, Loose, MayGive, Rests, SeenAs};
 
 use crate::clerk::{Clerk, Hand, position, take_out};
-use crate::machine::Machine;
-use crate::rule::{Fetches, Returns};
 use crate::taking::TURNS;
 use crate::turns::Turns;
-use crate::view::View;
 use atomic_table::Seat;
+use ocr_rule::rule::{Fetches, Returns};
+use ocr_rule::{Machine, View};
 
 impl<M: Machine> Turns<M> {
     /// Puts a kept part back into its slot, and frees its turn. A clerk that knows that the run has

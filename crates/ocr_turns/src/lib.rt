@@ -2,29 +2,20 @@
 //! entries that clerks make, in however many threads, are one history.
 #![tactic(auto)]
 
-mod answers;
 mod clerk;
 mod closing;
-mod debts;
 mod ending;
 mod entering;
 mod giving;
-mod laws;
-mod machine;
 mod opening;
-mod rule;
 mod seats;
 mod taking;
 mod turns;
-mod view;
 mod words;
 
-pub use answers::{Change, Committed, Drawn, Taken};
 pub use clerk::Clerk;
 pub use closing::Closing;
-pub use debts::Debts;
-pub use laws::sole_laws;
-pub use machine::Machine;
+pub use ocr_rule::{
+    Change, Committed, Debts, Drawn, Machine, Taken, Terms, View, WordStep, sole_laws,
+};
 pub use turns::Turns;
-pub use view::{Terms, View};
-pub use words::WordStep;

@@ -1,14 +1,14 @@
 // New clerks, and clerks that come home.
 ghost use Rattle.std.specs.Prelude.{◌≡◌, ◌<◌, ◌≤◌, ◌+◌, ◌++◌, [], length, vec_len, vec_capacity, IfOk, IfErr, OnErr};
-ghost use Rattle.ocr_turns.specs.Steps as steps;
-ghost use Rattle.ocr_turns.specs.Contract.{IsOf, SameHand};
+ghost use Rattle.ocr_rule.specs.Steps as steps;
+ghost use Rattle.ocr_rule.specs.Contract.{IsOf, SameHand};
 
 use crate::clerk::Clerk;
-use crate::machine::Machine;
 use crate::opening::KEPT;
-use crate::rule::Cut;
 use crate::turns::Turns;
 use ocr_base::NoMemory;
+use ocr_rule::Machine;
+use ocr_rule::rule::Cut;
 use std::alloc::{AllocError, AllocFailed, Global};
 
 impl<M: Machine> Turns<M> {

@@ -1,15 +1,13 @@
 // Taking a part, and waiting for its turn.
 ghost use Rattle.std.specs.Prelude.{◌≡◌, ◌<◌, ◌≤◌, ◌+◌, ◌*◌, [], None, MatchOption};
-ghost use Rattle.ocr_turns.specs.Steps.{SeesBoth, with_part};
-ghost use Rattle.ocr_turns.specs.Contract.{TakeTells, IsOf};
+ghost use Rattle.ocr_rule.specs.Steps.{SeesBoth, with_part};
+ghost use Rattle.ocr_rule.specs.Contract.{TakeTells, IsOf};
 
-use crate::answers::Taken;
 use crate::clerk::Clerk;
-use crate::machine::Machine;
-use crate::rule::{Settles, Takes};
 use crate::turns::Turns;
-use crate::view::View;
 use atomic_table::Seat;
+use ocr_rule::rule::{Settles, Takes};
+use ocr_rule::{Machine, Taken, View};
 use std::sync::Wait;
 use std::thread;
 

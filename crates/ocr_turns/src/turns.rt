@@ -1,13 +1,11 @@
 // The table, and the calls on its commit word and its draw word that make no entry.
 ghost use Rattle.std.specs.Prelude.{◌≡◌, ◌<◌, ◌≤◌, ◌+◌, ◌^◌, None, Some, MatchOption};
-ghost use Rattle.ocr_turns.specs.Contract.{DrawTells, LookTells, IsOf};
+ghost use Rattle.ocr_rule.specs.Contract.{DrawTells, LookTells, IsOf};
 
-use crate::answers::Drawn;
 use crate::clerk::Clerk;
-use crate::machine::Machine;
-use crate::rule::{Draws, Looks, Rules};
-use crate::view::{Terms, View};
 use atomic_table::Table;
+use ocr_rule::rule::{Draws, Looks, Rules};
+use ocr_rule::{Drawn, Machine, Terms, View};
 use std::alloc::Global;
 use std::marker::Model;
 
@@ -34,9 +32,9 @@ pub struct Turns<M: Machine> {
 
 impl<M: Machine> Model for Turns<M> {
     ghost use Rattle.std.specs.Prelude.{◌≡◌, ◌≤◌, ◌+◌};
-    ghost use Rattle.ocr_turns.specs.declared.view.Terms.{Terms};
+    ghost use Rattle.ocr_rule.specs.declared.view.Terms.{Terms};
     ghost use Rattle.atomic_table.specs.Seated.{TableId};
-    ghost use Rattle.ocr_turns.specs.Clerks.{IsLaidFor};
+    ghost use Rattle.ocr_rule.specs.Clerks.{IsLaidFor};
 
     ghost Value = { TableId × Terms M.Setting };
 

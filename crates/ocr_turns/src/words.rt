@@ -1,16 +1,15 @@
 // The words that count an EDT's open slots, behind the turn words.
 ghost use Rattle.std.specs.Prelude.{◌≡◌, ◌<◌, ◌≤◌, ◌+◌, ◌*◌, ◌-◌, Some};
-ghost use Rattle.ocr_turns.specs.Counting.{state_at};
-ghost use Rattle.ocr_turns.specs.Owing.{IsNumber};
-ghost use Rattle.ocr_turns.specs.Words.{FitsSlots, MayStep, StepTells, steps_word};
-ghost use Rattle.ocr_turns.specs.Contract.{IsOf, SameHand};
+ghost use Rattle.ocr_rule.specs.Counting.{state_at};
+ghost use Rattle.ocr_rule.specs.Owing.{IsNumber};
+ghost use Rattle.ocr_rule.specs.Words.{FitsSlots, MayStep, StepTells, steps_word};
+ghost use Rattle.ocr_rule.specs.Contract.{IsOf, SameHand};
 
 use crate::clerk::Clerk;
-use crate::machine::Machine;
 use crate::taking::TURNS;
 use crate::turns::Turns;
-use crate::view::View;
 use atomic_table::{Play, Seat};
+use ocr_rule::{Machine, View, WordStep};
 use std::marker::{Brand, PhantomData};
 
 /// The words of an EDT that can be claimed, that is claimed, and that waits.
@@ -23,28 +22,10 @@ const PARKED: u64 = 65;
 /// making.
 const UNMADE: u64 = 33;
 
-/// A step on the words of one EDT.
-pub enum WordStep {
-    /// Puts the payload of a slot into its word.
-    Put { slot: u32, payload: u64 },
-    /// Counts a slot whose payload was put.
-    Count,
-    /// Counts the making of the EDT, which has so many slots.
-    CountMade { slots: u32 },
-    /// Reads the payload of a slot.
-    Read { slot: u32 },
-    /// Claims the EDT, where it is ready.
-    Claim,
-    /// Gives up the claim of an EDT that waits.
-    Park,
-    /// Makes an EDT ready that was parked and was resumed.
-    Resume,
-}
-
 // Which step is made, for the proof alone. A call at `Brand` picks it.
 pub(crate) trait Chosen {
     ghost use Rattle.std.specs.Prelude.{Option, ℕ};
-    ghost use Rattle.ocr_turns.specs.declared.words.WordStep.{WordStep};
+    ghost use Rattle.ocr_rule.specs.declared.words.WordStep.{WordStep};
 
     ghost step: { Option (ℕ × WordStep) };
 }

@@ -28,7 +28,7 @@ use Rattle.ocr_facts.specs.Clerks.{AreAtHand, MayEnter, OcrTerms, OcrView, of_te
 use Rattle.ocr_facts.specs.Ocr.{meaning, stands}
 use Rattle.ocr_facts.specs.declared.fact.Fact.{Fact}
 use Rattle.ocr_facts.specs.declared.fact.Fact.TheVariants.{IsSet}
-use Rattle.ocr_turns.specs.Rule.{FactsOf, Fits}
+use Rattle.ocr_rule.specs.Rule.{FactsOf, Fits}
 use Rattle.ocr_clerks.specs.Work.{KnowsPayloads, ready_with}
 use Rattle.ocr_clerks.proofs.Hands.{number_same}
 use Rattle.ocr_clerks.proofs.Seen.{face_is}

@@ -16,11 +16,11 @@ use Rattle.ocr_standing.specs.Kept.{kept_ready, plan_from}
 use Rattle.ocr_facts.specs.Clerks.{OcrTerms, OcrView}
 use Rattle.ocr_facts.specs.Ocr.{ends, starts}
 use Rattle.ocr_standing.specs.Lasting.{is_own}
-use Rattle.ocr_turns.specs.Owing.{without_all}
-use Rattle.ocr_turns.specs.Rule.{RunsIn}
-use Rattle.ocr_turns.proofs.Totals.{among_append, entries_append}
-use Rattle.ocr_turns.specs.Sums.{as_some, entries, is_among, keys}
-use Rattle.ocr_turns.proofs.Histories.{ran}
+use Rattle.ocr_rule.specs.Owing.{without_all}
+use Rattle.ocr_rule.specs.Rule.{RunsIn}
+use Rattle.ocr_rule.proofs.Totals.{among_append, entries_append}
+use Rattle.ocr_rule.specs.Sums.{as_some, entries, is_among, keys}
+use Rattle.ocr_rule.proofs.Histories.{ran}
 use Rattle.ocr_clerks.specs.Entering.{Hand, OcrKnown}
 use Rattle.ocr_clerks.specs.Work.{EntersKept, HasTakenOn, KeepsFaces, ready_with}
 use Rattle.ocr_clerks.proofs.Entries.{turns_keys}

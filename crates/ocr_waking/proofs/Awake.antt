@@ -35,11 +35,11 @@ use Rattle.ocr_facts.specs.Ocr.{meaning, part_of, starts}
 use Rattle.ocr_facts.proofs.Runs.{run_is}
 use Rattle.ocr_facts.proofs.Slots.{slots_are, slots_in, started_is}
 use Rattle.ocr_facts.proofs.Waits.{waits_is}
-use Rattle.ocr_turns.specs.Counting.{IsSet, awaited, is_started, tied_to}
-use Rattle.ocr_turns.specs.Rule.{Claimed, Fits, LogOf}
-use Rattle.ocr_turns.specs.Sums.{entries, is_among, one_at, picked, weigh}
-use Rattle.ocr_turns.specs.Words.{Knows, SeesReady}
-use Rattle.ocr_turns.proofs.Totals.{log_none, picked_append}
+use Rattle.ocr_rule.specs.Counting.{IsSet, awaited, is_started, tied_to}
+use Rattle.ocr_rule.specs.Rule.{Claimed, Fits, LogOf}
+use Rattle.ocr_rule.specs.Sums.{entries, is_among, one_at, picked, weigh}
+use Rattle.ocr_rule.specs.Words.{Knows, SeesReady}
+use Rattle.ocr_rule.proofs.Totals.{log_none, picked_append}
 use Rattle.ocr_clerks.proofs.Seen.{core_place, face_is}
 use Rattle.ocr_waking.specs.Meeting.{IsOtherObject, IsUnbegun}
 

@@ -11,7 +11,7 @@ use Rattle.ocr_history.specs.declared.entry.Entry.TheVariants.{Acquire}
 use Rattle.ocr_parts.specs.declared.part.Part.{Part}
 use Rattle.ocr_parts.specs.declared.part.Part.TheVariants as part
 use Rattle.ocr_parts.specs.Taken as taken_parts
-use Rattle.ocr_parts.specs.Taken.{is_within, parts_in}
+use Rattle.ocr_parts.specs.Taken.{parts_in}
 use Rattle.ocr_standing.specs.Kept.{kept_ready, plan_from}
 use Rattle.ocr_facts.specs.Clerks.{AreAtHand, MayEnter}
 use Rattle.ocr_facts.specs.Ocr.{makes, meaning}
@@ -19,10 +19,10 @@ use Rattle.ocr_mail.specs.Mail.{Has}
 use Rattle.ocr_parts.specs.Legal.{is_stop}
 use Rattle.ocr_parts.specs.Messages.{delivered}
 use Rattle.ocr_facts.proofs.Places.{places_differ}
-use Rattle.ocr_turns.specs.Contract.{Claims}
-use Rattle.ocr_turns.specs.Owing.{times}
-use Rattle.ocr_turns.specs.Steps.{deed}
-use Rattle.ocr_turns.specs.Sums.{HasAll, as_some, keys, one_at, weigh}
+use Rattle.ocr_rule.specs.Contract.{Claims}
+use Rattle.ocr_rule.specs.Owing.{times}
+use Rattle.ocr_rule.specs.Steps.{deed}
+use Rattle.ocr_rule.specs.Sums.{HasAll, as_some, keys, one_at, weigh}
 use Rattle.ocr_clerks.specs.Entering.{CanMake, Hand, OcrKnown}
 use Rattle.ocr_clerks.specs.Work.{AtWork, HasAllAtHand, HasTakenOn, OcrTable, in_hand, ready_with}
 use Rattle.ocr_clerks.proofs.Counters.{CountNothing, none_counted}

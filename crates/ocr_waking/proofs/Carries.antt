@@ -9,7 +9,7 @@ use Rattle.ocr_parts.specs.Kinds.{next_in, progress_in}
 use Rattle.ocr_parts.specs.Taken.{is_within}
 use Rattle.ocr_standing.specs.Kept.{plan_from}
 use Rattle.ocr_facts.specs.Clerks.{OcrTerms, OcrView}
-use Rattle.ocr_turns.specs.Sums.{as_some, keys, replace}
+use Rattle.ocr_rule.specs.Sums.{as_some, keys, replace}
 use Rattle.ocr_clerks.specs.Entering.{Hand, OcrKnown}
 use Rattle.ocr_clerks.specs.Work.{KnowsPayloads, ready_with}
 use Rattle.ocr_clerks.proofs.Hands.{number_same}

@@ -26,9 +26,9 @@ use Rattle.ocr_standing.proofs.Plain.{now_next}
 use Rattle.ocr_facts.specs.Clerks.{OcrTerms, OcrView, of_terms}
 use Rattle.ocr_facts.specs.Ocr.{meaning}
 use Rattle.ocr_facts.proofs.Runs.{run_is}
-use Rattle.ocr_turns.specs.Contract.{SameHand}
-use Rattle.ocr_turns.specs.Steps.{Sees}
-use Rattle.ocr_turns.specs.Sums.{as_some, entries, find, is_among, replace}
+use Rattle.ocr_rule.specs.Contract.{SameHand}
+use Rattle.ocr_rule.specs.Steps.{Sees}
+use Rattle.ocr_rule.specs.Sums.{as_some, entries, find, is_among, replace}
 use Rattle.ocr_clerks.specs.Entering.{OcrKnown}
 use Rattle.ocr_clerks.specs.Work.{AtWork, CanRun, KeepsFaces, KnowsPayloads, OcrTable, Took, ready_with}
 use Rattle.ocr_clerks.proofs.Hands.{apart_is, number_same}

@@ -23,11 +23,11 @@ use Rattle.ocr_quiet.specs.Waits.{awaits_in, queue_on}
 use Rattle.ocr_standing.specs.Lasting.{is_own}
 use Rattle.ocr_facts.specs.Clerks.{OcrTerms, OcrView}
 use Rattle.ocr_facts.specs.Ocr.{meaning, starts}
-use Rattle.ocr_turns.specs.Counting.{IsSet}
-use Rattle.ocr_turns.specs.Rule.{Fits}
-use Rattle.ocr_turns.specs.Steps.{Sees, SeesBoth}
-use Rattle.ocr_turns.specs.Sums.{as_some, entries, find, is_among, keys}
-use Rattle.ocr_turns.specs.Words.{SeesReady}
+use Rattle.ocr_rule.specs.Counting.{IsSet}
+use Rattle.ocr_rule.specs.Rule.{Fits}
+use Rattle.ocr_rule.specs.Steps.{Sees, SeesBoth}
+use Rattle.ocr_rule.specs.Sums.{as_some, entries, find, is_among, keys}
+use Rattle.ocr_rule.specs.Words.{SeesReady}
 use Rattle.ocr_clerks.specs.Entering.{OcrKnown}
 use Rattle.ocr_clerks.specs.Work.{AtWork, HasTakenOn, KeepsFaces, OcrTable, Stays, Took}
 use Rattle.ocr_clerks.proofs.Hands.{number_same, took_more}

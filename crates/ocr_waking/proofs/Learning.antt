@@ -22,7 +22,7 @@ use Rattle.ocr_facts.specs.declared.fact.Fact.TheVariants.{IsSet}
 use Rattle.ocr_facts.proofs.Runs.{run_is}
 use Rattle.ocr_facts.proofs.Slots.{slots_are, slots_in}
 use Rattle.ocr_standing.proofs.Filled.{many}
-use Rattle.ocr_turns.specs.Words.{HasSlot, learning}
+use Rattle.ocr_rule.specs.Words.{HasSlot, learning}
 use Rattle.ocr_clerks.specs.Work.{KnowsPayloads}
 use Rattle.ocr_clerks.proofs.Seen.{face_is}
 use Rattle.ocr_waking.specs.Waking.{KeepsFace, Learns}

@@ -16,12 +16,12 @@ use Rattle.ocr_parts.proofs.Within.{within_law}
 use Rattle.ocr_quiet.specs.Marks.{mark}
 use Rattle.ocr_quiet.specs.Waits.{queue_on}
 use Rattle.ocr_quiet.proofs.Stages.{told_law}
-use Rattle.ocr_turns.specs.Counting.{IsSet, awaited, is_started, tied_to}
-use Rattle.ocr_turns.specs.Owing.{times}
-use Rattle.ocr_turns.specs.Rule.{Fits}
-use Rattle.ocr_turns.specs.Steps.{Sees}
-use Rattle.ocr_turns.specs.Sums.{one_at, weigh}
-use Rattle.ocr_turns.specs.Words.{Knows, SeesReady}
+use Rattle.ocr_rule.specs.Counting.{IsSet, awaited, is_started, tied_to}
+use Rattle.ocr_rule.specs.Owing.{times}
+use Rattle.ocr_rule.specs.Rule.{Fits}
+use Rattle.ocr_rule.specs.Steps.{Sees}
+use Rattle.ocr_rule.specs.Sums.{one_at, weigh}
+use Rattle.ocr_rule.specs.Words.{Knows, SeesReady}
 use Rattle.ocr_facts.specs.Clerks.{OcrTerms, OcrView, of_terms}
 use Rattle.ocr_facts.specs.Ocr.{meaning}
 use Rattle.ocr_facts.proofs.Awaiting.{IsQueued}

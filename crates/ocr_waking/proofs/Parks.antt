@@ -25,10 +25,10 @@ use Rattle.ocr_standing.specs.Lasting.{is_own}
 use Rattle.ocr_facts.specs.Clerks.{OcrTerms, OcrView}
 use Rattle.ocr_facts.specs.Ocr.{meaning, starts}
 use Rattle.ocr_facts.proofs.Queues.{refused_queue}
-use Rattle.ocr_turns.specs.Sums.{as_some, entries, is_among, keys, replace}
+use Rattle.ocr_rule.specs.Sums.{as_some, entries, is_among, keys, replace}
 use Rattle.ocr_clerks.specs.Entering.{Hand, OcrKnown}
 use Rattle.ocr_code.specs.declared.checked.Checked.{Checked}
-use Rattle.ocr_turns.specs.Words.{SeesReady}
+use Rattle.ocr_rule.specs.Words.{SeesReady}
 use Rattle.ocr_clerks.specs.Work.{AtWork, EntersKept, HasTakenOn, KeepsFaces, OcrTable, RunsNone, RunsOnly, Stays, ready_with}
 use Rattle.ocr_clerks.proofs.Going.{stays_both, stays_still}
 use Rattle.ocr_clerks.proofs.Hands.{apart_is, number_same}

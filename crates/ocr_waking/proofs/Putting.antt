@@ -5,7 +5,7 @@ use Rattle.ocr_slots.specs.declared.Slot.{Slot}
 use Rattle.ocr_parts.specs.declared.part.Core.{Core}
 use Rattle.ocr_parts.specs.declared.part.Part.{Part}
 use Rattle.ocr_parts.specs.declared.part.Part.TheVariants as part
-use Rattle.ocr_turns.specs.Sums.{find, replace}
+use Rattle.ocr_rule.specs.Sums.{find, replace}
 use Rattle.ocr_clerks.proofs.Hands.{apart_is, number_same}
 
 abbrev Hands : Type 0

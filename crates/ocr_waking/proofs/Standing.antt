@@ -28,10 +28,10 @@ use Rattle.ocr_quiet.specs.Quiet.{IsWakingOf}
 use Rattle.ocr_quiet.proofs.Edts.{edts_law}
 use Rattle.ocr_quiet.proofs.Sleeping.{wake_law}
 use Rattle.ocr_standing.specs.Kept.{IsFilled, plan_from}
-use Rattle.ocr_turns.specs.Counting.{IsSet, awaited}
-use Rattle.ocr_turns.specs.Counting as counting
-use Rattle.ocr_turns.specs.Rule.{Fits}
-use Rattle.ocr_turns.specs.Words.{SeesReady}
+use Rattle.ocr_rule.specs.Counting.{IsSet, awaited}
+use Rattle.ocr_rule.specs.Counting as counting
+use Rattle.ocr_rule.specs.Rule.{Fits}
+use Rattle.ocr_rule.specs.Words.{SeesReady}
 use Rattle.ocr_facts.specs.Clerks.{OcrTerms, OcrView, of_terms}
 use Rattle.ocr_facts.specs.Ocr.{meaning}
 use Rattle.ocr_facts.proofs.Awaiting.{IsQueued}

@@ -11,14 +11,14 @@ use Rattle.ocr_parts.specs.Effects.{made_ready}
 use Rattle.ocr_parts.specs.Kinds.{next_in, progress_in}
 use Rattle.ocr_quiet.specs.Waits.{awaits_in}
 use Rattle.ocr_standing.specs.Kept.{plan_from}
-use Rattle.ocr_turns.specs.Words.{SeesReady}
+use Rattle.ocr_rule.specs.Words.{SeesReady}
 use Rattle.ocr_history.specs.declared.entry.Entry.{Entry}
 use Rattle.ocr_parts.specs.declared.part.Part.{Part}
 use Rattle.ocr_parts.specs.declared.part.Part.TheVariants as part
 use Rattle.ocr_standing.specs.Lasting.{is_own}
-use Rattle.ocr_turns.specs.Rule.{RunsIn}
-use Rattle.ocr_turns.specs.Sums.{as_some, entries, find, is_among, keys}
-use Rattle.ocr_turns.specs.Contract.{SameHand}
+use Rattle.ocr_rule.specs.Rule.{RunsIn}
+use Rattle.ocr_rule.specs.Sums.{as_some, entries, find, is_among, keys}
+use Rattle.ocr_rule.specs.Contract.{SameHand}
 use Rattle.ocr_slots.specs.declared.Slot.{Slot}
 use Rattle.ocr_parts.specs.Taken.{is_within}
 use Rattle.std.specs.Option.{IfNone, IfSome}

@@ -13,7 +13,7 @@ use Rattle.ocr_parts.specs.Effects.{made_ready, ready_at, with_phase}
 use Rattle.ocr_parts.specs.Footprint.{and_core, and_face}
 use Rattle.ocr_parts.specs.Kinds.{on_core}
 use Rattle.ocr_parts.specs.Taken.{as_face, core_in, face_in, has, is_within, look, parts_in}
-use Rattle.ocr_turns.specs.Sums.{one_at, sum_of, weigh}
+use Rattle.ocr_rule.specs.Sums.{one_at, sum_of, weigh}
 use Rattle.ocr_clerks.proofs.Hands.{apart_is, number_same}
 use Rattle.ocr_clerks.proofs.Seen.{core_apart}
 use Rattle.ocr_waking.specs.Waking.{two_faces}

@@ -17,7 +17,7 @@ use Rattle.ocr_quiet.specs.Waits.{awaits_in}
 use Rattle.ocr_slots.specs.declared.Slot.{Slot}
 use Rattle.ocr_standing.specs.Kept.{plan_from}
 use Rattle.ocr_standing.specs.Lasting.{is_own}
-use Rattle.ocr_turns.specs.Sums.{as_some, entries, is_among}
+use Rattle.ocr_rule.specs.Sums.{as_some, entries, is_among}
 use Rattle.ocr_clerks.specs.Entering.{Hand, OcrKnown}
 use Rattle.ocr_clerks.specs.Work.{HasTakenOn, KnowsPayloads, ready_with}
 use Rattle.ocr_waking.specs.Waking.{IsAble, IsLet}

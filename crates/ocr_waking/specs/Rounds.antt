@@ -13,7 +13,7 @@ use Rattle.ocr_quiet.specs.Waits.{awaits_in}
 use Rattle.ocr_slots.specs.declared.Slot.{Slot}
 use Rattle.ocr_standing.specs.Kept.{plan_from}
 use Rattle.ocr_standing.specs.Lasting.{is_own}
-use Rattle.ocr_turns.specs.Sums.{entries, is_among}
+use Rattle.ocr_rule.specs.Sums.{entries, is_among}
 use Rattle.ocr_clerks.specs.Entering.{Hand, OcrKnown}
 use Rattle.ocr_clerks.specs.Work.{CanRun, HasTakenOn, IsIdle, KnowsPayloads}
 use Rattle.ocr_waking.specs.Meeting.{HoldsCore, IsOtherObject, IsUnbegun, WantsNext, next_by}

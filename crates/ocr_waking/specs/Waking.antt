@@ -16,7 +16,7 @@ use Rattle.ocr_parts.specs.LegalOn.{IsRefused, IsTaken}
 use Rattle.ocr_parts.specs.Taken.{is_within}
 use Rattle.ocr_slots.specs.declared.Slot.{Slot}
 use Rattle.ocr_standing.specs.Kept.{plan_from}
-use Rattle.ocr_turns.specs.Sums.{as_some, find, keys, replace}
+use Rattle.ocr_rule.specs.Sums.{as_some, find, keys, replace}
 use Rattle.ocr_clerks.specs.Entering.{Hand, OcrKnown}
 use Rattle.ocr_clerks.specs.Work.{KnowsPayloads, ready_with}
 use Rattle.ocr_waking.specs.declared.acting.Act.{Act}

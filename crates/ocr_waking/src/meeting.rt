@@ -2,8 +2,8 @@
 ghost use Rattle.std.specs.Prelude.{◌≡◌, ◌≢◌, ◌+◌, true, IfNone, IfOk, IfSome, OnOk, OnErr};
 ghost use Rattle.ocr_facts.specs.Ocr.{meaning};
 ghost use Rattle.ocr_parts.specs.Taken.{is_within};
-ghost use Rattle.ocr_turns.specs.Contract.{SameHand};
-ghost use Rattle.ocr_turns.specs.Words.{SeesReady};
+ghost use Rattle.ocr_rule.specs.Contract.{SameHand};
+ghost use Rattle.ocr_rule.specs.Words.{SeesReady};
 ghost use Rattle.ocr_clerks.specs.Work.{AtWork, IsGone, Stays};
 ghost use Rattle.ocr_waking.specs.Meeting.{CanAct, HasThree, KnowsThree, MayAct, MeetsOther, StandsAtNext, WantsNext, WantsOther, mode_at};
 ghost use Rattle.ocr_waking.specs.Waking.{Learns};

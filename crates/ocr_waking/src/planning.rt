@@ -5,7 +5,7 @@ ghost use Rattle.ocr_parts.specs.Effects.{made_ready};
 ghost use Rattle.ocr_parts.specs.Kinds.{next_in, progress_in};
 ghost use Rattle.ocr_parts.specs.declared.part.Part.TheVariants as part;
 ghost use Rattle.ocr_standing.specs.Kept.{plan_from};
-ghost use Rattle.ocr_turns.specs.Contract.{SameRoom};
+ghost use Rattle.ocr_rule.specs.Contract.{SameRoom};
 ghost use Rattle.ocr_waking.specs.Waking.{HasBoth, PutReady};
 
 use crate::readying::{asks, ready_core};

@@ -5,9 +5,9 @@ ghost use lib.ListN.{get_elem?};
 ghost use Rattle.ocr_facts.specs.Ocr.{meaning};
 ghost use Rattle.ocr_facts.specs.declared.fact.Fact.{Fact};
 ghost use Rattle.ocr_parts.specs.Taken.{is_within};
-ghost use Rattle.ocr_turns.specs.Contract.{IsOf, SameHand};
-ghost use Rattle.ocr_turns.specs.Steps.{Sees};
-ghost use Rattle.ocr_turns.specs.Words.{HasClaim};
+ghost use Rattle.ocr_rule.specs.Contract.{IsOf, SameHand};
+ghost use Rattle.ocr_rule.specs.Steps.{Sees};
+ghost use Rattle.ocr_rule.specs.Words.{HasClaim};
 ghost use Rattle.ocr_clerks.specs.Work.{KnowsPayloads};
 ghost use Rattle.ocr_waking.specs.Waking.{KeepsFace, Learns};
 

@@ -1,8 +1,8 @@
 // A round of an EDT that was claimed: at the block that it acquires next, or at its face.
 ghost use Rattle.std.specs.Prelude.{◌≡◌, ◌+◌, [], ◌∷◌, true, None, IfOk, OnOk, OnErr};
 ghost use Rattle.ocr_facts.specs.Ocr.{meaning};
-ghost use Rattle.ocr_turns.specs.Steps.{Sees};
-ghost use Rattle.ocr_turns.specs.Words.{SeesReady};
+ghost use Rattle.ocr_rule.specs.Steps.{Sees};
+ghost use Rattle.ocr_rule.specs.Words.{SeesReady};
 ghost use Rattle.ocr_clerks.specs.Work.{AtWork, HasTakenOn, IsGone, IsIdle, KeepsFaces, Stays};
 ghost use Rattle.ocr_parking.specs.Parking.{IsLetWait};
 ghost use Rattle.ocr_waking.specs.Meeting.{HasThree, HoldsCore};

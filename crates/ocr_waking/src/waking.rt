@@ -1,7 +1,7 @@
 // The rounds of an EDT that was claimed.
 ghost use Rattle.std.specs.Prelude.{◌≡◌, ◌+◌, [], true, None, Some, IfNone, IfOk, OnOk, OnErr};
 ghost use Rattle.ocr_facts.specs.Ocr.{meaning};
-ghost use Rattle.ocr_turns.specs.Words.{SeesReady};
+ghost use Rattle.ocr_rule.specs.Words.{SeesReady};
 ghost use Rattle.ocr_clerks.specs.Work.{AtWork, HasTakenOn, IsGone, Stays};
 ghost use Rattle.ocr_waking.specs.Meeting.{HoldsCore};
 ghost use Rattle.ocr_waking.specs.Rounds.{IsAfter, IsAwoken, IsWantedIf, next_block};

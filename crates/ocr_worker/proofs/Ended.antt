@@ -14,11 +14,11 @@ use Rattle.ocr_history.specs.declared.entry.Stop as run
 use Rattle.ocr_history.specs.declared.entry.Stop.TheVariants as by
 use Rattle.ocr_history.specs.Weight.{weight_of}
 use Rattle.ocr_parts.specs.Legal.{is_stop}
-use Rattle.ocr_turns.specs.Contract.{ClosedBy, IsOf, SameHand}
-use Rattle.ocr_turns.specs.Meaning.{Open}
-use Rattle.ocr_turns.specs.Rule.{LogOf}
-use Rattle.ocr_turns.specs.Steps.{SeesEnd, SeesOpen, shut_by}
-use Rattle.ocr_turns.specs.Sums.{load_of}
+use Rattle.ocr_rule.specs.Contract.{ClosedBy, IsOf, SameHand}
+use Rattle.ocr_rule.specs.Meaning.{Open}
+use Rattle.ocr_rule.specs.Rule.{LogOf}
+use Rattle.ocr_rule.specs.Steps.{SeesEnd, SeesOpen, shut_by}
+use Rattle.ocr_rule.specs.Sums.{load_of}
 
 -- THE SAME CLERK
 pub same_known : (a b : OcrKnown) → SameHand a b → b.view ≡ a.view → b ≡ a

@@ -10,8 +10,8 @@ use Rattle.ocr_steal.specs.declared.hand.Hand.{Hand}
 use Rattle.ocr_steal.specs.declared.pool.Pool.{Pool}
 use Rattle.ocr_steal.specs.Hand.{IsSame, knows, misses_of}
 use Rattle.ocr_steal.specs.Pool.{IsOf, hands_in}
-use Rattle.ocr_turns.specs.Counting.{READY}
-use Rattle.ocr_turns.specs.Words.{SeesWord}
+use Rattle.ocr_rule.specs.Counting.{READY}
+use Rattle.ocr_rule.specs.Words.{SeesWord}
 use Rattle.ocr_worker.specs.Leaving.{AllUnready, HasDelivered, IsAtRest}
 use Rattle.ocr_worker.specs.Stealing.{HasMissed}
 use Rattle.ocr_worker.specs.Working.{AdvanceTells, IsBetween}

@@ -10,11 +10,11 @@ use Rattle.ocr_drained.proofs.Drained.{pass_law, rest_law}
 use Rattle.ocr_facts.specs.Clerks.{OcrView}
 use Rattle.ocr_facts.specs.Ocr.{meaning}
 use Rattle.ocr_history.specs.declared.entry.Entry.{Entry}
-use Rattle.ocr_turns.specs.Contract.{ClosedBy}
-use Rattle.ocr_turns.specs.Meaning.{Ended, Open}
-use Rattle.ocr_turns.specs.Steps.{SeesEnd, SeesOpen, shut_by}
-use Rattle.ocr_turns.specs.Words.{SeesReady, claiming}
-use Rattle.ocr_turns.proofs.Sole.{same_end}
+use Rattle.ocr_rule.specs.Contract.{ClosedBy}
+use Rattle.ocr_rule.specs.Meaning.{Ended, Open}
+use Rattle.ocr_rule.specs.Steps.{SeesEnd, SeesOpen, shut_by}
+use Rattle.ocr_rule.specs.Words.{SeesReady, claiming}
+use Rattle.ocr_rule.proofs.Sole.{same_end}
 use Rattle.ocr_worker.specs.Leaving.{AllUnready, HasDelivered, IsAlone, IsAtRest, SeesQuiet}
 use Rattle.ocr_worker.specs.Working.{AdvanceTells, IsBetween}
 use Rattle.ocr_worker.specs.declared.advancing.Advanced.{Advanced}

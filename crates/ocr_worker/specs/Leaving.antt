@@ -10,9 +10,9 @@ use Rattle.ocr_history.specs.declared.entry.Entry.{Entry}
 use Rattle.ocr_parts.specs.Runs.{IsQuiet}
 use Rattle.ocr_steal.specs.declared.hand.Hand.{Hand}
 use Rattle.ocr_steal.specs.declared.pool.Pool.{Pool}
-use Rattle.ocr_turns.specs.Meaning.{Open}
-use Rattle.ocr_turns.specs.Owing.{IsNumber}
-use Rattle.ocr_turns.specs.Rule.{Fits}
+use Rattle.ocr_rule.specs.Meaning.{Open}
+use Rattle.ocr_rule.specs.Owing.{IsNumber}
+use Rattle.ocr_rule.specs.Rule.{Fits}
 use Rattle.ocr_worker.specs.Stealing.{HasFoundNothing}
 use Rattle.ocr_worker.specs.Working.{IsBetween, IsClosed}
 use Rattle.ocr_worker.specs.declared.leaving.Leave.{Leave}

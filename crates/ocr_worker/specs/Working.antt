@@ -6,9 +6,9 @@ use Rattle.ocr_code.specs.declared.checked.Checked.{Checked}
 use Rattle.ocr_facts.specs.Ocr.{meaning}
 use Rattle.ocr_history.specs.declared.entry.Entry.{Entry}
 use Rattle.ocr_history.specs.declared.entry.Entry.TheVariants.{Wait, End}
-use Rattle.ocr_turns.specs.Counting.{READY}
-use Rattle.ocr_turns.specs.Rule.{OPEN}
-use Rattle.ocr_turns.specs.Words.{SeesReady, SeesWord, claiming}
+use Rattle.ocr_rule.specs.Counting.{READY}
+use Rattle.ocr_rule.specs.Rule.{OPEN}
+use Rattle.ocr_rule.specs.Words.{SeesReady, SeesWord, claiming}
 use Rattle.ocr_worker.specs.declared.advancing.Advanced.{Advanced}
 use Rattle.ocr_worker.specs.declared.advancing.Advanced.TheVariants as advanced
 

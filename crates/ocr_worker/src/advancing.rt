@@ -3,8 +3,8 @@ ghost use Rattle.std.specs.Prelude.{◌≡◌, ℕ, [], IfOk, OnErr, OnOk};
 ghost use Rattle.ocr_clerks.specs.Work.{AtWork, HasTakenOn, IsGone, Stays};
 ghost use Rattle.ocr_facts.specs.Ocr.{meaning};
 ghost use Rattle.ocr_steal.specs.Hand.{IsSame, knows, misses_of};
-ghost use Rattle.ocr_turns.specs.Owing.{IsNumber};
-ghost use Rattle.ocr_turns.specs.Words.{SeesReady};
+ghost use Rattle.ocr_rule.specs.Owing.{IsNumber};
+ghost use Rattle.ocr_rule.specs.Words.{SeesReady};
 ghost use Rattle.ocr_worker.specs.Leaving.{HasRested, IsAtRest};
 ghost use Rattle.ocr_worker.specs.Working.{AdvanceTells, HasCome, IsBetween};
 

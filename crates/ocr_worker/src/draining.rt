@@ -3,7 +3,7 @@ ghost use Rattle.std.specs.Prelude.{◌≡◌, false, IfOk, OnErr, OnOk};
 ghost use Rattle.ocr_clerks.specs.Work.{HasLeft, IsGone, Stays};
 ghost use Rattle.ocr_drained.specs.Drained.{IsUnready};
 ghost use Rattle.ocr_steal.specs.Hand.{IsSame};
-ghost use Rattle.ocr_turns.specs.Owing.{IsNumber};
+ghost use Rattle.ocr_rule.specs.Owing.{IsNumber};
 ghost use Rattle.ocr_worker.specs.declared.leaving.Leave.TheVariants as leave;
 ghost use Rattle.ocr_worker.specs.Leaving.{AllUnready, DrainLeaves, HasDelivered, HasRested};
 ghost use Rattle.ocr_worker.specs.Leaving.{IsAlone, IsAtRest, SeesQuiet};

@@ -2,9 +2,9 @@
 ghost use Rattle.std.specs.Prelude.{◌≡◌, ◌≤◌, ℕ, Some, OnErr, OnOk};
 ghost use Rattle.ocr_clerks.specs.Work.{HasEnded, HasLeft, IsGone, Stays};
 ghost use Rattle.ocr_facts.specs.Ocr.{meaning};
-ghost use Rattle.ocr_turns.specs.Contract.{IsOf};
-ghost use Rattle.ocr_turns.specs.Rule.{OPEN};
-ghost use Rattle.ocr_turns.specs.Steps.{SeesOpen};
+ghost use Rattle.ocr_rule.specs.Contract.{IsOf};
+ghost use Rattle.ocr_rule.specs.Rule.{OPEN};
+ghost use Rattle.ocr_rule.specs.Steps.{SeesOpen};
 ghost use Rattle.ocr_worker.specs.Leaving.{HasRested, IsAtRest};
 ghost use Rattle.ocr_worker.specs.Working.{IsBetween};
 

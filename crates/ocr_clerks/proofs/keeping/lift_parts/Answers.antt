@@ -1,5 +1,5 @@
 use Rattle.std.proofs.Common.{◌≡◌, ◌+◌, ℕ, get_or, take, ap, sym, arith, ◌∙◌, Some, None, suc}
-use Rattle.ocr_turns.specs.Sums.{find, replace}
+use Rattle.ocr_rule.specs.Sums.{find, replace}
 use Rattle.ocr_clerks.specs.Work.{in_hand}
 use Rattle.ocr_clerks.proofs.Hands.{lifted_all, next_of, some_from}
 use Rattle.ocr_clerks.proofs.keeping.lift_parts.Goals as goal

@@ -1,5 +1,5 @@
 use Rattle.std.proofs.Common.{◌≡◌, ◌≤◌, vec_len, vec_capacity, take, length}
-use Rattle.ocr_turns.specs.Contract.{SameRoom}
+use Rattle.ocr_rule.specs.Contract.{SameRoom}
 use Rattle.ocr_clerks.specs.Work.{in_hand}
 use Rattle.ocr_clerks.proofs.Hands.{some_from}
 use Rattle.ocr_clerks.proofs.keeping.lift_parts.Given as goal

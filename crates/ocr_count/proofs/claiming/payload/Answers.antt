@@ -1,5 +1,5 @@
 use Rattle.std.proofs.Common.{subst, sym}
-use Rattle.ocr_turns.specs.Words.{HasClaim, HasSlot}
+use Rattle.ocr_rule.specs.Words.{HasClaim, HasSlot}
 use Rattle.ocr_count.proofs.claiming.payload.Goals as goal
 
 pub step_word-requires-clause-may : goal.step_word-requires-clause-may

@@ -1,5 +1,5 @@
 use Rattle.std.proofs.Common.{subst, ◌-◌}
-use Rattle.ocr_turns.specs.Words.{SeesWord}
+use Rattle.ocr_rule.specs.Words.{SeesWord}
 use Rattle.ocr_count.proofs.Ready.{tells}
 use Rattle.ocr_count.proofs.counting.count_down.Goals as goal
 

@@ -4,8 +4,8 @@ use lib.ListN.{get_elem?}
 use Rattle.std.specs.Vec.Iter.{into_iter_items}
 use Rattle.ocr_journal.specs.Numbered.{AllBelow, AreByNumber, IsBelow}
 use Rattle.ocr_journal.proofs.Numbering.{placed_all, placed_whole, mapped_full, some_apart, all_below, same_length}
-use Rattle.ocr_turns.proofs.Opens.{placed_length}
-use Rattle.ocr_turns.proofs.Totals.{nothing_left}
+use Rattle.ocr_rule.proofs.Opens.{placed_length}
+use Rattle.ocr_rule.proofs.Totals.{nothing_left}
 use Rattle.ocr_journal.proofs.numbered.by_slots.Goals as goal
 
 -- where no log is left, the slots hold the list

@@ -1,7 +1,7 @@
 use Rattle.std.proofs.Common.{sym, ap, arith, ◌∙◌, length, suc, Some}
 use Rattle.std.proofs.Math.ListN.{length-set}
 use lib.ListN.{get_elem?}
-use Rattle.ocr_turns.specs.Openings.{placed}
+use Rattle.ocr_rule.specs.Openings.{placed}
 use Rattle.ocr_journal.proofs.numbered.fill.Goals as goal
 
 pub index_mut-requires : goal.index_mut-requires

@@ -1,6 +1,6 @@
 use Rattle.std.proofs.Common.{◌≡◌, length}
 use Rattle.std.specs.Vec.Iter.{into_iter_items, into_iter_len}
-use Rattle.ocr_turns.specs.Openings.{placed}
+use Rattle.ocr_rule.specs.Openings.{placed}
 use Rattle.ocr_journal.specs.Numbered.{IsBelow}
 use Rattle.ocr_journal.proofs.numbered.fill.Given as goal
 

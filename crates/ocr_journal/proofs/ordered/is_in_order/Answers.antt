@@ -4,7 +4,7 @@ use mathlib.Core.Logic.{dite}
 use native.Mathlib.Decide.{ℕ_discrete}
 use lib.ListN.{get_elem?}
 use Rattle.atomic_table.proofs.Lists.{at_index}
-use Rattle.ocr_turns.proofs.Totals.{at_less}
+use Rattle.ocr_rule.proofs.Totals.{at_less}
 use Rattle.ocr_journal.proofs.ordered.is_in_order.Goals as goal
 
 pub loop-k-preserved : goal.loop-k-preserved

@@ -2,8 +2,8 @@ use Rattle.std.proofs.Common.{◌≡◌, ℕ, List, [], ◌∷◌, length, refl,
 use Rattle.ocr_clerks.specs.Work.{RunsNone}
 use Rattle.ocr_clerks.proofs.Going.{Calm, work_still}
 use Rattle.ocr_facts.specs.Clerks.{OcrView}
-use Rattle.ocr_turns.specs.Sums.{as_some, keys}
-use Rattle.ocr_turns.specs.Words.{unclaiming}
+use Rattle.ocr_rule.specs.Sums.{as_some, keys}
+use Rattle.ocr_rule.specs.Words.{unclaiming}
 use Rattle.ocr_parking.proofs.Parked.{has_claim, lets_wait, parked_claims}
 use Rattle.ocr_parking.proofs.parking.park_edt.Goals as goal
 

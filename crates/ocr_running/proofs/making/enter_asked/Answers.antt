@@ -5,7 +5,7 @@ use Rattle.ocr_meaning.specs.Holds.{Holds, is_done, private_of}
 use Rattle.ocr_history.specs.declared.entry.Entry.TheVariants.{Call}
 use Rattle.ocr_parts.specs.declared.part.Part.{Part}
 use Rattle.ocr_parts.specs.Legal.{carried}
-use Rattle.ocr_turns.specs.Owing.{listed}
+use Rattle.ocr_rule.specs.Owing.{listed}
 use Rattle.ocr_facts.specs.Ocr.{counts}
 use Rattle.ocr_running.specs.Calls.{faces_of}
 use Rattle.ocr_running.specs.Making.{IsLet}

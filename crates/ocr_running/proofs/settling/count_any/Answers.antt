@@ -1,5 +1,5 @@
 use Rattle.std.proofs.Common.{ℕ, Option, subst}
-use Rattle.ocr_turns.specs.Owing.{listed}
+use Rattle.ocr_rule.specs.Owing.{listed}
 use Rattle.ocr_running.specs.Running.{HasEntered}
 use Rattle.ocr_running.proofs.settling.count_any.Goals as goal
 

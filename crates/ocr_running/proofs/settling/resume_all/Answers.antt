@@ -1,6 +1,6 @@
 use Rattle.std.proofs.Common.{rules, ◌≡◌, ◌∙◌, ◌+◌, ◌∷◌, drop, ap}
 use Rattle.std.proofs.lemmas.Grind.{common_steps}
-use Rattle.ocr_turns.specs.Owing.{resumed_debts}
+use Rattle.ocr_rule.specs.Owing.{resumed_debts}
 use Rattle.ocr_facts.specs.Clerks.{OcrView}
 use Rattle.ocr_running.proofs.Settled.{pushed_more, resumed_one, stays_debts, work_debts}
 use Rattle.ocr_running.proofs.settling.resume_all.Goals as goal

@@ -1,6 +1,6 @@
 use Rattle.std.proofs.Common.{◌≡◌, ◌∙◌, [], ◌∷◌, ℕ, List, Option, take, refl, ap, sym, subst}
 use Rattle.ocr_parts.specs.declared.part.Part.{Part}
-use Rattle.ocr_turns.specs.Owing.{listed}
+use Rattle.ocr_rule.specs.Owing.{listed}
 use Rattle.ocr_clerks.specs.Work.{KeepsFaces}
 use Rattle.ocr_running.specs.Running.{AreOthers, HasEntered, first_in}
 use Rattle.ocr_running.specs.Serving.{holds_in}

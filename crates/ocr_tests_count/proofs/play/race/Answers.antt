@@ -1,9 +1,9 @@
 use Rattle.std.proofs.Common.{◌≡◌, ◌<◌, ◌≤◌, ◌∷◌, [], All, ℕ, zero, suc, ap, ◌∙◌, subst, sym, arith}
 use Rattle.std.specs.Prelude.{Option, Some, MatchOption}
 use Rattle.atomic_table.specs.Seated.{TableId}
-use Rattle.ocr_turns.specs.Contract.{IsOf}
-use Rattle.ocr_turns.specs.Steps.{fresh}
-use Rattle.ocr_turns.specs.declared.view.Terms.{Terms}
+use Rattle.ocr_rule.specs.Contract.{IsOf}
+use Rattle.ocr_rule.specs.Steps.{fresh}
+use Rattle.ocr_rule.specs.declared.view.Terms.{Terms}
 use Rattle.ocr_tests_count.specs.Clerks.{CanSet, Hand}
 use Rattle.ocr_tests_count.specs.declared.play.Setter.{Setter}
 use Rattle.ocr_tests_count.proofs.Steps.{Sight}

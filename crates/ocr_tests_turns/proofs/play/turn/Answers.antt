@@ -1,6 +1,6 @@
 use Rattle.std.proofs.Common.{◌∷◌, [], ◌++◌, ℕ, List, ap, sym, ◌∙◌, arith}
 use Rattle.std.specs.Prelude.{Option, Some}
-use Rattle.ocr_turns.specs.Sums.{find}
+use Rattle.ocr_rule.specs.Sums.{find}
 use Rattle.ocr_tests_turns.proofs.Adding.{may_add, taken_part}
 use Rattle.ocr_tests_turns.proofs.play.turn.Goals as goal
 

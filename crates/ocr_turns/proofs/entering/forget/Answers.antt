@@ -1,8 +1,8 @@
 use Rattle.std.proofs.Common.{sym, ap, subst, arith, ◌∙◌, ℕ}
 use Rattle.ocr_mail.specs.Mail.{without}
-use Rattle.ocr_turns.specs.Clerks.{IsFirstNamed}
-use Rattle.ocr_turns.proofs.Numbered.{drop_first}
-use Rattle.ocr_turns.proofs.Totals.{at_less}
+use Rattle.ocr_rule.specs.Clerks.{IsFirstNamed}
+use Rattle.ocr_rule.proofs.Numbered.{drop_first}
+use Rattle.ocr_rule.proofs.Totals.{at_less}
 use Rattle.ocr_turns.proofs.entering.forget.Goals as goal
 
 pub take_out-requires : goal.take_out-requires

@@ -5,8 +5,8 @@ use lib.ListN.{get_elem?}
 use Rattle.ocr_mail.specs.Mail.{same_name}
 use native.Mathlib.Decide.{ℕ_discrete}
 use Rattle.atomic_table.proofs.Lists.{at_index}
-use Rattle.ocr_turns.proofs.Numbered.{not_named_yet}
-use Rattle.ocr_turns.proofs.Totals.{at_less, named_same}
+use Rattle.ocr_rule.proofs.Numbered.{not_named_yet}
+use Rattle.ocr_rule.proofs.Totals.{at_less, named_same}
 use Rattle.ocr_turns.proofs.entering.message_position.Goals as goal
 
 pub loop-i-init : goal.loop-i-init

@@ -1,9 +1,9 @@
 use Rattle.std.proofs.Common.{sym, ap, subst, arith, ◌∙◌, ◌≤◌, length, suc, refl, Some}
 use Rattle.std.specs.Vec.Iter.{into_iter_items}
-use Rattle.ocr_turns.specs.Clerks.{HasKeys}
-use Rattle.ocr_turns.specs.Sums.{as_some, replace_all, weigh, one_at, keys}
-use Rattle.ocr_turns.proofs.Numbered.{find_weighed, keys_replace, weigh_keys}
-use Rattle.ocr_turns.proofs.Totals.{nothing_left}
+use Rattle.ocr_rule.specs.Clerks.{HasKeys}
+use Rattle.ocr_rule.specs.Sums.{as_some, replace_all, weigh, one_at, keys}
+use Rattle.ocr_rule.proofs.Numbered.{find_weighed, keys_replace, weigh_keys}
+use Rattle.ocr_rule.proofs.Totals.{nothing_left}
 use Rattle.ocr_turns.proofs.entering.put_all.Goals as goal
 
 pub loop-place-init : goal.loop-place-init

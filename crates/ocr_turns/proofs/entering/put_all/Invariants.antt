@@ -1,7 +1,7 @@
 use Rattle.std.proofs.Common.{◌≡◌, vec_capacity, length}
 use Rattle.std.specs.Vec.Iter.{into_iter_items, into_iter_len}
-use Rattle.ocr_turns.specs.Clerks.{HasKeys}
-use Rattle.ocr_turns.specs.Sums.{as_some, replace_all}
+use Rattle.ocr_rule.specs.Clerks.{HasKeys}
+use Rattle.ocr_rule.specs.Sums.{as_some, replace_all}
 use Rattle.ocr_turns.proofs.entering.put_all.Given as goal
 
 abbrev pub invariant-loop-place : goal.invariant-loop-place

@@ -1,7 +1,7 @@
 use Rattle.std.proofs.Common.{sym, ap, subst, ◌∙◌, Some, Option, ℕ}
 use mathlib.Core.Option.{some-injective}
-use Rattle.ocr_turns.specs.Clerks.{IsFirst}
-use Rattle.ocr_turns.proofs.Numbered.{find_first, remove_first}
+use Rattle.ocr_rule.specs.Clerks.{IsFirst}
+use Rattle.ocr_rule.proofs.Numbered.{find_first, remove_first}
 use Rattle.ocr_turns.proofs.giving.remove_part.Goals as goal
 
 pub returns-clause-found : goal.returns-clause-found

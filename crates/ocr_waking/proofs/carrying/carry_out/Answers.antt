@@ -1,6 +1,6 @@
 use Rattle.std.proofs.Common.{◌+◌, ◌∷◌, [], ◌∙◌, Bool, ap, sym}
 use Rattle.ocr_parts.specs.declared.part.Part.TheVariants as part
-use Rattle.ocr_turns.specs.Sums.{keys}
+use Rattle.ocr_rule.specs.Sums.{keys}
 use Rattle.ocr_clerks.proofs.Whole.{lifted_work}
 use Rattle.ocr_waking.specs.Meeting.{pair_of}
 use Rattle.ocr_waking.proofs.Carries.{meets_now, ready_at_place}

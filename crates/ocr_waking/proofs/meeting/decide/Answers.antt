@@ -1,6 +1,6 @@
 use Rattle.std.proofs.Common.{◌+◌, ◌∙◌, ℕ, ap, sym}
 use Rattle.ocr_parts.specs.declared.part.Part.TheVariants as part
-use Rattle.ocr_turns.specs.Sums.{find}
+use Rattle.ocr_rule.specs.Sums.{find}
 use Rattle.ocr_waking.proofs.Taking.{can_act, core_found, face_found, other_found, stands_at, wants_other}
 use Rattle.ocr_waking.proofs.meeting.decide.Goals as goal
 

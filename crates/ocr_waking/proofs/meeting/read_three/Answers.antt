@@ -1,5 +1,5 @@
 use Rattle.std.proofs.Common.{◌∙◌, ℕ, ap, sym}
-use Rattle.ocr_turns.specs.Sums.{find}
+use Rattle.ocr_rule.specs.Sums.{find}
 use Rattle.ocr_waking.proofs.Learnt.{ready_again, sees_fits}
 use Rattle.ocr_waking.proofs.Taking.{keeps_three, knows_three, three_slots}
 use Rattle.ocr_waking.proofs.meeting.read_three.Goals as goal

@@ -2,7 +2,7 @@ use Rattle.std.proofs.Common.{◌≡◌, ◌∙◌, ℕ, List, Option, Some, Non
 use Rattle.ocr_slots.specs.declared.Slot.{Slot}
 use Rattle.ocr_parts.specs.declared.part.Part.{Part}
 use Rattle.ocr_parts.specs.declared.part.Part.TheVariants as part
-use Rattle.ocr_turns.specs.Sums.{find, replace}
+use Rattle.ocr_rule.specs.Sums.{find, replace}
 use Rattle.ocr_clerks.specs.Work.{ready_with}
 use Rattle.ocr_waking.proofs.Putting.{edt_same, find_other, find_replaced, item_same, long_replaced}
 use Rattle.ocr_waking.proofs.planning.put_ready.Goals as goal

@@ -1,7 +1,7 @@
 use Rattle.std.proofs.Common.{◌≡◌, ◌∙◌, ℕ, List, length, ap, sym, subst, arith}
 use Rattle.ocr_facts.specs.Clerks.{OcrView}
 use Rattle.ocr_facts.specs.declared.fact.Fact.TheVariants.{IsSet}
-use Rattle.ocr_turns.specs.Words.{learning}
+use Rattle.ocr_rule.specs.Words.{learning}
 use Rattle.ocr_clerks.specs.Work.{KnowsPayloads}
 use Rattle.ocr_waking.proofs.Learning.{has_slot, keeps_later, knows_more, learns_one}
 use Rattle.ocr_waking.proofs.reading.read_payloads.Goals as goal

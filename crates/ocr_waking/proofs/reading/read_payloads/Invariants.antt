@@ -1,7 +1,7 @@
 use Rattle.std.proofs.Common.{◌≡◌, ◌≤◌, vec_len, vec_capacity}
 use Rattle.ocr_facts.specs.Ocr.{meaning}
-use Rattle.ocr_turns.specs.Contract.{SameHand}
-use Rattle.ocr_turns.specs.Steps.{Sees}
+use Rattle.ocr_rule.specs.Contract.{SameHand}
+use Rattle.ocr_rule.specs.Steps.{Sees}
 use Rattle.ocr_clerks.specs.Work.{KnowsPayloads}
 use Rattle.ocr_waking.specs.Waking.{Learns}
 use Rattle.ocr_waking.proofs.reading.read_payloads.Given as goal

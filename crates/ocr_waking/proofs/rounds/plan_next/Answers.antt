@@ -3,7 +3,7 @@ use Rattle.ocr_parts.specs.declared.part.Part.TheVariants as part
 use Rattle.ocr_parts.specs.Effects.{made_ready}
 use Rattle.ocr_parts.specs.Kinds.{next_in, progress_in}
 use Rattle.ocr_standing.specs.Kept.{plan_from}
-use Rattle.ocr_turns.specs.Sums.{find}
+use Rattle.ocr_rule.specs.Sums.{find}
 use Rattle.ocr_waking.specs.Rounds.{name_in}
 use Rattle.ocr_waking.proofs.Faces.{core_found_is, core_there, face_found_is, face_there}
 use Rattle.ocr_waking.proofs.rounds.plan_next.Goals as goal

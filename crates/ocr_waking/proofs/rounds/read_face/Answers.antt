@@ -1,7 +1,7 @@
 use Rattle.std.proofs.Common.{◌∙◌, ℕ, List, length, ap, sym}
 use Rattle.ocr_parts.specs.declared.part.Part.TheVariants as part
 use Rattle.ocr_slots.specs.declared.Slot.{Slot}
-use Rattle.ocr_turns.specs.Sums.{find}
+use Rattle.ocr_rule.specs.Sums.{find}
 use Rattle.ocr_waking.proofs.Faces.{face_found_is, face_learnt, face_there, keeps_face, learnt_slots}
 use Rattle.ocr_waking.proofs.rounds.read_face.Goals as goal
 

@@ -1,7 +1,7 @@
 use Rattle.std.proofs.Common.{Bool, ◌∷◌, [], ◌∙◌, ℕ, List, Option, length, ap, sym, arith}
 use Rattle.ocr_parts.specs.declared.part.Part.{Part}
 use Rattle.ocr_parts.specs.declared.part.Part.TheVariants as part
-use Rattle.ocr_turns.specs.Sums.{keys}
+use Rattle.ocr_rule.specs.Sums.{keys}
 use Rattle.ocr_clerks.proofs.Hands.{took_length}
 use Rattle.ocr_waking.specs.Meeting.{pair_of}
 use Rattle.ocr_waking.proofs.Holding.{can_again, core_can, took_both, took_ready}

@@ -2,7 +2,7 @@ use Rattle.std.proofs.Common.{◌≡◌, ◌+◌, ◌∙◌, ℕ, Option, ap, sy
 use Rattle.std.specs.Option.{option_or}
 use Rattle.ocr_parts.specs.declared.part.Part.{Part}
 use Rattle.ocr_parts.specs.declared.part.Part.TheVariants as part
-use Rattle.ocr_turns.specs.Sums.{find}
+use Rattle.ocr_rule.specs.Sums.{find}
 use Rattle.ocr_waking.specs.Rounds.{next_block}
 use Rattle.ocr_waking.proofs.Holding.{awake_or, core_alone, wanted_or}
 use Rattle.ocr_waking.proofs.Putting.{item_same}

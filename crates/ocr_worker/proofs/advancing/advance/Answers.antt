@@ -1,7 +1,7 @@
 use Rattle.std.proofs.Common.{subst}
 use Rattle.ocr_facts.specs.Ocr.{meaning}
 use Rattle.ocr_facts.specs.Clerks.{OcrView}
-use Rattle.ocr_turns.specs.Words.{SeesReady}
+use Rattle.ocr_rule.specs.Words.{SeesReady}
 use Rattle.ocr_worker.proofs.advancing.advance.Goals as goal
 
 pub returns-in-Err-clause-told : goal.returns-in-Err-clause-told

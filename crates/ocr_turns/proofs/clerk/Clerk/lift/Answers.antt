@@ -1,7 +1,7 @@
 use Rattle.std.proofs.Common.{ap, ◌∙◌, ◌-◌, length, Some, None}
-use Rattle.ocr_turns.specs.Sums.{find, keys}
-use Rattle.ocr_turns.proofs.Numbered.{keys_replace}
-use Rattle.ocr_turns.proofs.Opens.{replace_length}
+use Rattle.ocr_rule.specs.Sums.{find, keys}
+use Rattle.ocr_rule.proofs.Numbered.{keys_replace}
+use Rattle.ocr_rule.proofs.Opens.{replace_length}
 use Rattle.ocr_turns.proofs.clerk.Clerk.lift.Goals as goal
 
 pub swap_part-requires : goal.swap_part-requires

@@ -1,7 +1,7 @@
 use Rattle.std.proofs.Common.{ap, ◌∙◌, ◌-◌, length, Some}
-use Rattle.ocr_turns.specs.Sums.{keys}
-use Rattle.ocr_turns.proofs.Numbered.{keys_replace}
-use Rattle.ocr_turns.proofs.Opens.{replace_length}
+use Rattle.ocr_rule.specs.Sums.{keys}
+use Rattle.ocr_rule.proofs.Numbered.{keys_replace}
+use Rattle.ocr_rule.proofs.Opens.{replace_length}
 use Rattle.ocr_turns.proofs.clerk.Clerk.put.Goals as goal
 
 pub invariant_of-self : goal.invariant_of-self

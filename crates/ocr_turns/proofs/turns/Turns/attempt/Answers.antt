@@ -1,6 +1,6 @@
 use Rattle.std.proofs.Common.{sym, ap, subst, arith, ◌∙◌, ◌≡◌, ◌+◌, ◌-◌, ◌++◌, ◌∷◌, [], length, length-append, vec_capacity, refl, Some}
-use Rattle.ocr_turns.specs.Steps.{SeesBoth, with_part}
-use Rattle.ocr_turns.proofs.Clerks.{true_same, took_true}
+use Rattle.ocr_rule.specs.Steps.{SeesBoth, with_part}
+use Rattle.ocr_rule.proofs.Clerks.{true_same, took_true}
 use Rattle.ocr_turns.proofs.turns.Turns.attempt.Goals as goal
 
 pub invariant_of-clerk-2 : goal.invariant_of-clerk-2

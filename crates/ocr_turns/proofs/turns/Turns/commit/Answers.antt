@@ -1,11 +1,11 @@
 use Rattle.std.proofs.Common.{sym, ap, arith, ◌∙◌, ◌≡◌, ◌≤◌, ◌<◌, ◌+◌, ◌-◌, ◌++◌, ◌∷◌, [], length, length-append, vec_capacity, refl}
 use Rattle.ocr_mail.specs.Mail.{without, named}
-use Rattle.ocr_turns.specs.Rule.{OPEN}
-use Rattle.ocr_turns.specs.Steps.{deed, logged}
-use Rattle.ocr_turns.specs.Sums.{weigh, one_at, as_some, replace_all}
-use Rattle.ocr_turns.proofs.Clerks.{true_same, shut_true, logged_true, tried_open, tried_shut, tried_tells}
-use Rattle.ocr_turns.proofs.Numbered.{weigh_keys, length_replace_all}
-use Rattle.ocr_turns.proofs.Totals.{weigh_at}
+use Rattle.ocr_rule.specs.Rule.{OPEN}
+use Rattle.ocr_rule.specs.Steps.{deed, logged}
+use Rattle.ocr_rule.specs.Sums.{weigh, one_at, as_some, replace_all}
+use Rattle.ocr_rule.proofs.Clerks.{true_same, shut_true, logged_true, tried_open, tried_shut, tried_tells}
+use Rattle.ocr_rule.proofs.Numbered.{weigh_keys, length_replace_all}
+use Rattle.ocr_rule.proofs.Totals.{weigh_at}
 use Rattle.ocr_turns.proofs.turns.Turns.commit.Goals as goal
 
 pub invariant_of-clerk : goal.invariant_of-clerk

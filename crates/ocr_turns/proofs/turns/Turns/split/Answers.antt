@@ -1,5 +1,5 @@
 use Rattle.std.proofs.Common.{sym, ap, subst, ◌∙◌, arith, ◌<◌, ◌≡◌}
-use Rattle.ocr_turns.proofs.Splits.{splits}
+use Rattle.ocr_rule.proofs.Splits.{splits}
 use Rattle.ocr_turns.proofs.turns.Turns.split.Goals as goal
 
 pub split_seat-seat-requires : goal.split_seat-seat-requires

@@ -1,11 +1,11 @@
 use Rattle.std.proofs.Common.{sym, ap, subst, ◌∙◌, ◌≡◌, map}
-use Rattle.ocr_turns.specs.Clerks.{IsTrueTo}
-use Rattle.ocr_turns.specs.Owing.{AreInRange}
-use Rattle.ocr_turns.specs.Steps.{limit_of}
-use Rattle.ocr_turns.specs.Words.{MayStep}
-use Rattle.ocr_turns.specs.declared.view.View.{View}
-use Rattle.ocr_turns.proofs.Ranges.{owed_of, step_number, step_owed, step_slots}
-use Rattle.ocr_turns.proofs.Stepping.{stepped_view}
+use Rattle.ocr_rule.specs.Clerks.{IsTrueTo}
+use Rattle.ocr_rule.specs.Owing.{AreInRange}
+use Rattle.ocr_rule.specs.Steps.{limit_of}
+use Rattle.ocr_rule.specs.Words.{MayStep}
+use Rattle.ocr_rule.specs.declared.view.View.{View}
+use Rattle.ocr_rule.proofs.Ranges.{owed_of, step_number, step_owed, step_slots}
+use Rattle.ocr_rule.proofs.Stepping.{stepped_view}
 use Rattle.ocr_turns.proofs.turns.Turns.step_word.Goals as goal
 
 pub take_step-requires-clause-edt : goal.take_step-requires-clause-edt

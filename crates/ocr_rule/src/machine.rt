@@ -1,0 +1,55 @@
+// What the table asks of a machine.
+ghost use Rattle.std.specs.Prelude.{◌≡◌, ◌≤◌, ℕ, IfOk};
+ghost use Rattle.ocr_rule.specs.Meaning.{Meaning, Lawful};
+ghost use Rattle.ocr_rule.specs.Counting.{CountingLaws};
+ghost use Rattle.ocr_rule.specs.Sums.{sum_of, one_at};
+
+use ocr_base::NoMemory;
+use std::alloc::Global;
+
+/// A machine whose state consists of parts, each at a place, and which changes by entries. What
+/// an entry changes rests on the parts of its places and on standing facts alone.
+pub trait Machine {
+    /// What legality rests on besides the history.
+    type Setting;
+
+    type Part: Drop;
+
+    type Entry: Drop;
+
+    type Message: Drop;
+    /// A standing fact, which no later entry undoes. Only clauses read its values.
+    type Fact;
+
+    ghost meaning: { Meaning Self.Setting Self.Entry Self.Part Self.Message Self.Fact };
+
+    /// The part of a number that is not made.
+    fn vacant() -> Self::Part
+        ensures { result ≡ meaning.vacant };
+
+    /// The EDT that is ready at the opening, and the payload of its one slot.
+    fn first() -> (u64, u64)
+        ensures { result ≡ meaning.first };
+
+    /// The places that the entry may change.
+    fn places(alloc: Global, entry: &Self::Entry, limit: u64) -> Result<Vec<u64>, NoMemory>
+        requires { (2 ≤ limit) × (limit ≤ 65536) }
+        ensures { IfOk result (λ v. (p : ℕ) → sum_of (one_at p) v.items ≡ meaning.touches limit
+            entry.now p) };
+
+    /// What the entry weighs against a clerk's share.
+    fn weight(entry: &Self::Entry) -> u64
+        ensures { result ≡ meaning.heavy entry.now };
+
+    /// Whether the entry ends the run.
+    fn ends(entry: &Self::Entry) -> bool
+        ensures { result ≡ meaning.stops entry.now };
+
+    /// The message that the entry delivers, by its entry's number and its index there.
+    fn delivers(entry: &Self::Entry) -> Option<(u64, u32)>
+        ensures { result ≡ meaning.delivers entry.now };
+
+    ghost laws: { Lawful meaning };
+
+    ghost counting_laws: { CountingLaws meaning };
+}
