@@ -1,10 +1,8 @@
 -- What many goals share.
 use Rattle.ocr_body.proofs.Accesses.{accessed_value, accessed_stopped, accessed_next, accessed_trace}
-use Rattle.ocr_body.proofs.Operands.{joined_number, joined_variable, spend_stopped}
 use Rattle.ocr_body.proofs.Stopped.{eval_stopped, exec_stopped, says_more, stopped_by_body, stopped_by_memory, stopped_by_refusal, stopped_later}
 use Rattle.ocr_code.proofs.Sides.{first_of, second_of}
-
-pub ruleset joined = (joined_number, joined_variable)
+use Rattle.ocr_plain.proofs.Operands.{joined_number, spend_stopped}
 
 pub ruleset walking = (
   joined_number,

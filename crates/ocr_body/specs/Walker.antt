@@ -1,32 +1,32 @@
 -- The words of the walker's contracts: how an Api goes on, and which part of a body was done.
-use Rattle.std.specs.Prelude.{◌≡◌, ◌≤◌, ℕ, List, Option, Bool, true, length}
+use Rattle.std.specs.Prelude.{◌≡◌, ◌≤◌, ℕ, List, Option, Bool, length}
 use Rattle.ocr_base.specs.Count.{Rose}
 use Rattle.ocr_tree.specs.Tree.{While}
 use Rattle.ocr_tree.specs.declared.tree.CallName.{CallName}
-use Rattle.ocr_meaning.specs.Behaviour.{Behaviour, IsTrace}
+use Rattle.ocr_meaning.specs.Behaviour.{Behaviour, Ends, IsTrace}
 use Rattle.ocr_meaning.specs.Body.{behaviour, says}
 use Rattle.ocr_meaning.specs.Holds.{Holds}
 use Rattle.ocr_meaning.specs.Meaning.{State, Value, Given}
 use Rattle.ocr_meaning.specs.Meaning as meaning
 use Rattle.ocr_meaning.specs.declared.call.BodyStop.{BodyStop}
 use Rattle.ocr_meaning.specs.declared.call.Call.{Call}
-use Rattle.ocr_code.specs.Code.{are_distinct, is_placed, is_call_placed, are_args_placed}
-use Rattle.ocr_code.specs.Code.{is_step_placed, are_placed, call_name, call_arguments, arguments_at}
+use Rattle.ocr_code.specs.Code.{is_call_placed, are_args_placed, is_step_placed, are_placed}
+use Rattle.ocr_code.specs.Code.{call_name, call_arguments, arguments_at}
 use Rattle.ocr_code.specs.Code.{expression_at, statement_at, statements_in}
 use Rattle.ocr_code.specs.declared.code.ArgCode.{ArgCode}
 use Rattle.ocr_code.specs.declared.code.CallCode.{CallCode}
 use Rattle.ocr_code.specs.declared.code.ExprCode.{ExprCode}
 use Rattle.ocr_code.specs.declared.code.StmtCode.{StmtCode}
-use Rattle.ocr_body.specs.Local.{value_in, state_of, frame_of, numbers_of, given_of, output_at}
-use Rattle.ocr_body.specs.Local.{way_step, Flows, Leaves}
-use Rattle.ocr_body.specs.Serving.{HasValue, StoppedBy}
+use Rattle.ocr_plain.specs.Given.{given_of, output_at, way_step}
+use Rattle.ocr_plain.specs.Local.{state_in, frame_of, numbers_of}
+use Rattle.ocr_plain.specs.declared.given.Given as found
+use Rattle.ocr_plain.specs.declared.given.Way.{Way}
+use Rattle.ocr_plain.specs.declared.local.Flow.{Flow}
+use Rattle.ocr_plain.specs.declared.local.Flow.TheVariants.{Next, Returned}
+use Rattle.ocr_plain.specs.declared.local.Frame as walker
+use Rattle.ocr_plain.specs.declared.local.Local.{Local}
+use Rattle.ocr_body.specs.Serving.{HasValue, IsDone, StoppedBy}
 use Rattle.ocr_body.specs.declared.api.Api.{Ghosts}
-use Rattle.ocr_body.specs.declared.given.Given as found
-use Rattle.ocr_body.specs.declared.given.Way.{Way}
-use Rattle.ocr_body.specs.declared.local.Flow.{Flow}
-use Rattle.ocr_body.specs.declared.local.Frame as walker
-use Rattle.ocr_body.specs.declared.local.Local.{Local}
-use Rattle.ocr_body.specs.declared.plain.Found.{Found}
 
 -- what the body that an Api serves does next
 abbrev pub next_of : {A K : Type 0} → Ghosts A K → A → Behaviour
@@ -50,26 +50,12 @@ abbrev pub IsCause : {A K : Type 0} → Ghosts A K → A → A → BodyStop → 
 IsCause g before now e =
     StoppedBy (next_after g before now) (Rose (g.closed before) (g.closed now)) e
 
--- the names of the body's variables differ, and each has a place
-pub record Fits (f : walker.Frame) (l : Local) : Type 0 where
-  pub distinct : are_distinct f.names.now ≡ true
-  pub room : length l.values.items ≡ length f.names.now
-
 -- after a part of the body: each variable still has a place, and no fuel was gained
 pub record StillFits (f : walker.Frame) (before now : Local) : Type 0 where
   pub room : length now.values.items ≡ length f.names.now
   pub fuel : now.fuel ≤ before.fuel
 
--- after a part that keeps its state
-pub record Keeps (before now : Local) : Type 0 where
-  pub fuel : now.fuel ≡ before.fuel
-  pub code : now.code ≡ before.code
-  pub values : now.values ≡ before.values
-
 -- code over the names of this body and the functions of its program
-abbrev pub is_expr_in : walker.Frame → ExprCode → Bool
-is_expr_in f e = is_placed (numbers_of f) f.names.now e
-
 abbrev pub is_call_in : walker.Frame → CallCode → Bool
 is_call_in f c = is_call_placed (numbers_of f) f.names.now c
 
@@ -81,10 +67,6 @@ is_stmt_in f s = is_step_placed (numbers_of f) f.names.now s
 
 abbrev pub are_stmts_in : walker.Frame → List StmtCode → Bool
 are_stmts_in f ss = are_placed (numbers_of f) f.names.now ss
-
--- the state of the body, whose EDT holds this
-abbrev pub state_in : walker.Frame → Holds → Local → State
-state_in f holds l = state_of f.names.now holds l
 
 -- the parts of the body, from this state on: an expression, a call, arguments, a call once its
 -- arguments are found and once it is known what it comes to, a call that has codes, a load, a
@@ -159,6 +141,12 @@ abbrev pub Yields : {A K : Type 0} → Ghosts A K → A → A → (Value → Beh
 Yields g before now part v f l =
     HasValue (next_of g before) part v (state_in f (g.holds now) l) (next_after g before now)
 
+-- statements were done, or ended the body, which returned this
+abbrev pub Flows : Behaviour → ((State → Behaviour) → Behaviour) → Flow → ℕ → State → Behaviour
+    → Type 0
+Flows before part Next g st now = IsDone before part st now
+Flows before part Returned g st now = now ≡ Ends g st.holds
+
 -- these statements were done, and left this state, or ended the body, which returned what is kept
 abbrev pub Leads : {A K : Type 0} → Ghosts A K → A → A → ((State → Behaviour) → Behaviour) → Flow
     → walker.Frame → Local → Type 0
@@ -170,15 +158,3 @@ Leads g before now part flow f l =
     l.returned
     (state_in f (g.holds now) l)
     (next_after g before now)
-
--- an expression has this value with so much fuel, makes no call, and leaves so much
-abbrev pub IsFound : walker.Frame → ExprCode → Local → ℕ → Found → Type 0
-IsFound f e l fuel r =
-    Leaves
-    (frame_of f)
-    (expression_at f.names.now e)
-    l.code
-    (λ y. value_in f.names.now l.values.items y)
-    fuel
-    r.value
-    r.left

@@ -12,24 +12,27 @@ ghost use Rattle.ocr_meaning.specs.Meaning.{with_variable, print_step};
 ghost use Rattle.ocr_meaning.specs.Meaning as meaning;
 ghost use Rattle.ocr_code.specs.Checked.{checked_tree};
 ghost use Rattle.ocr_code.specs.Code.{name_at, has_function, arguments_at};
-ghost use Rattle.ocr_body.specs.Local.{given_of};
+ghost use Rattle.ocr_plain.specs.Given.{given_of};
+ghost use Rattle.ocr_plain.specs.Local.{Fits, Keeps, state_in};
+ghost use Rattle.ocr_plain.specs.Plain.{is_expr_in};
 ghost use Rattle.ocr_body.specs.Serving.{Begins, BeginsValue, BeginsGiven, IsDone, IsGiven};
 ghost use Rattle.ocr_body.specs.Serving.{StoppedBy};
-ghost use Rattle.ocr_body.specs.Walker.{next_of, next_after, GoesOn, IsCause, Yields, Leads, Fits};
-ghost use Rattle.ocr_body.specs.Walker.{StillFits, Keeps, is_expr_in, is_call_in, are_args_in};
-ghost use Rattle.ocr_body.specs.Walker.{is_stmt_in, are_stmts_in, state_in, expr_part, call_part};
-ghost use Rattle.ocr_body.specs.Walker.{coded_part, args_part, made_part, way_part, ask_part};
-ghost use Rattle.ocr_body.specs.Walker.{load_part, store_part, stmt_part, stmts_part, loop_part};
+ghost use Rattle.ocr_body.specs.Walker.{next_of, next_after, GoesOn, IsCause, Yields, Leads};
+ghost use Rattle.ocr_body.specs.Walker.{StillFits, is_call_in, are_args_in, is_stmt_in};
+ghost use Rattle.ocr_body.specs.Walker.{are_stmts_in, expr_part, call_part, coded_part, args_part};
+ghost use Rattle.ocr_body.specs.Walker.{made_part, way_part, ask_part, load_part, store_part};
+ghost use Rattle.ocr_body.specs.Walker.{stmt_part, stmts_part, loop_part};
 
 use crate::api::Api;
-use crate::given::{Given, Way, call_of, output_of, way_of};
-use crate::local::{Flow, Frame, Halt, Local, pay, read, stopped, write};
-use crate::operators::{apply, operate};
-use crate::plain::{NONE_LEFT, dependence, leaf, plain};
 use ocr_base::{NoMemory, Seq};
 use ocr_code::{ArgCode, CallCode, Checked, ExprCode, Named, StmtCode};
 use ocr_guid::Guid;
 use ocr_meaning::{BodyStop, Call};
+use ocr_plain::plain::{NONE_LEFT, dependence, leaf, plain};
+use ocr_plain::{
+    Flow, Frame, Given, Halt, Local, Way, apply, call_of, operate, output_of, pay, read, stopped,
+    way_of, write,
+};
 use ocr_tree::{BinaryOp, CallName};
 use std::alloc::Global;
 

@@ -4,7 +4,7 @@ use Rattle.ocr_meaning.specs.Behaviour.{Behaviour, Stops, IsTrace}
 use Rattle.ocr_tree.specs.Tree as tree
 use Rattle.ocr_code.specs.Code.{statement_at, statements_in, expression_at, is_step_placed, is_placed, are_placed}
 use Rattle.ocr_meaning.specs.Meaning as meaning
-use Rattle.ocr_body.specs.Local.{state_of, frame_of, numbers_of}
+use Rattle.ocr_plain.specs.Local.{state_of, frame_of, numbers_of}
 use Rattle.ocr_meaning.specs.Body.{Body, says, behaviour}
 use Rattle.ocr_base.specs.Count.{Rose}
 use Rattle.ocr_body.specs.Serving.{Begins, IsDone, StoppedBy}

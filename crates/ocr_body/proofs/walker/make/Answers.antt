@@ -2,9 +2,11 @@ use Rattle.std.proofs.Common.{◌≡◌, ◌∙◌, ap, sym, refl, Option, ℕ}
 use Rattle.ocr_tree.specs.Tree.{names_in}
 use Rattle.ocr_meaning.specs.Meaning.{Value}
 use Rattle.ocr_code.specs.Code.{arguments_at}
-use Rattle.ocr_body.specs.Local.{state_of, frame_of, numbers_of, given_of, output_at, way_step}
+use Rattle.ocr_plain.specs.Given.{given_of, output_at, way_step}
+use Rattle.ocr_plain.specs.Local.{state_of, frame_of, numbers_of}
 use Rattle.ocr_body.specs.Walker.{made_part, way_part}
-use Rattle.ocr_body.proofs.Made.{IsFirst, first_is, stands, wanted, made_alike, begins_alike, has_alike}
+use Rattle.ocr_plain.proofs.Made.{IsFirst, first_is, stands, wanted, made_alike}
+use Rattle.ocr_body.proofs.Alike.{begins_alike, has_alike}
 use Rattle.ocr_body.proofs.walker.make.Goals as goal
 
 pub go-requires-clause-begins : goal.go-requires-clause-begins

@@ -5,8 +5,7 @@ ghost use Rattle.ocr_meaning.specs.Holds.{Holds};
 ghost use Rattle.ocr_meaning.specs.Meaning.{State, with_variable};
 ghost use Rattle.ocr_meaning.specs.Meaning as meaning;
 ghost use Rattle.ocr_code.specs.Code.{name_at};
-ghost use Rattle.ocr_body.specs.Local.{state_of, value_in};
-ghost use Rattle.ocr_body.specs.Walker.{Fits, Keeps, state_in};
+ghost use Rattle.ocr_plain.specs.Local.{Fits, Keeps, state_in, state_of, value_in};
 
 use ocr_code::Checked;
 use ocr_guid::Guid;
@@ -42,11 +41,13 @@ pub struct Frame<'a> {
 /// Where a statement leads. What a body returned is kept in `returned`.
 #[derive(Clone, Copy)]
 pub enum Flow {
+    /// To the next one.
     Next,
+    /// To the end of the body.
     Returned,
 }
 
-/// The body stops for this.
+/// The body stops for this, which is kept in `stop`; fuel, code and variables stay.
 #[inline(always)]
 pub fn stopped(stop: BodyStop, local: &mut Local) -> Halt
     ensures stop { local.new.stop ≡ stop }
@@ -56,7 +57,7 @@ pub fn stopped(stop: BodyStop, local: &mut Local) -> Halt
     Halt
 }
 
-/// Pays one unit of fuel, or stops for want of it.
+/// Pays one unit of fuel. Where none is left, the body stops for want of it: `stop` is `Fuel`.
 pub fn pay(local: &mut Local) -> Result<(), Halt>
     ensures ok { OnOk result ((names : List (List ℕ)) (holds : Holds)
         (k : State → Behaviour) → meaning.spend (state_of names holds local.old) k
@@ -73,7 +74,7 @@ pub fn pay(local: &mut Local) -> Result<(), Halt>
     Ok(())
 }
 
-/// The value of a variable.
+/// The value of a variable, by its place.
 pub fn read(frame: &Frame, place: usize, local: &Local) -> u64
     requires place { place < length frame.now.names.now }
     requires fits { Fits frame.now local.now }

@@ -2,7 +2,7 @@
 use Rattle.std.proofs.Common.{◌≡◌, ◌<◌, ◌≤◌, ◌-◌, ℕ, zero, suc, List, length, slice_index, Bool, if◌then◌else◌, arith, refl, ap, sym, subst, ◌∙◌}
 use Rattle.std.proofs.lemmas.Bool.{lt-ltb}
 use Rattle.ocr_meaning.specs.Behaviour.{Behaviour, Stops}
-use Rattle.ocr_body.specs.Local.{Leaves}
+use Rattle.ocr_plain.specs.Plain.{Leaves}
 use Rattle.ocr_meaning.specs.Meaning.{Frame, State, Value, Given, nothing_given, with_value, eval, eval_all, invoke, call_step, unary_value, binary_step, spend, load_step, store_step}
 use Rattle.ocr_tree.specs.Tree as tree
 use Rattle.ocr_tree.specs.Tree.{Expression, Arguments}

@@ -1,9 +1,9 @@
 -- A call once its arguments are found.
-use Rattle.std.proofs.Common.{◌≡◌, ◌<◌, ◌∙◌, sym, ap, refl, List, [], ◌∷◌, ℕ, true, nat_lt, length, slice_index_or, Option, None, Some, is_some, IfSome, IfNone, Result, Ok, Err, IfOk, arith}
+use Rattle.std.proofs.Common.{◌≡◌, ◌<◌, ◌∙◌, sym, ap, refl, List, [], ◌∷◌, ℕ, true, nat_lt, length, slice_index_or, Option, None, Some, is_some, IfSome, IfNone, arith}
 use Rattle.ocr_tree.specs.Tree.{Arguments, names_in}
 use Rattle.ocr_tree.specs.declared.tree.CallName.{CallName}
 use Rattle.ocr_tree.specs.declared.tree.CallName.TheVariants as name
-use Rattle.ocr_meaning.specs.Behaviour.{Behaviour, Asks}
+use Rattle.ocr_meaning.specs.Behaviour.{Asks}
 use Rattle.ocr_meaning.specs.Holds.{private_of}
 use Rattle.ocr_meaning.specs.Meaning.{State, Value, Frame, Given, is_output, with_variable, outputs_of, function_in, coded_call, call_step, call_of, made_step}
 use Rattle.ocr_meaning.specs.Holds.{after_call}
@@ -12,11 +12,9 @@ use Rattle.ocr_meaning.specs.declared.call.Call.{Call}
 use Rattle.ocr_code.specs.Code.{IsFirstName, has_function, name_at, arguments_at, are_args_placed}
 use Rattle.ocr_code.specs.declared.code.ArgCode.{ArgCode}
 use Rattle.ocr_code.specs.declared.code.Named.{Named}
-use Rattle.ocr_body.specs.declared.local.Halt.{Halt}
-use Rattle.ocr_body.specs.Local.{output_at, output_place, way_step}
-use Rattle.ocr_body.specs.Serving.{HasValue, BeginsValue}
-use Rattle.ocr_body.specs.declared.given.Way.{Way}
-use Rattle.ocr_body.specs.declared.given.Way.TheVariants as way
+use Rattle.ocr_plain.specs.Given.{output_at, output_place, way_step}
+use Rattle.ocr_plain.specs.declared.given.Way.{Way}
+use Rattle.ocr_plain.specs.declared.given.Way.TheVariants as way
 
 -- the first of some names, or that there is none
 abbrev pub IsFirst : (List ℕ → ℕ) → List (List ℕ) → List (List ℕ) → Option Named → Type 0
@@ -71,12 +69,3 @@ made_alike numbers names f n xs g o made w first is ways st k =
     ap (λ (c : Call). made_step c (outputs_of n xs) st k) (sym is)
     ∙ ways (outputs_of n xs) st k
     ∙ way_alike w made (outputs_of n xs) (output_at names (output_place n o)) st k (asked_alike numbers names xs n o first made st k)
-
--- parts that are alike
-pub begins_alike : (left : Behaviour) (part other : Value → Behaviour) → ((k : Value) → part k ≡ other k) → BeginsValue left part → BeginsValue left other
-begins_alike left part other alike begins = (begins.0, begins.1 ∙ alike begins.0)
-
-pub has_alike : (before : Behaviour) (part other : Value → Behaviour) (st : State) (now : Behaviour) (r : Result ℕ Halt) → ((k : Value) → part k ≡ other k)
-    → IfOk r (λ v. HasValue before other v st now) → IfOk r (λ v. HasValue before part v st now)
-has_alike before part other st now (Ok v) alike has = λ k was. has k (was ∙ alike k)
-has_alike before part other st now (Err e) alike has = has

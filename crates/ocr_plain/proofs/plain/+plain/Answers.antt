@@ -3,9 +3,10 @@ use Rattle.ocr_tree.specs.Tree as tree
 use Rattle.ocr_tree.specs.Tree.{Expression}
 use Rattle.ocr_code.specs.Code.{expression_at}
 use Rattle.ocr_code.specs.declared.code.ExprCode.{ExprCode}
-use Rattle.ocr_body.specs.Local.{Leaves, frame_of, value_in}
-use Rattle.ocr_body.proofs.Operands.{unary_leaves, binary_leaves}
-use Rattle.ocr_body.proofs.plain.+plain.Goals as goal
+use Rattle.ocr_plain.specs.Local.{frame_of, value_in}
+use Rattle.ocr_plain.specs.Plain.{Leaves}
+use Rattle.ocr_plain.proofs.Operands.{unary_leaves, binary_leaves}
+use Rattle.ocr_plain.proofs.plain.+plain.Goals as goal
 
 pub deep-returns-in-Unary-clause-found : goal.deep-returns-in-Unary-clause-found
 deep-returns-in-Unary-clause-found t c = λ some.

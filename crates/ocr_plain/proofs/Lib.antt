@@ -1,0 +1,4 @@
+pub mod Made
+pub mod Operands
+pub mod Rulesets
+pub mod Variables

@@ -1,0 +1,32 @@
+-- What the arguments of a call were found to be, and what the call comes to.
+use Rattle.std.specs.Prelude.{ℕ, List, [], ◌∷◌, Option, None, Some}
+use Rattle.ocr_tree.specs.declared.tree.CallName.{CallName}
+use Rattle.ocr_tree.specs.declared.tree.CallName.TheVariants as name
+use Rattle.ocr_meaning.specs.Behaviour.{Behaviour, Stops}
+use Rattle.ocr_meaning.specs.Meaning.{State, Given, Value, coded_call, load_step, store_step}
+use Rattle.ocr_meaning.specs.declared.call.Call.{Call}
+use Rattle.ocr_code.specs.Code.{name_at}
+use Rattle.ocr_code.specs.declared.code.Named.{Named}
+use Rattle.ocr_plain.specs.declared.given.Given as found
+use Rattle.ocr_plain.specs.declared.given.Way.{Way}
+use Rattle.ocr_plain.specs.declared.given.Way.TheVariants as way
+
+-- what the walker found the arguments of a call to be
+abbrev pub given_of : found.Given → Given
+given_of g = record { values = g.values.items; lists = g.lists.items }
+
+-- the variable that a call sets to its output event, by its place
+abbrev pub output_at : List (List ℕ) → Option ℕ → List (List ℕ)
+output_at names None = []
+output_at names (Some i) = name_at names i ∷ []
+
+abbrev pub output_place : CallName → Option Named → Option ℕ
+output_place name.EdtCreate (Some named) = Some named.place
+output_place other named = None
+
+-- a call, by what it comes to
+abbrev pub way_step : Way → Call → List (List ℕ) → State → Value → Behaviour
+way_step (way.Ends s) call outputs st k = Stops s
+way_step (way.Loads d w) call outputs st k = load_step d w st k
+way_step (way.Stores d w v) call outputs st k = store_step d w v st k
+way_step way.Coded call outputs st k = coded_call call outputs st k
