@@ -17,9 +17,10 @@ use Rattle.ocr_grammar.specs.declared.argument_kind.ArgumentKind.{ArgumentKind}
 use Rattle.ocr_grammar.specs.Shape.{shape}
 use Rattle.ocr_grammar.specs.Grammar as g
 use Rattle.ocr_grammar.specs.Grammar.{level, lexeme_of_operator, lexeme_of_sign, IsExpression, AreArguments, Follows, AreMembers, IsStatement, AreStatements, IsProgram}
-use Rattle.ocr_program.specs.Joined.{with, ended_by, followed_by}
-use Rattle.ocr_program.specs.Machine as m
-use Rattle.ocr_program.specs.Machine.{State, Position, Purpose, Indexed, Stack, Bottom, CallSite, InExpression, AsStatement, Left, Prefix, Round, Index, Argument, Member, FlagsArgument, Operand, AfterOperand, Held, fold_of, reads, step, operator, at_operand_end, after, at_right_operand, element_of, start, Functions}
+use Rattle.ocr_syntax.specs.Joined.{with, ended_by, followed_by}
+use Rattle.ocr_syntax.specs.Machine as m
+use Rattle.ocr_syntax.specs.Machine.{State, Position, Purpose, Indexed, Stack, Bottom, CallSite, InExpression, AsStatement, Left, Prefix, Round, Index, Argument, Member, FlagsArgument, Operand, AfterOperand, Held, fold_of, reads, step, operator, at_operand_end, after, at_right_operand, element_of, start, Functions}
+use Rattle.ocr_syntax.proofs.Joined.{with_none, with_more}
 
 -- the least level of what goes on here
 abbrev pub floor : Stack → ℕ
@@ -90,18 +91,6 @@ prefixed : (h : Position) (k : Stack) (op : UnaryOp) (ts : List Lexeme)
 prefixed h k unary.Not ts = refl
 prefixed h k unary.Invert ts = refl
 prefixed h k unary.Minus ts = refl
-
-pub with_none : (a : Arguments) → with a empty ≡ a
-with_none empty = refl
-with_none (value e a) = ap (value e) (with_none a)
-with_none (list es a) = ap (list es) (with_none a)
-with_none (named x a) = ap (named x) (with_none a)
-
-pub with_more : (a b c : Arguments) → with (with a b) c ≡ with a (with b c)
-with_more empty b c = refl
-with_more (value e a) b c = ap (value e) (with_more a b c)
-with_more (list es a) b c = ap (list es) (with_more a b c)
-with_more (named x a) b c = ap (named x) (with_more a b c)
 
 same_args : {a b : Arguments} (h : Position) (k : CallSite) (c : CallName) (rest : List Lexeme) → a ≡ b
     → reads (Some (m.after_call h c a k)) rest ≡ reads (Some (m.after_call h c b k)) rest

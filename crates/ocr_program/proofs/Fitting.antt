@@ -1,12 +1,10 @@
 -- Each step keeps that the arguments fit.
-use Rattle.std.proofs.Common.{◌≡◌, ℕ, List, [], ◌∷◌, true, Option, Some, None, refl, sym, ap, subst, ◌∙◌}
-use Rattle.std.proofs.lemmas.Bool.{cond_both}
-use Rattle.std.specs.Prelude.{nat_le}
+use Rattle.std.proofs.Common.{◌≡◌, ℕ, List, [], ◌∷◌, Option, Some, None, subst}
 use Rattle.ocr_tree.specs.declared.tree.BinaryOp.{BinaryOp}
 use Rattle.ocr_tree.specs.declared.tree.BinaryOp.TheVariants as binary
 use Rattle.ocr_tree.specs.declared.tree.CallName.{CallName}
 use Rattle.ocr_tree.specs.Tree as tree
-use Rattle.ocr_tree.specs.Tree.{Expression, Arguments, empty, value, list, named, Statements, nothing, FunctionTree}
+use Rattle.ocr_tree.specs.Tree.{Expression, Arguments, empty, value, Statements, nothing, FunctionTree}
 use Rattle.ocr_grammar.specs.declared.lexeme.Lexeme.{Lexeme}
 use Rattle.ocr_grammar.specs.declared.lexeme.Lexeme.TheVariants as lexeme
 use Rattle.ocr_grammar.specs.declared.lexeme.Word.TheVariants as word
@@ -14,45 +12,10 @@ use Rattle.ocr_grammar.specs.Grammar.{level}
 use Rattle.ocr_grammar.specs.declared.argument_kind.ArgumentKind.{ArgumentKind}
 use Rattle.ocr_grammar.specs.declared.argument_kind.ArgumentKind.TheVariants.{Value, Values, NameOfFunction, FlagsAndOutput}
 use Rattle.ocr_grammar.specs.Shape.{shape}
-use Rattle.ocr_program.specs.Joined.{with}
-use Rattle.ocr_program.specs.Machine as m
-use Rattle.ocr_program.specs.Fitting.{fits, is_output, LeadsTo, LeadsToFlags, LeadsToOutput, IsFitting, IsFittingSite, IsFittingState, IsFittingIfAny}
-use Rattle.ocr_program.proofs.Complete.{with_none, with_more}
-
--- arguments that lead to no further slot fit
-pub fits_whole : (c : CallName) (done : Arguments) → LeadsTo c done [] → fits (shape c) done ≡ true
-fits_whole c done w = ap (fits (shape c)) (sym (with_none done)) ∙ w empty refl
-
-pub leads_value : (c : CallName) (done : Arguments) (ss : List ArgumentKind) (e : Expression) → LeadsTo c done (Value ∷ ss)
-    → LeadsTo c (with done (value e empty)) ss
-leads_value c done ss e w args is = ap (fits (shape c)) (with_more done (value e empty) args) ∙ w (value e args) is
-
-pub leads_list : (c : CallName) (done : Arguments) (ss : List ArgumentKind) (es : Arguments) → LeadsTo c done (Values ∷ ss)
-    → LeadsTo c (with done (list es empty)) ss
-leads_list c done ss es w args is = ap (fits (shape c)) (with_more done (list es empty) args) ∙ w (list es args) is
-
-pub leads_named : (c : CallName) (done : Arguments) (ss : List ArgumentKind) (x : List ℕ) → LeadsTo c done (NameOfFunction ∷ ss)
-    → LeadsTo c (with done (named x empty)) ss
-leads_named c done ss x w args is = ap (fits (shape c)) (with_more done (named x empty) args) ∙ w (named x args) is
-
-pub leads_output : (c : CallName) (done : Arguments) (e : Expression) → LeadsToFlags c done
-    → LeadsToOutput c (with done (value e empty))
-leads_output c done e w x = ap (fits (shape c)) (with_more done (value e empty) (named x empty)) ∙ w e (named x empty) refl
-
-fold_fits : (l : ℕ) (k : m.Stack) (e : Expression) → IsFitting k → IsFitting (m.fold_of l k e).pending
-fold_fits l (m.Bottom p) e w = w
-fold_fits l (m.Left a op k) e w = cond_both (nat_le l (level op)) _ _ (λ (held : m.Held). IsFitting held.pending)
-    (λ _. fold_fits l k (tree.Binary op a e) w)
-    (λ _. w)
-fold_fits l (m.Prefix op k) e w = fold_fits l k (tree.Unary op e) w
-fold_fits l (m.Round k) e w = w
-fold_fits l (m.Index i k) e w = w
-fold_fits l (m.Argument c done ss k) e w = w
-fold_fits l (m.Member c done es ss k) e w = w
-fold_fits l (m.FlagsArgument c done k) e w = w
-
-pub folded_fits : (l : ℕ) (k : m.Stack) (e : Expression) → IsFitting k → IsFitting (m.fold_of l k e).pending
-folded_fits l k e w = fold_fits l k e w
+use Rattle.ocr_syntax.specs.Joined.{with}
+use Rattle.ocr_syntax.specs.Machine as m
+use Rattle.ocr_syntax.specs.Fitting.{LeadsTo, IsFitting, IsFittingSite, IsFittingState, IsFittingIfAny}
+use Rattle.ocr_syntax.proofs.Fitting.{fits_whole, leads_value, leads_list, leads_named, leads_output, folded_fits}
 
 called_fits : (h : m.Position) (c : CallName) (args : Arguments) (k : m.CallSite) → IsFittingSite k
     → IsFittingState (m.after_call h c args k)
@@ -116,8 +79,8 @@ closed_fits h other e t w = tt
 
 after_fits : (h : m.Position) (k : m.Stack) (e : Expression) (t : Lexeme) (o : Option BinaryOp) → IsFitting k
     → IsFittingIfAny (m.after h k e t o)
-after_fits h k e t (Some op) w = fold_fits (level op) k e w
-after_fits h k e t None w = closed_fits h (m.fold_of 0 k e).pending (m.fold_of 0 k e).value t (fold_fits 0 k e w)
+after_fits h k e t (Some op) w = folded_fits (level op) k e w
+after_fits h k e t None w = closed_fits h (m.fold_of 0 k e).pending (m.fold_of 0 k e).value t (folded_fits 0 k e w)
 
 left_fits : (fs : List FunctionTree) (x : List ℕ) (outer : List m.OpenBlock) (before : Statements) (k : m.BlockKind)
     (body : Statements) → IsFittingState (m.after_block fs x outer before k body)

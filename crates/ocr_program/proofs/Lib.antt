@@ -2,9 +2,8 @@ pub mod Complete
 pub mod Sound
 pub mod Exact
 pub mod Fitting
-pub mod Lists
+pub mod Marks
 pub mod Heights
+pub mod Unfinished
 pub mod Places
 pub mod One
-pub mod CallLemmas
-pub mod Marks

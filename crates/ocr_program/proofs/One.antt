@@ -2,15 +2,11 @@
 use Rattle.std.proofs.Common.{◌≡◌, ◌+◌, ◌≤◌, ◌<◌, ℕ, zero, suc, List, [], ◌∷◌, ◌++◌, length, take, drop, get_or, inl, inr, refl, sym, ap, ◌∙◌, subst, arith, append_assoc}
 use Rattle.std.proofs.lemmas.Bool.{cases_lt}
 use Rattle.std.proofs.lemmas.List.{take-append-drop}
-use Rattle.std.specs.Prelude.{Result, Ok, Err}
 use Rattle.ocr_text.specs.declared.token.Token.{Token}
-use Rattle.ocr_tree.specs.declared.tree.Program.{Program}
 use Rattle.ocr_tree.specs.Tree.{FunctionTree}
-use Rattle.ocr_tree.specs.View.{tree_of}
 use Rattle.ocr_grammar.specs.declared.lexeme.Lexeme.{Lexeme}
 use Rattle.ocr_grammar.specs.Grammar.{IsProgram, GoesOn}
-use Rattle.ocr_grammar.specs.Limits.{IsOver}
-use Rattle.ocr_grammar.specs.Parsing.{Fits, IsTree, IsFault}
+use Rattle.ocr_grammar.specs.Parsing.{IsTree, IsFault}
 use Rattle.ocr_grammar.specs.Lexing.{lexemes_of, places_of, IsTreeOf, IsSyntaxFault}
 use Rattle.ocr_program.proofs.Exact.{one_tree}
 

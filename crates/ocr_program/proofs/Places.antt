@@ -1,17 +1,17 @@
 -- How far the tokens were read, and what that says of them.
 use Rattle.std.proofs.Common.{◌≡◌, ◌+◌, ◌≤◌, ◌<◌, ℕ, zero, suc, List, [], ◌∷◌, ◌++◌, length, take, drop, get_or, Option, Some, None, true, false, true≢false, inl, inr, refl, sym, ap, ◌∙◌, subst, arith, append_assoc, append-nil, length-append}
 use Rattle.std.proofs.lemmas.Bool.{cases_lt}
-use Rattle.std.proofs.lemmas.List.{take_more, take_all, take-append-drop}
+use Rattle.std.proofs.lemmas.List.{take_more, take_all}
 use Rattle.ocr_text.specs.declared.token.Token.{Token}
 use Rattle.ocr_text.specs.Tokens.{IsToken, Tile, AreTokens}
 use Rattle.ocr_tree.specs.Tree.{FunctionTree}
 use Rattle.ocr_grammar.specs.declared.lexeme.Lexeme.{Lexeme}
-use Rattle.ocr_grammar.specs.Grammar.{IsProgram, GoesOn}
+use Rattle.ocr_grammar.specs.Grammar.{GoesOn}
 use Rattle.ocr_grammar.specs.Limits.{Tally, tally, tally_after, nothing_read, is_over, IsOver}
 use Rattle.ocr_grammar.specs.Parsing.{Fits, IsTree, IsFault}
 use Rattle.ocr_grammar.specs.Lexing.{lexeme_of, lexeme_onto, lexemes_of, place_onto, places_of, IsTreeOf, IsSyntaxFault}
-use Rattle.ocr_program.specs.Machine.{State, reads, step, next, start, Functions, program_of}
-use Rattle.ocr_program.specs.Fitting.{IsFittingState}
+use Rattle.ocr_syntax.specs.Machine.{State, reads, step, next, start, Functions, program_of}
+use Rattle.ocr_syntax.specs.Fitting.{IsFittingState}
 use Rattle.ocr_program.proofs.Fitting.{step_fitting}
 use Rattle.ocr_program.proofs.Sound.{read_is_program}
 use Rattle.ocr_program.proofs.Exact.{reads_append, goes_on, stops, no_program}

@@ -5,7 +5,6 @@ use Rattle.std.proofs.lemmas.Bool.Decides.{leb_tells}
 use Rattle.std.specs.Prelude.{nat_le}
 use Rattle.ocr_tree.specs.declared.tree.BinaryOp.{BinaryOp}
 use Rattle.ocr_tree.specs.declared.tree.BinaryOp.TheVariants as binary
-use Rattle.ocr_tree.specs.declared.tree.UnaryOp.TheVariants as unary
 use Rattle.ocr_tree.specs.declared.tree.CallName.{CallName}
 use Rattle.ocr_tree.specs.Tree as tree
 use Rattle.ocr_tree.specs.Tree.{Expression, Arguments, empty, value, list, named, Statement, Statements, nothing, FunctionTree}
@@ -17,10 +16,11 @@ use Rattle.ocr_grammar.specs.declared.argument_kind.ArgumentKind.TheVariants.{Va
 use Rattle.ocr_grammar.specs.Shape.{shape}
 use Rattle.ocr_grammar.specs.Grammar as g
 use Rattle.ocr_grammar.specs.Grammar.{level, lexeme_of_operator, lexeme_of_sign, IsExpression, AreArguments, Follows, AreMembers, IsStatement, AreStatements, IsProgram}
-use Rattle.ocr_program.specs.Joined.{with, ended_by}
-use Rattle.ocr_program.specs.Machine as m
-use Rattle.ocr_program.specs.Machine.{State, Position, Purpose, Indexed, Stack, Bottom, CallSite, InExpression, AsStatement, Left, Prefix, Round, Index, Argument, Member, FlagsArgument, Operand, AfterOperand, Held, fold_of, reads, step, operator, at_operand_end, after, at_right_operand, start, Functions}
-use Rattle.ocr_program.proofs.Complete.{with_none, with_more, floor, level_low}
+use Rattle.ocr_syntax.specs.Joined.{with, ended_by}
+use Rattle.ocr_syntax.specs.Machine as m
+use Rattle.ocr_syntax.specs.Machine.{State, Position, Purpose, Indexed, Stack, Bottom, CallSite, InExpression, AsStatement, Left, Prefix, Round, Index, Argument, Member, FlagsArgument, Operand, AfterOperand, Held, fold_of, reads, step, operator, at_operand_end, after, at_right_operand, start, Functions}
+use Rattle.ocr_syntax.proofs.Joined.{with_none, with_more}
+use Rattle.ocr_program.proofs.Complete.{floor, level_low}
 
 -- the arguments so far, where those of the slots left stand next
 abbrev Before : CallName → Arguments → List ArgumentKind → List Lexeme → List Lexeme → Type 0

@@ -5,7 +5,6 @@ use Rattle.ocr_tree.specs.declared.tree.Program.{Program}
 use Rattle.ocr_tree.specs.Tree.{FunctionTree}
 use Rattle.ocr_tree.specs.View.{tree_of}
 use Rattle.ocr_grammar.specs.Lexing.{IsTreeOf, IsSyntaxFault}
-use Rattle.ocr_program.specs.declared.parsing.SyntaxFault.{SyntaxFault}
 use Rattle.ocr_program.specs.declared.parsing.ParseStop.{ParseStop}
 use Rattle.ocr_program.specs.declared.parsing.ParseStop.TheVariants as stop
 use Rattle.ocr_program.specs.declared.parsing.Parsed.{Parsed}

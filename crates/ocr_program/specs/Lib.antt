@@ -1,7 +1,1 @@
-pub mod Joined
-pub mod Machine
-pub mod Fitting
-pub mod View
-pub mod Counting
 pub mod Answers
-pub mod Marks

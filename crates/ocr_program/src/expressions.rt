@@ -3,15 +3,16 @@ ghost use Rattle.std.specs.Prelude.{◌≡◌, ◌∷◌, IfOk};
 ghost use Rattle.ocr_tree.specs.View.{expression_of, members_of};
 ghost use Rattle.ocr_tree.specs.Tree as tree;
 ghost use Rattle.ocr_grammar.specs.declared.argument_kind.ArgumentKind.TheVariants as slot;
-ghost use Rattle.ocr_program.specs.Joined.{with};
-ghost use Rattle.ocr_program.specs.Machine as machine;
-ghost use Rattle.ocr_program.specs.Fitting.{LeadsTo, LeadsToFlags, IsFitting};
-ghost use Rattle.ocr_program.specs.View.{args_of, slots_after, stack_of, site_of, held_of, position_of, indexed_of, state_of, state_if_any};
+ghost use Rattle.ocr_syntax.specs.Joined.{with};
+ghost use Rattle.ocr_syntax.specs.Machine as machine;
+ghost use Rattle.ocr_syntax.specs.Fitting.{LeadsTo, LeadsToFlags, IsFitting};
+ghost use Rattle.ocr_syntax.specs.View.{args_of, slots_after, stack_of, site_of, held_of, position_of, indexed_of, state_of, state_if_any};
 
-use crate::calls::{after_argument, after_flags, after_member, with_member, with_value};
-use crate::statements::at_expression_end;
-use crate::states::{Arg, CallSite, Indexed, Position, Stack, State, Wanted};
 use ocr_grammar::{Lexeme, Word, level};
+use ocr_syntax::{
+    Arg, CallSite, Indexed, Position, Stack, State, Wanted, after_argument, after_flags,
+    after_member, at_expression_end, with_member, with_value,
+};
 use ocr_tree::{BinaryOp, CallName, Expr, UnaryOp};
 use std::alloc::{AllocError, Global};
 
@@ -276,7 +277,7 @@ fn element(alloc: Global, which: Indexed, index: Box<Expr>) -> Result<Box<Expr>,
 }
 
 /// The token after a value that is an argument.
-#[tactic(auto, using(crate::proofs::CallLemmas::leads_pushed, crate::proofs::CallLemmas::followed_pushed))]
+#[tactic(auto, using(ocr_syntax::proofs::CallLemmas::leads_pushed, ocr_syntax::proofs::CallLemmas::followed_pushed))]
 fn after_value(
     alloc: Global,
     position: Position,
@@ -296,7 +297,7 @@ fn after_value(
 }
 
 /// The token after a value that is the flags of a call.
-#[tactic(auto, using(crate::proofs::CallLemmas::flags_pushed, crate::proofs::CallLemmas::after_flags_pushed))]
+#[tactic(auto, using(ocr_syntax::proofs::CallLemmas::flags_pushed, ocr_syntax::proofs::CallLemmas::after_flags_pushed))]
 fn after_flags_value(
     alloc: Global,
     position: Position,
@@ -316,7 +317,7 @@ fn after_flags_value(
 }
 
 /// The token after an operand: what goes on with an expression, or ends it.
-#[tactic(auto, using(crate::proofs::CallLemmas::closed_held, crate::proofs::CallLemmas::infixed_held, crate::proofs::CallLemmas::fitting_held))]
+#[tactic(auto, using(ocr_syntax::proofs::CallLemmas::closed_held, ocr_syntax::proofs::CallLemmas::infixed_held, ocr_syntax::proofs::CallLemmas::fitting_held))]
 pub fn after_operand(
     alloc: Global,
     position: Position,

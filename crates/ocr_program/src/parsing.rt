@@ -5,13 +5,12 @@ ghost use Rattle.ocr_tree.specs.View.{tree_of};
 ghost use Rattle.ocr_text.specs.Tokens.{AreTokens};
 ghost use Rattle.ocr_grammar.specs.Lexing.{IsTreeOf, IsSyntaxFault};
 ghost use Rattle.ocr_program.specs.Answers.{Answers, IsFaultOrNoMemory, IsTreeOrNoMemory};
-ghost use Rattle.ocr_program.specs.Machine as machine;
-ghost use Rattle.ocr_program.specs.View.{state_of};
+ghost use Rattle.ocr_syntax.specs.Machine as machine;
+ghost use Rattle.ocr_syntax.specs.View.{state_of};
 
-use crate::limits::{Tally, is_over, tally_after};
-use crate::states::State;
 use crate::steps::step;
 use ocr_grammar::read_token;
+use ocr_syntax::{State, Tally, is_over, tally_after};
 use ocr_text::Token;
 use ocr_tree::Program;
 use std::alloc::{AllocError, Global};
@@ -62,7 +61,7 @@ pub enum Parsed {
 }
 
 /// The program, where the text may end here.
-#[tactic(auto, using(crate::proofs::Marks::unfinished))]
+#[tactic(auto, using(crate::proofs::Unfinished::unfinished))]
 fn finished(state: State) -> Option<Program>
     ensures { option_map tree_of result ≡ machine.program_of (state_of state) }
 {

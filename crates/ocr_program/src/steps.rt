@@ -1,18 +1,20 @@
 // One step of the reading: what is wanted next, and the token that comes.
 ghost use Rattle.std.specs.Prelude.{◌≡◌, IfOk};
-ghost use Rattle.ocr_program.specs.Machine as machine;
-ghost use Rattle.ocr_program.specs.Fitting.{IsFittingState};
-ghost use Rattle.ocr_program.specs.View.{position_of, wanted_of, state_of, state_if_any};
+ghost use Rattle.ocr_syntax.specs.Machine as machine;
+ghost use Rattle.ocr_syntax.specs.Fitting.{IsFittingState};
+ghost use Rattle.ocr_syntax.specs.View.{position_of, wanted_of, state_of, state_if_any};
 
-use crate::calls::{after_argument, at_call_end, list_start};
 use crate::expressions::{after_operand, operand};
-use crate::statements::{after_call, at_brace, at_statement, may_else};
-use crate::states::{BlockKind, Position, State, Wanted};
+use crate::lists::list_start;
 use crate::wanted::{
     assign_equals, call_open, function_name, function_open, function_word, index_open, let_equals,
     let_name, list_open, name_at, output_and, output_name,
 };
 use ocr_grammar::Lexeme;
+use ocr_syntax::{
+    BlockKind, Position, State, Wanted, after_argument, after_call, at_brace, at_call_end,
+    at_statement, may_else,
+};
 use std::alloc::{AllocError, Global};
 
 /// The state after one more token, none where no program goes on with it.

@@ -1,7 +1,7 @@
 use Rattle.std.proofs.Common.{◌≡◌}
-use Rattle.ocr_program.specs.Machine as machine
+use Rattle.ocr_syntax.specs.Machine as machine
 use Rattle.ocr_tree.specs.View.{expression_of}
-use Rattle.ocr_program.specs.View.{stack_of}
+use Rattle.ocr_syntax.specs.View.{stack_of}
 use Rattle.ocr_program.proofs.Heights.{height}
 use Rattle.ocr_program.proofs.expressions.fold.Given as goal
 

@@ -1,6 +1,6 @@
 use Rattle.std.proofs.Common.{◌∙◌, sym, ap, subst, arith, rules, ◌+◌}
 use Rattle.ocr_grammar.specs.Limits as limits
-use Rattle.ocr_program.specs.View.{state_of, state_if_any}
+use Rattle.ocr_syntax.specs.View.{state_of, state_if_any}
 use Rattle.ocr_program.proofs.Places.{Progress, within_limits, token_at, passed, stepped, over_at, stop_at, tree_at_end, fault_at_end}
 use Rattle.ocr_program.proofs.parsing.read.Goals as goal
 

@@ -1,5 +1,0 @@
-use Rattle.ocr_program.proofs.CallLemmas.{pushed_list}
-use Rattle.ocr_program.proofs.calls.with_list.Goals as goal
-
-pub returns : goal.returns
-returns c = pushed_list _ _ _ c.in_ok-push.ensures.items

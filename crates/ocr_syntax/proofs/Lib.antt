@@ -1,0 +1,5 @@
+pub mod Joined
+pub mod Fitting
+pub mod Lists
+pub mod CallLemmas
+pub mod Marks

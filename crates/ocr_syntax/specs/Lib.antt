@@ -1,0 +1,6 @@
+pub mod Joined
+pub mod Machine
+pub mod Fitting
+pub mod View
+pub mod Counting
+pub mod Marks
