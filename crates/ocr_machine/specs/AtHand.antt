@@ -14,18 +14,40 @@ use Rattle.ocr_parts.specs.Calls.{is_object}
 use Rattle.ocr_parts.specs.Footprint.{makes_core}
 use Rattle.ocr_parts.specs.LegalOn.{IsCallOn, IsLoanBack}
 use Rattle.ocr_parts.specs.Parts.{Parts}
+use Rattle.ocr_machine.specs.declared.taken.Hand.{Hand}
+use Rattle.ocr_machine.specs.declared.taken.Hand.TheVariants as hand
 use Rattle.ocr_parts.specs.Taken.{has, put, keys, is_within, parts_in, ArePlaced}
 
--- parts with their numbers, of a state with so many objects
+-- parts with their numbers, of a state with so many objects: some of them, or the whole
 pub record AtHand : Type 0 where
   pub limit : ℕ
   pub items : List (ℕ × Part)
+  pub whole : Bool
 
 abbrev pub state : AtHand → Parts
 state h = parts_in h.limit h.items
 
 abbrev pub with_part : AtHand → ℕ → Part → AtHand
-with_part h n x = record { limit = h.limit; items = put h.items n x }
+with_part h n x = record { limit = h.limit; items = put h.items n x; whole = h.whole }
+
+-- all parts, each with its number
+abbrev pub numbered : ℕ → List Part → List (ℕ × Part)
+numbered n [] = []
+numbered n (p ∷ rest) = (n, p) ∷ numbered (n + 1) rest
+
+abbrev pub items_of : Hand → List (ℕ × Part)
+items_of (hand.Listed parts) = parts.items
+items_of (hand.Whole parts) = numbered 0 parts.items
+
+abbrev pub is_whole : Hand → Bool
+is_whole (hand.Listed parts) = false
+is_whole (hand.Whole parts) = true
+
+abbrev pub listed : ℕ → List (ℕ × Part) → AtHand
+listed limit ps = record { limit = limit; items = ps; whole = false }
+
+abbrev pub all_of : ℕ → List Part → AtHand
+all_of limit ps = record { limit = limit; items = numbered 0 ps; whole = true }
 
 abbrev pub is_core : Part → Bool
 is_core (part.Core c) = true
@@ -42,6 +64,7 @@ pub record Becomes (old new : AtHand) (f : Parts) : Type 0 where
   pub limit : new.limit ≡ old.limit
   pub state : state new ≡ f
   pub keys : keys new.items ≡ keys old.items
+  pub whole : new.whole ≡ old.whole
   pub placed : ArePlaced old.limit old.items → ArePlaced new.limit new.items
 
 -- the face of an object, or the core of an EDT, is at hand

@@ -159,7 +159,7 @@ fn call_step(
 }
 
 /// A call that sends nothing and lets nobody go on.
-fn nothing(alloc: Global) -> Entered
+pub(crate) fn nothing(alloc: Global) -> Entered
     ensures messages { result.messages.items ≡ [] }
     ensures resumed { result.resumed.items ≡ [] }
 {
@@ -169,7 +169,7 @@ fn nothing(alloc: Global) -> Entered
     }
 }
 
-fn only_sent(alloc: Global, messages: Vec<What>) -> Entered
+pub(crate) fn only_sent(alloc: Global, messages: Vec<What>) -> Entered
     ensures messages { result.messages.items ≡ messages.items }
     ensures resumed { result.resumed.items ≡ [] }
 {
@@ -179,7 +179,7 @@ fn only_sent(alloc: Global, messages: Vec<What>) -> Entered
     }
 }
 
-fn only_resumed(alloc: Global, resumed: Vec<Guid>) -> Entered
+pub(crate) fn only_resumed(alloc: Global, resumed: Vec<Guid>) -> Entered
     ensures messages { result.messages.items ≡ [] }
     ensures resumed { result.resumed.items ≡ resumed.items }
 {

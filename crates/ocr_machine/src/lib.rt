@@ -14,4 +14,4 @@ mod waking;
 pub use beginning::opening;
 pub use calling::Entered;
 pub use scopes::home_of;
-pub use stepping::step;
+pub use stepping::{SteppedAll, step, step_all};

@@ -1,22 +1,34 @@
 // What an entry does.
-ghost use Rattle.std.specs.Prelude.{◌≡◌, ◌≤◌, ◌<◌, ◌-◌, ◌^◌, ℕ, IfOk};
+ghost use Rattle.std.specs.Prelude.{◌≡◌, ◌≤◌, ◌<◌, ◌+◌, ◌-◌, ◌^◌, ℕ, length, IfOk};
 ghost use Rattle.ocr_parts.specs.Effects.{changed};
 ghost use Rattle.ocr_parts.specs.Footprint.{Covers};
 ghost use Rattle.ocr_parts.specs.Kinds.{counted_on};
 ghost use Rattle.ocr_parts.specs.LegalOn.{IsLegalOn};
 ghost use Rattle.ocr_parts.specs.Messages.{sends, resumes};
 ghost use Rattle.ocr_parts.specs.Taken.{keys, parts_in, ArePlaced};
+ghost use Rattle.ocr_codes.specs.Lookup.{face_at};
+ghost use Rattle.ocr_machine.specs.AtHand.{state, Becomes};
+ghost use Rattle.ocr_machine.specs.All.{all_parts, AreAllPlaced};
 
-use crate::calling::call_entry;
+use crate::calling::{Entered, call_entry, nothing, only_resumed, only_sent};
 use crate::ending::{end_hold, end_step};
 use crate::events::deliver_step;
 use crate::taken::Taken;
 use crate::waking::{acquire_step, pass_by, start_core, wait_step};
 use ocr_base::NoMemory;
-use ocr_guid::Code;
-use ocr_history::Entry;
+use ocr_guid::{Code, Guid};
+use ocr_history::{Entry, What};
 use ocr_parts::{Part, Stepped};
 use std::alloc::Global;
+
+/// What an entry does to all parts: these as they are after it, the messages that it sends, and the
+/// EDTs that go on by it.
+#[derive(Drop)]
+pub struct SteppedAll {
+    pub parts: Vec<Part>,
+    pub messages: Vec<What>,
+    pub resumed: Vec<Guid>,
+}
 
 /// What the entry does to the parts that it names. It takes these, perhaps with others, and gives
 /// them back, changed, with the messages that it sends and the EDTs that it resumes. An EDT that
@@ -41,9 +53,56 @@ pub fn step(
     ensures resumed { IfOk result (λ r. r.resumed.items
         ≡ resumes entry.now (parts_in limit parts.items)) }
 {
-    let mut taken = Taken::new(limit, parts);
-    let mut messages = Vec::new(alloc);
-    let mut resumed = Vec::new(alloc);
+    let mut taken = Taken::listed(limit, parts);
+    let entered = enter(alloc, &mut taken, entry)?;
+    Ok(Stepped {
+        parts: taken.into_listed(),
+        messages: entered.messages,
+        resumed: entered.resumed,
+    })
+}
+
+/// What the entry does to all parts of the state, each at its number, as `step` does to those that
+/// it names. For want of memory the parts are gone.
+pub fn step_all(
+    alloc: Global,
+    limit: u64,
+    entry: &Entry,
+    parts: Vec<Part>,
+) -> Result<SteppedAll, NoMemory>
+    requires legal { IsLegalOn limit (all_parts limit parts.items) entry.now }
+    requires all { limit + limit < length parts.items }
+    requires counts { (g : ℕ) → counted_on (face_at limit parts.items g) < 2 ^ 64 - 1 }
+    requires limit_fits { limit ≤ 65536 }
+    ensures parts { IfOk result (λ r. all_parts limit r.parts.items
+        ≡ changed entry.now (all_parts limit parts.items)) }
+    ensures length { IfOk result (λ r. length r.parts.items ≡ length parts.items) }
+    ensures placed { IfOk result (λ r. AreAllPlaced limit parts.items
+        → AreAllPlaced limit r.parts.items) }
+    ensures messages { IfOk result (λ r. r.messages.items
+        ≡ sends entry.now (all_parts limit parts.items)) }
+    ensures resumed { IfOk result (λ r. r.resumed.items
+        ≡ resumes entry.now (all_parts limit parts.items)) }
+{
+    let mut taken = Taken::whole(limit, parts);
+    let entered = enter(alloc, &mut taken, entry)?;
+    Ok(SteppedAll {
+        parts: taken.into_whole(),
+        messages: entered.messages,
+        resumed: entered.resumed,
+    })
+}
+
+/// What the entry does to the parts at hand; gives what it sends, and who is resumed.
+fn enter(alloc: Global, parts: &mut Taken, entry: &Entry) -> Result<Entered, NoMemory>
+    requires legal { IsLegalOn parts.old.limit (state parts.old) entry.now }
+    requires covers { Covers parts.old.limit entry.now parts.old.items }
+    requires counts { (g : ℕ) → counted_on ((state parts.old).face g) < 2 ^ 64 - 1 }
+    ensures parts { IfOk result (λ _. Becomes parts.old parts.new
+        (changed entry.now (state parts.old))) }
+    ensures messages { IfOk result (λ r. r.messages.items ≡ sends entry.now (state parts.old)) }
+    ensures resumed { IfOk result (λ r. r.resumed.items ≡ resumes entry.now (state parts.old)) }
+{
     match entry {
         Entry::Call {
             edt,
@@ -53,31 +112,43 @@ pub fn step(
             writes,
         } => {
             if answer.code == Code::Done {
-                let called = call_entry(alloc, &mut taken, edt.0, home.0, call, answer, writes)?;
-                messages = called.messages;
-                resumed = called.resumed;
+                call_entry(alloc, parts, edt.0, home.0, call, answer, writes)
+            } else {
+                Ok(nothing(alloc))
             }
         }
-        Entry::Acquire { edt, block } => acquire_step(alloc, &mut taken, edt.0, block.0)?,
-        Entry::Wait { edt, block } => wait_step(alloc, &mut taken, edt.0, block.0)?,
-        Entry::Start { edt } => start_core(&mut taken, edt.0),
+        Entry::Acquire { edt, block } => {
+            acquire_step(alloc, parts, edt.0, block.0)?;
+            Ok(nothing(alloc))
+        }
+        Entry::Wait { edt, block } => {
+            wait_step(alloc, parts, edt.0, block.0)?;
+            Ok(nothing(alloc))
+        }
+        Entry::Start { edt } => {
+            start_core(parts, edt.0);
+            Ok(nothing(alloc))
+        }
         Entry::Free { edt, block, writes } => {
-            resumed = end_hold(alloc, &mut taken, edt.0, block.0, writes)?;
+            let resumed = end_hold(alloc, parts, edt.0, block.0, writes)?;
+            Ok(only_resumed(alloc, resumed))
         }
         Entry::End { edt, returned } => {
-            messages = end_step(alloc, &mut taken, edt.0, returned.0)?;
+            let messages = end_step(alloc, parts, edt.0, returned.0)?;
+            Ok(only_sent(alloc, messages))
         }
         Entry::Deliver { message, code } => {
             if *code == Code::Done {
-                messages = deliver_step(alloc, &mut taken, message.what)?;
+                let messages = deliver_step(alloc, parts, message.what)?;
+                Ok(only_sent(alloc, messages))
+            } else {
+                Ok(nothing(alloc))
             }
         }
-        Entry::StaleAcquire { edt, block: _ } => pass_by(&mut taken, edt.0),
-        Entry::Stop(_) => (),
+        Entry::StaleAcquire { edt, block: _ } => {
+            pass_by(parts, edt.0);
+            Ok(nothing(alloc))
+        }
+        Entry::Stop(_) => Ok(nothing(alloc)),
     }
-    Ok(Stepped {
-        parts: taken.into_parts(),
-        messages,
-        resumed,
-    })
 }

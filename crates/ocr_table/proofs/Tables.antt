@@ -1,12 +1,15 @@
 -- The table of a run: its parts, and what its slots were set to.
 use Rattle.std.proofs.Common.{◌≡◌, ℕ, zero, suc, ◌+◌, ◌-◌, ◌<◌, ◌≤◌, ◌↔◌, List, [], ◌∷◌, ◌++◌, length, drop, append_assoc, unwrap_or, map, filter, not, slice_set, true, false, ◌==◌, ◌||◌, ◌&&◌, if◌then◌else◌, Option, Some, None, is_some, arith, refl, sym, ◌∙◌, ap, subst}
 use Rattle.std.proofs.lemmas.Grind.{common_steps}
+use Rattle.std.proofs.lemmas.Bool.{eqb-true}
 use Rattle.std.specs.List.{range_with_len}
 use Rattle.ocr_guid.specs.Target.{EventCall}
 use Rattle.ocr_acquire.specs.Plan as plan
 use Rattle.ocr_acquire.specs.declared.Mode.{Mode}
 use Rattle.ocr_datablock.specs.Block.{BlockCall}
 use Rattle.ocr_edt.specs.Edt as edt
+use Rattle.ocr_edt.specs.declared.Edt.{Edt}
+use Rattle.ocr_edt.specs.declared.Edt.TheVariants as phase
 use Rattle.ocr_history.specs.History as history
 use Rattle.ocr_history.specs.Numbers.{is_in}
 use Rattle.ocr_history.specs.declared.entry.What.TheVariants as what
@@ -22,16 +25,17 @@ use Rattle.ocr_parts.specs.declared.part.Part.TheVariants as part
 use Rattle.ocr_parts.specs.Calls.{link_calls, set_calls, set_step, depc_of, open_slots, payload_or_null, payloads_of, depv_of, depv_in, value_of_slot, edt_calls, loans_of, slots_now, plan_of, asks_in}
 use Rattle.ocr_parts.specs.Effects.{changed, readied, readied_on, edt_in, ready_at, with_core, with_phase, made_ready, next_on}
 use Rattle.ocr_parts.specs.Kinds.{on_core, core_progress, next_in, is_running}
-use Rattle.ocr_parts.specs.Laws.{AfterLaw, WithinLaw}
+use Rattle.ocr_parts.specs.Laws.{AfterLaw}
 use Rattle.ocr_parts.specs.LegalOn.{IsLegalOn}
 use Rattle.ocr_parts.specs.Messages.{sends, resumes}
 use Rattle.ocr_edt.specs.declared.Identity.{Identity}
 use Rattle.ocr_parts.specs.Parts.{Parts, parts_of, face, core, identity_of}
-use Rattle.ocr_parts.specs.Taken.{look, has, as_face, as_core, is_within, IsWithin, parts_in, place_of, ArePlaced}
+use Rattle.ocr_parts.specs.Taken.{look, has, as_face, as_core, is_within, parts_in, place_of, ArePlaced}
 use Rattle.ocr_parts.proofs.Choices.{same}
-use Rattle.ocr_table.specs.Sets.{filled, are_set, payloads_in, slots_in, stale_on, set_after}
+use Rattle.ocr_table.specs.Sets.{filled, are_set, payloads_in, slots_in, is_filling, is_filling_on, stale_on, set_after}
 use Rattle.ocr_codes.specs.Lookup.{part_at}
-use Rattle.ocr_table.specs.Table.{all_parts, AreAllPlaced, state_in, face_on, core_on, sets_in, slots_on, plan_on, IsLike, IsOf, IsBefore}
+use Rattle.ocr_machine.specs.All.{core_at, all_parts, AreAllPlaced}
+use Rattle.ocr_table.specs.Table.{state_in, face_on, core_on, sets_in, slots_on, plan_on, IsWhole, IsOf, IsBefore}
 use Rattle.ocr_table.specs.declared.table.Table.{Table}
 use Rattle.ocr_machine.proofs.Places.{parts_by, place_is, AreKept, kept_as, kept_set, core_set}
 use Rattle.ocr_finish.specs.Scope.{ScopeCall}
@@ -130,22 +134,6 @@ sets_after past (Call by home c a w) t = refl
 sets_after past (Deliver m code) t = refl
 sets_after past other t = refl
 
--- parts that are alike up to the limit, and past it vacant
-like_parts : (limit : ℕ) (f h : Parts) → IsLike limit f h → IsWithin limit f → IsWithin limit h → f ≡ h
-like_parts limit f h like one other = λ i. record {
-  face = λ g. (elim (is_within limit g) as (λ b. is_within limit g ≡ b → f.face g ≡ h.face g) [
-    | true ↦ λ within. like.faces g within
-    | false ↦ λ off. one.faces g off ∙ sym (other.faces g off)
-  ] refl) i;
-  core = λ u. (elim (is_within limit u) as (λ b. is_within limit u ≡ b → f.core u ≡ h.core u) [
-    | true ↦ λ within. like.cores u within
-    | false ↦ λ off. one.cores u off ∙ sym (other.cores u off)
-  ] refl) i;
-}
-
-pub all_within : (limit : ℕ) (ps : List Part) → IsWithin limit (all_parts limit ps)
-all_within limit ps = record { faces = λ g off. rw off refl; cores = λ u off. rw off refl }
-
 -- what an entry sends, and whom it resumes, does not rest on whether its EDT was made ready
 pub sends_readied : (ms : List (ℕ × Mode)) (e : Entry) (f : Parts) → sends e (readied ms e f) ≡ sends e f
 sends_readied ms (Call t home c a w) f = refl
@@ -177,25 +165,21 @@ legal_ready s past e old ready before limit is =
     subst (λ (n : ℕ). IsLegalOn n (state_in ready) e) (sym (limit ∙ before.of.limit))
     (subst (λ (f : Parts). IsLegalOn s.limit f e) (sym (ready_is s past e old ready before.of is)) before.legal.on_parts)
 
-pub entered : AfterLaw → WithinLaw → (s : history.Setting) (past : history.History) (e : Entry) (old ready after new : Table) → IsBefore s past e old
+pub entered : AfterLaw → (s : history.Setting) (past : history.History) (e : Entry) (old ready after new : Table) → IsBefore s past e old
     → ready.limit ≡ old.limit → ready.sets ≡ old.sets → state_in ready ≡ readied (plan_on old (edt_in e)) e (state_in old)
     → (AreAllPlaced old.limit old.parts.items → AreAllPlaced ready.limit ready.parts.items)
-    → after.limit ≡ ready.limit → after.sets ≡ ready.sets → IsLike ready.limit (state_in after) (changed e (state_in ready))
+    → after.limit ≡ ready.limit → after.sets ≡ ready.sets → IsWhole after → state_in after ≡ changed e (state_in ready)
     → (AreAllPlaced ready.limit ready.parts.items → AreAllPlaced after.limit after.parts.items)
     → new.limit ≡ after.limit → new.parts ≡ after.parts → ((t : ℕ) → is_within after.limit t ≡ true → sets_in new t ≡ set_after e t (sets_in after t))
     → IsOf s (e ∷ past) new
-entered after_law within_law s past e old ready after new before limit sets state placed limit2 sets2 like placed2 limit3 parts3 sets3 =
+entered after_law s past e old ready after new before limit sets state placed limit2 sets2 whole is placed2 limit3 parts3 sets3 =
     let same : after.limit ≡ s.limit = limit2 ∙ limit ∙ before.of.limit in
-    let target : changed e (state_in ready) ≡ parts_of s (e ∷ past) =
-    ap (changed e) (ready_is s past e old ready before.of state) ∙ sym (after_law s past e before.run before.legal) in
-    let like2 : IsLike s.limit (state_in after) (parts_of s (e ∷ past)) =
-    subst (λ (f : Parts). IsLike s.limit (state_in after) f) target (subst (λ (n : ℕ). IsLike n (state_in after) (changed e (state_in ready))) (limit ∙ before.of.limit) like) in
     let here : state_in after ≡ parts_of s (e ∷ past) =
-    like_parts s.limit (state_in after) (parts_of s (e ∷ past)) like2 (subst (λ (n : ℕ). IsWithin n (state_in after)) same (all_within after.limit after.parts.items))
-    (within_law s (e ∷ past) before.of.some (before.run, before.legal)) in
+    is ∙ ap (changed e) (ready_is s past e old ready before.of state) ∙ sym (after_law s past e before.run before.legal) in
     record {
       some = before.of.some;
       limit = limit3 ∙ same;
+      whole = rw (limit3, parts3) whole;
       parts = rw (limit3, parts3) here;
       placed = rw (limit3, parts3) (placed2 (placed before.of.placed));
       sets = λ t within. sets3 t (ap (λ (n : ℕ). is_within n t) same ∙ within)
@@ -256,6 +240,41 @@ ready_state limit ps later t ms within set =
     core_set limit (part_at ps) (part_at later) t (on_core (part_at ps (limit + t)) (with_phase (made_ready ms))) set within
     ∙ ap (with_core (all_parts limit ps) t) (as_core_step (part_at ps (limit + t)) (with_phase (made_ready ms)) ∙ rw within refl)
 
+-- the core of one that is being filled is in its place
+pub filling_within : (limit : ℕ) (ps : List Part) (t : ℕ) → is_filling_on (core_at limit ps t) ≡ true → is_within limit t ≡ true
+filling_within limit ps t is = elim (is_within limit t) as (λ b. is_filling_on (if b then as_core (part_at ps (limit + t)) else part.Vacant) ≡ true → b ≡ true) [
+  | true ↦ λ _. refl
+  | false ↦ λ is. cc is
+] is
+
+there : (ps : List Part) (n : ℕ) → is_filling_on (as_core (part_at ps n)) ≡ true → n < length ps
+there [] n is = cc is
+there (p ∷ rest) zero is = omega arith
+there (p ∷ rest) (suc n) is = let below : n < length rest = there rest n is in omega (arith, below)
+
+pub filling_below : (limit : ℕ) (ps : List Part) (t : ℕ) → is_filling_on (core_at limit ps t) ≡ true → limit + t < length ps
+filling_below limit ps t is =
+    let within : is_within limit t ≡ true = filling_within limit ps t is in
+    there ps (limit + t) (rw within at is)
+
+-- one that is not filled any more is ready already
+ready_phase : (e : Edt) (ms : List (ℕ × Mode)) → is_filling e ≡ false → made_ready ms e ≡ e
+ready_phase (phase.Filling i) ms is = cc is
+ready_phase other ms is = refl
+
+ready_core : (x : Part) (ms : List (ℕ × Mode)) → is_filling_on x ≡ false → on_core x (with_phase (made_ready ms)) ≡ x
+ready_core (part.Core c) ms is = ap (λ (e : Edt). part.Core (record { function = c.function; params = c.params; edt = e; loans = c.loans })) (ready_phase c.edt ms is)
+ready_core other ms is = refl
+
+pub ready_before : (f : Parts) (t : ℕ) (ms : List (ℕ × Mode)) → is_filling_on (f.core t) ≡ false → f ≡ ready_at t ms f
+ready_before f t ms is = λ i. record {
+  face = f.face;
+  core = λ u. (elim (t == u) as (λ b. (t == u) ≡ b → f.core u ≡ (if b then on_core (f.core t) (with_phase (made_ready ms)) else f.core u)) [
+    | true ↦ λ same. ap f.core (sym (eqb-true t u same)) ∙ sym (ready_core (f.core t) ms is)
+    | false ↦ λ _. refl
+  ] refl) i;
+}
+
 pub ready_placed : (limit : ℕ) (ps later : List Part) (t : ℕ) (ms : List (ℕ × Mode))
     → ((n : ℕ) → part_at later n ≡ (if (limit + t) == n then on_core (part_at ps (limit + t)) (with_phase (made_ready ms)) else part_at ps n))
     → AreAllPlaced limit ps → AreAllPlaced limit later
@@ -267,17 +286,18 @@ ready_placed limit ps later t ms set are =
 flipped : (t : ℕ) → (2 == t) ≡ (t == 2)
 flipped t = grind (arith, common_steps)
 
-pub opened_is : (s : history.Setting) (ps : List (ℕ × Part)) (before after new : Table) → 2 ≤ s.limit → before.limit ≡ s.limit → ((n : ℕ) → part_at before.parts.items n ≡ part.Vacant)
+pub opened_is : (s : history.Setting) (ps : List (ℕ × Part)) (before after new : Table) → 2 ≤ s.limit → IsWhole after → before.limit ≡ s.limit → ((n : ℕ) → part_at before.parts.items n ≡ part.Vacant)
     → ((t : ℕ) → sets_in before t ≡ []) → parts_in s.limit ps ≡ parts_of s [] → ArePlaced s.limit ps
     → after.limit ≡ before.limit → after.sets ≡ before.sets → ((n : ℕ) → part_at after.parts.items n ≡ (if has ps n then look ps n else part_at before.parts.items n))
     → new.limit ≡ after.limit → new.parts ≡ after.parts → ((t : ℕ) → is_within after.limit t ≡ true → sets_in new t ≡ set_step (what.Set 2 0 1) t (sets_in after t))
     → IsOf s [] new
-opened_is s ps before after new enough limit vacant none parts placed limit2 sets2 given limit3 parts3 sets3 =
+opened_is s ps before after new enough whole limit vacant none parts placed limit2 sets2 given limit3 parts3 sets3 =
     let same : after.limit ≡ s.limit = limit2 ∙ limit in
     let at : (n : ℕ) → part_at after.parts.items n ≡ look ps n = opened_at ps before.parts.items after.parts.items vacant given in
     record {
       some = enough;
       limit = limit3 ∙ same;
+      whole = rw (limit3, parts3) whole;
       parts = rw (limit3, parts3, same) (same_parts s.limit (part_at after.parts.items) (look ps) at ∙ parts);
       placed = rw (limit3, parts3, same) (same_kept s.limit (part_at after.parts.items) (look ps) at placed);
       sets = λ t within.

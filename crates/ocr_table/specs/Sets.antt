@@ -1,5 +1,5 @@
 -- What the slots of an EDT were set to, and what they are with it.
-use Rattle.std.specs.Prelude.{ℕ, ◌+◌, List, [], ◌∷◌, Bool, true, ◌&&◌, if◌then◌else◌, is_some}
+use Rattle.std.specs.Prelude.{ℕ, ◌+◌, List, [], ◌∷◌, Bool, true, false, ◌&&◌, if◌then◌else◌, is_some}
 use Rattle.ocr_slots.specs.Slots.{SlotCall, Setting, payload_of}
 use Rattle.ocr_slots.specs.declared.Slot.{Slot}
 use Rattle.ocr_edt.specs.declared.Edt.{Edt}
@@ -40,6 +40,15 @@ stale_in other = []
 abbrev pub stale_on : Part → List ℕ
 stale_on (part.Core c) = stale_in c.edt
 stale_on other = []
+
+-- an EDT whose slots are being filled
+abbrev pub is_filling : Edt → Bool
+is_filling (phase.Filling i) = true
+is_filling other = false
+
+abbrev pub is_filling_on : Part → Bool
+is_filling_on (part.Core c) = is_filling c.edt
+is_filling_on other = false
 
 -- the slots of an EDT, by its face
 abbrev pub slots_in : Part → List Slot

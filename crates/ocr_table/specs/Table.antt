@@ -1,5 +1,5 @@
 -- All parts of the machine's state, each at its number, and what the slots of EDTs were set to.
-use Rattle.std.specs.Prelude.{◌≡◌, ◌≤◌, ℕ, ◌+◌, List, [], true, if◌then◌else◌, slice_index_or}
+use Rattle.std.specs.Prelude.{◌≡◌, ◌≤◌, ◌<◌, ℕ, ◌+◌, List, [], true, length, slice_index_or}
 use Rattle.ocr_acquire.specs.Plan as plan
 use Rattle.ocr_acquire.specs.declared.Mode.{Mode}
 use Rattle.ocr_slots.specs.Slots.{SlotCall}
@@ -7,24 +7,14 @@ use Rattle.ocr_slots.specs.declared.Slot.{Slot}
 use Rattle.ocr_history.specs.declared.entry.Entry.{Entry}
 use Rattle.ocr_history.specs.History as history
 use Rattle.ocr_parts.specs.declared.part.Part.{Part}
-use Rattle.ocr_parts.specs.declared.part.Part.TheVariants as part
 use Rattle.ocr_parts.specs.Calls.{set_calls, asks_in}
 use Rattle.ocr_parts.specs.Legal.{IsRun, IsLegal}
 use Rattle.ocr_parts.specs.Parts.{Parts, parts_of}
-use Rattle.ocr_parts.specs.Taken.{as_face, as_core, is_within, place_of}
-use Rattle.ocr_codes.specs.Lookup.{part_at, face_at}
+use Rattle.ocr_parts.specs.Taken.{is_within}
+use Rattle.ocr_codes.specs.Lookup.{face_at}
+use Rattle.ocr_machine.specs.All.{all_parts, core_at, AreAllPlaced}
 use Rattle.ocr_table.specs.Sets.{filled, slots_in}
 use Rattle.ocr_table.specs.declared.table.Table.{Table}
-
-abbrev pub core_at : ℕ → List Part → ℕ → Part
-core_at limit ps t = if is_within limit t then as_core (part_at ps (limit + t)) else part.Vacant
-
-abbrev pub all_parts : ℕ → List Part → Parts
-all_parts limit ps = record { face = face_at limit ps; core = core_at limit ps }
-
--- at each number stands a part of its kind
-abbrev pub AreAllPlaced : ℕ → List Part → Type 0
-AreAllPlaced limit ps = (n : ℕ) → part_at ps n ≡ place_of limit (all_parts limit ps) n
 
 -- the parts of a table, and those of one object
 abbrev pub state_in : Table → Parts
@@ -50,16 +40,16 @@ slots_on table t = filled 0 (slots_in (face_on table t)) (sets_in table t)
 abbrev pub plan_on : Table → ℕ → List (ℕ × Mode)
 plan_on table t = plan.plan_of (asks_in (slots_on table t))
 
--- the same parts of all objects up to the limit
-pub record IsLike (limit : ℕ) (f h : Parts) : Type 0 where
-  pub faces : (g : ℕ) → is_within limit g ≡ true → f.face g ≡ h.face g
-  pub cores : (u : ℕ) → is_within limit u ≡ true → f.core u ≡ h.core u
+-- each number of the state has its place, as long as want of memory lost none
+abbrev pub IsWhole : Table → Type 0
+IsWhole table = table.limit + table.limit < length table.parts.items
 
 -- THE TABLE of a run: its parts are those after this history, each in a place of its kind, and its
 -- slots are set as the history tells
 pub record IsOf (s : history.Setting) (past : history.History) (table : Table) : Type 0 where
   pub some : 2 ≤ s.limit
   pub limit : table.limit ≡ s.limit
+  pub whole : IsWhole table
   pub parts : state_in table ≡ parts_of s past
   pub placed : AreAllPlaced table.limit table.parts.items
   pub sets : (t : ℕ) → is_within s.limit t ≡ true → sets_in table t ≡ set_calls past t

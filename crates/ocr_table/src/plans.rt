@@ -10,8 +10,9 @@ ghost use Rattle.ocr_parts.specs.Effects.{edt_in, readied, ready_at, made_ready,
 ghost use Rattle.ocr_parts.specs.Kinds.{on_core, core_progress, next_in, is_running};
 ghost use Rattle.ocr_parts.specs.Parts.{parts_of};
 ghost use Rattle.ocr_parts.specs.declared.part.Part.TheVariants as part;
-ghost use Rattle.ocr_table.specs.Sets.{filled, are_set, payloads_in, stale_in, stale_on};
-ghost use Rattle.ocr_table.specs.Table.{AreAllPlaced, state_in, core_on, slots_on, plan_on, IsOf};
+ghost use Rattle.ocr_table.specs.Sets.{filled, are_set, payloads_in, is_filling, is_filling_on, stale_in, stale_on};
+ghost use Rattle.ocr_machine.specs.All.{AreAllPlaced};
+ghost use Rattle.ocr_table.specs.Table.{state_in, core_on, slots_on, plan_on, IsOf};
 
 use crate::rows::set_at;
 use crate::sets::Sets;
@@ -78,13 +79,11 @@ impl Table {
             ≡ filled 0 pair.0.now pair.1.now) }
         ensures none { IfNone result (slots_on self.now edt ≡ []) }
     {
-        if edt < 1 || self.limit < edt {
-            return None;
-        }
-        match &self.parts[edt as usize] {
-            Part::Edt(slots) => Some((slots, &self.sets[edt as usize])),
-            Part::Vacant | Part::Block(_) | Part::Template(_) => None,
-            Part::Event(_) | Part::Scope(_) | Part::Core(_) => None,
+        match self.face(edt) {
+            Some(Part::Edt(slots)) => Some((slots, &self.sets[edt as usize])),
+            None | Some(Part::Vacant) | Some(Part::Block(_)) => None,
+            Some(Part::Template(_)) | Some(Part::Event(_)) => None,
+            Some(Part::Scope(_)) | Some(Part::Core(_)) => None,
         }
     }
 
@@ -123,9 +122,12 @@ impl Table {
         ensures { IfOk result (λ next. next ≡ next_in (core_progress
             (on_core (core_on self.now edt) (with_phase (made_ready (plan_on self.now edt)))))) }
     {
-        let members = self.plan_here(alloc, edt)?;
+        if self.is_filling(edt) {
+            let members = self.plan_here(alloc, edt)?;
+            return Ok(first(members.as_slice()));
+        }
         match self.core(edt) {
-            Some(Part::Core(core)) => Ok(next_of(core, members.as_slice())),
+            Some(Part::Core(core)) => Ok(next_of(core)),
             Some(Part::Vacant) | Some(Part::Edt(_)) => Ok(None),
             Some(Part::Block(_)) | Some(Part::Template(_)) => Ok(None),
             Some(Part::Event(_)) | Some(Part::Scope(_)) | None => Ok(None),
@@ -232,6 +234,7 @@ impl Table {
     pub(crate) fn make_ready(&mut self, alloc: Global, entry: &Entry) -> Result<(), NoMemory>
         ensures limit { self.new.limit ≡ self.old.limit }
         ensures sets { self.new.sets ≡ self.old.sets }
+        ensures len { vec_len self.new.parts ≡ vec_len self.old.parts }
         ensures parts { IfOk result (λ _. state_in self.new
             ≡ readied (plan_on self.old (edt_in entry.now)) entry.now (state_in self.old)) }
         ensures placed { IfOk result (λ _. AreAllPlaced self.old.limit self.old.parts.items
@@ -247,22 +250,44 @@ impl Table {
         }
     }
 
+    /// Whether the slots of an EDT are being filled.
+    fn is_filling(&self, edt: u64) -> bool
+        ensures { result ≡ is_filling_on (core_on self.now edt) }
+    {
+        match self.core(edt) {
+            Some(Part::Core(core)) => is_filling(&core.edt),
+            Some(Part::Vacant) | Some(Part::Edt(_)) => false,
+            Some(Part::Block(_)) | Some(Part::Template(_)) => false,
+            Some(Part::Event(_)) | Some(Part::Scope(_)) | None => false,
+        }
+    }
+
     fn ready_core(&mut self, alloc: Global, edt: u64) -> Result<(), NoMemory>
         ensures limit { self.new.limit ≡ self.old.limit }
         ensures sets { self.new.sets ≡ self.old.sets }
+        ensures len { vec_len self.new.parts ≡ vec_len self.old.parts }
         ensures parts { IfOk result (λ _. state_in self.new
             ≡ ready_at edt (plan_on self.old edt) (state_in self.old)) }
         ensures placed { IfOk result (λ _. AreAllPlaced self.old.limit self.old.parts.items
             → AreAllPlaced self.new.limit self.new.parts.items) }
     {
-        let members = self.plan_here(alloc, edt)?;
-        if edt < 1 || self.limit < edt {
+        if !self.is_filling(edt) {
             return Ok(());
         }
+        let members = self.plan_here(alloc, edt)?;
         let place = (self.limit + edt) as usize;
         let part = std::mem::replace(&mut self.parts[place], Part::Vacant);
         set_at(&mut self.parts, place, ready_part(part, members));
         Ok(())
+    }
+}
+
+fn is_filling(edt: &Edt) -> bool
+    ensures { result ≡ is_filling edt.now }
+{
+    match edt {
+        Edt::Filling(_) => true,
+        Edt::Acquiring(_) | Edt::Waiting(_) | Edt::Running(_) | Edt::Ended(_) => false,
     }
 }
 
@@ -283,13 +308,12 @@ fn is_used(slots: &Slots, slot: u32) -> bool
     slots.is_linked(slot) && slots.mode(slot) != Mode::Null
 }
 
-/// The block that an EDT with this core and this plan acquires next.
-fn next_of(core: &Core, members: &[(Guid, Mode)]) -> Option<(Guid, Mode)>
-    ensures { result ≡ next_in (core_progress
-        (part.Core (with_phase (made_ready members.now) core.now))) }
+/// The block that an EDT with this core acquires next, where its plan is made.
+fn next_of(core: &Core) -> Option<(Guid, Mode)>
+    ensures { result ≡ next_in (core_progress (part.Core core.now)) }
 {
     match &core.edt {
-        Edt::Filling(_) => first(members),
+        Edt::Filling(_) => None,
         Edt::Acquiring(acquiring) => acquiring.next(),
         Edt::Waiting(waiting) => Some(waiting.next()),
         Edt::Running(_) => None,

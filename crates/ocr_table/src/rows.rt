@@ -35,13 +35,15 @@ pub(crate) fn no_sets(alloc: Global, count: usize) -> Result<Vec<Sets>, NoMemory
     Ok(sets)
 }
 
+/// Puts a part in the place of the one with this number, where there is one.
 #[inline(always)]
 pub(crate) fn set_at(parts: &mut Vec<Part>, number: usize, part: Part)
-    requires { number < length parts.old.items }
     ensures parts { parts.new.items ≡ slice_set parts.old.items number part }
     ensures len { vec_len parts.new ≡ vec_len parts.old }
 {
-    parts[number] = part;
+    if number < parts.len() {
+        parts[number] = part;
+    }
 }
 
 pub(crate) fn set_row_at(sets: &mut Vec<Sets>, place: usize, row: Sets)

@@ -11,7 +11,7 @@ ghost use Rattle.ocr_parts.specs.Effects.{changed};
 ghost use Rattle.ocr_parts.specs.Kinds.{counted_on, home_on};
 ghost use Rattle.ocr_parts.specs.LegalOn.{IsLegalOn, IsSatisfiable, IsJoinable, HasMember, delivery_code};
 ghost use Rattle.ocr_parts.specs.Messages.{sends, resumes};
-ghost use Rattle.ocr_parts.specs.Taken.{look, has, keys, as_face, as_core, is_within};
+ghost use Rattle.ocr_parts.specs.Taken.{look, has, as_face, as_core, is_within};
 ghost use Rattle.ocr_parts.specs.declared.part.Part.TheVariants as part;
 ghost use Rattle.ocr_tree.specs.Functions.{number_of_main};
 ghost use Rattle.ocr_table.specs.Sets.{set_after};
@@ -19,10 +19,10 @@ ghost use Rattle.ocr_table.specs.Sets.{set_after};
 use crate::rows::{no_sets, put_at, set_at, set_row_at, vacant_parts};
 use crate::sets::Sets;
 use ocr_base::NoMemory;
-use ocr_codes::{Faces, code_at, footprint};
+use ocr_codes::{Faces, code_at};
 use ocr_guid::{Code, Guid};
 use ocr_history::{Entry, What};
-use ocr_machine::{Entered, home_of, opening, step};
+use ocr_machine::{Entered, home_of, opening, step_all};
 use ocr_meaning::{Answer, Call};
 use ocr_parts::{Part, machine_laws};
 use std::alloc::Global;
@@ -35,18 +35,19 @@ pub struct Table {
     pub parts: Vec<Part>,
     pub sets: Vec<Sets>,
     ghost most: { limit ≤ 65536 },
-    ghost size: { vec_len parts ≡ limit + limit + 1 },
     ghost rows: { vec_len sets ≡ limit + 1 },
 }
 
 impl Table {
     ghost use Rattle.ocr_codes.specs.Lookup.{part_at};
-    ghost use Rattle.ocr_table.specs.Table.{state_in, face_on, core_on, sets_in, AreAllPlaced, IsLike, IsOf, IsBefore, IsBeforeEntry};
+    ghost use Rattle.ocr_machine.specs.All.{AreAllPlaced};
+    ghost use Rattle.ocr_table.specs.Table.{state_in, face_on, core_on, sets_in, IsWhole, IsOf, IsBefore, IsBeforeEntry};
 
     /// A table in which nothing is made.
     pub fn new(alloc: Global, limit: u64) -> Result<Table, NoMemory>
         requires { limit ≤ 65536 }
         ensures limit { IfOk result (λ table. table.limit ≡ limit) }
+        ensures whole { IfOk result (λ table. IsWhole table) }
         ensures parts { IfOk result (λ table. (n : ℕ) → part_at table.parts.items n ≡ part.Vacant) }
         ensures sets { IfOk result (λ table. (t : ℕ) → sets_in table t ≡ []) }
     {
@@ -69,33 +70,13 @@ impl Table {
         Ok(table)
     }
 
-    /// Takes the parts with these numbers out.
-    pub fn take(&mut self, alloc: Global, numbers: &[u64]) -> Result<Vec<(u64, Part)>, NoMemory>
-        requires { All (λ n. n ≤ self.old.limit + self.old.limit) numbers.now }
-        ensures limit { self.new.limit ≡ self.old.limit }
-        ensures sets { self.new.sets ≡ self.old.sets }
-        ensures keys { IfOk result (λ taken. keys taken.items ≡ numbers.now) }
-        ensures taken { IfOk result (λ taken. (n : ℕ)
-            → look taken.items n ≡ (if is_in n numbers.now then part_at self.old.parts.items n
-            else part.Vacant)) }
-        ensures left { IfOk result (λ _. (n : ℕ)
-            → part_at self.new.parts.items n
-            ≡ (if is_in n numbers.now then part.Vacant else part_at self.old.parts.items n)) }
-    {
-        let mut taken = Vec::with_capacity(alloc, numbers.len())?;
-        for number in numbers {
-            let part = std::mem::replace(&mut self.parts[*number as usize], Part::Vacant);
-            taken.push_reserved((*number, part));
-        }
-        Ok(taken)
-    }
-
-    /// Puts parts back at their numbers.
+    /// Puts parts at their numbers. A table that want of memory left without its parts stays so.
     pub fn give(&mut self, parts: Vec<(u64, Part)>)
         requires { All (λ p. p.0 ≤ self.old.limit + self.old.limit) parts.items }
         ensures limit { self.new.limit ≡ self.old.limit }
         ensures sets { self.new.sets ≡ self.old.sets }
-        ensures parts { (n : ℕ) → part_at self.new.parts.items n
+        ensures whole { IsWhole self.old → IsWhole self.new }
+        ensures parts { IsWhole self.old → (n : ℕ) → part_at self.new.parts.items n
             ≡ (if has parts.items n then look parts.items n else part_at self.old.parts.items n) }
     {
         let mut parts = parts;
@@ -105,7 +86,7 @@ impl Table {
     }
 
     /// Enters an entry that may come next: an EDT that goes on is made ready, parts are changed,
-    /// and a delivered payload is kept. For want of memory parts of it may be lost.
+    /// and a delivered payload is kept. For want of memory all parts may be lost.
     pub fn enter(&mut self, alloc: Global, entry: &Entry) -> Result<Entered, NoMemory>
         requires before { IsBeforeEntry entry.now self.old }
         requires counts { (g : ℕ) → counted_on (face_on self.old g) < 2 ^ 64 - 1 }
@@ -124,14 +105,16 @@ impl Table {
         Ok(entered)
     }
 
-    /// Changes the parts of an entry. For want of memory they are lost.
+    /// Changes the parts of an entry. For want of memory all parts are lost.
     fn change(&mut self, alloc: Global, entry: &Entry) -> Result<Entered, NoMemory>
         requires legal { IsLegalOn self.old.limit (state_in self.old) entry.now }
         requires counts { (g : ℕ) → counted_on (face_on self.old g) < 2 ^ 64 - 1 }
+        requires whole { IsWhole self.old }
         ensures limit { self.new.limit ≡ self.old.limit }
         ensures sets { self.new.sets ≡ self.old.sets }
-        ensures parts { IfOk result (λ _. IsLike self.old.limit (state_in self.new)
-            (changed entry.now (state_in self.old))) }
+        ensures whole { IfOk result (λ _. IsWhole self.new) }
+        ensures parts { IfOk result (λ _. state_in self.new
+            ≡ changed entry.now (state_in self.old)) }
         ensures placed { IfOk result (λ _. AreAllPlaced self.old.limit self.old.parts.items
             → AreAllPlaced self.new.limit self.new.parts.items) }
         ensures messages { IfOk result (λ r. r.messages.items
@@ -139,11 +122,9 @@ impl Table {
         ensures resumed { IfOk result (λ r. r.resumed.items
             ≡ resumes entry.now (state_in self.old)) }
     {
-        machine_laws(); // only for the proof: what an entry does rests on the parts that it names
-        let numbers = footprint(alloc, entry, self.limit)?;
-        let taken = self.take(alloc, &numbers)?;
-        let stepped = step(alloc, self.limit, entry, taken)?;
-        self.give(stepped.parts);
+        let parts = std::mem::replace(&mut self.parts, Vec::new(alloc));
+        let stepped = step_all(alloc, self.limit, entry, parts)?;
+        self.parts = stepped.parts;
         Ok(Entered {
             messages: stepped.messages,
             resumed: stepped.resumed,
@@ -289,7 +270,7 @@ impl Table {
         ensures none { IfNone result (face_on self.now object ≡ part.Vacant) }
         ensures some { IfSome result (λ p. face_on self.now object ≡ as_face p.now) }
     {
-        if object < 1 || self.limit < object {
+        if object < 1 || self.limit < object || object >= self.parts.len() as u64 {
             return None;
         }
         Some(&self.parts[object as usize])
@@ -303,6 +284,10 @@ impl Table {
         if edt < 1 || self.limit < edt {
             return None;
         }
-        Some(&self.parts[(self.limit + edt) as usize])
+        let number = self.limit + edt;
+        if number >= self.parts.len() as u64 {
+            return None;
+        }
+        Some(&self.parts[number as usize])
     }
 }

@@ -1,4 +1,4 @@
-use Rattle.std.proofs.Common.{◌∙◌, ◌≡◌, ◌<◌, ◌-◌, ◌^◌, sym, subst}
+use Rattle.std.proofs.Common.{◌∙◌, ◌≡◌, ◌<◌, ◌-◌, ◌^◌, sym, subst, arith}
 use Rattle.ocr_parts.specs.Kinds.{counted_on}
 use Rattle.ocr_parts.specs.declared.part.Part.{Part}
 use Rattle.ocr_table.specs.Table.{state_in, face_on}
@@ -17,10 +17,14 @@ change-requires-clause-counts c = λ g.
     ap (λ (f : Parts). f.face g) c.in_ok-make_ready.ensures.parts ∙ face_readied _ c.args.entry.now (state_in c.args.self.now) g in
     subst (λ (x : Part). counted_on x < 2 ^ 64 - 1) (sym same) (c.requires.counts g)
 
+pub change-requires-clause-whole : goal.change-requires-clause-whole
+change-requires-clause-whole c =
+    omega (arith, c.make_ready.ensures.limit, c.make_ready.ensures.len, c.requires.before.2.of.whole)
+
 pub returns-clause-table : goal.returns-clause-table
-returns-clause-table c = λ s past before. entered c.machine_laws.ensures.after c.machine_laws.ensures.within s past c.args.entry.now c.args.self.now c.make_ready.new.self c.change.new.self c.note.new.self before
+returns-clause-table c = λ s past before. entered c.machine_laws.ensures.after s past c.args.entry.now c.args.self.now c.make_ready.new.self c.change.new.self c.note.new.self before
     c.make_ready.ensures.limit c.make_ready.ensures.sets c.in_ok-make_ready.ensures.parts c.in_ok-make_ready.ensures.placed
-    c.change.ensures.limit c.change.ensures.sets c.in_ok-entered.ensures.parts c.in_ok-entered.ensures.placed
+    c.change.ensures.limit c.change.ensures.sets c.in_ok-entered.ensures.whole c.in_ok-entered.ensures.parts c.in_ok-entered.ensures.placed
     c.note.ensures.limit c.note.ensures.parts c.in_ok-note.ensures.sets
 
 pub returns-clause-messages : goal.returns-clause-messages

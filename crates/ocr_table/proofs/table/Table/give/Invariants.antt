@@ -1,6 +1,7 @@
 use Rattle.std.proofs.Common.{◌≡◌, ◌≤◌, ◌+◌, ℕ, vec_len}
 use Rattle.std.specs.List.{All}
 use Rattle.ocr_parts.specs.declared.part.Part.{Part}
+use Rattle.ocr_table.specs.Table.{IsWhole}
 use Rattle.ocr_table.proofs.Wholes.{given}
 use Rattle.ocr_table.proofs.table.Table.give.Given as goal
 
@@ -8,8 +9,9 @@ abbrev pub invariant-loop-number : goal.invariant-loop-number
 invariant-loop-number l = record {
   limit : l.self.limit ≡ l.fn.self.limit;
   sets : l.self.sets ≡ l.fn.self.sets;
+  len : vec_len l.self.parts ≡ vec_len l.fn.self.parts;
   below : All (λ (p : ℕ × Part). p.0 ≤ l.self.limit + l.self.limit) l.parts.items;
-  same : (n : ℕ) → given l.parts.items l.self.parts.items n ≡ given l.fn.parts.items l.fn.self.parts.items n;
+  same : IsWhole l.fn.self → (n : ℕ) → given l.parts.items l.self.parts.items n ≡ given l.fn.parts.items l.fn.self.parts.items n;
 }
 
 abbrev pub decreases-loop-number : goal.decreases-loop-number

@@ -16,8 +16,9 @@ give-requires c =
 pub returns : goal.returns
 returns c = λ s main args limit.
     let ps = c.in_ok-opening.field-0.items in
-    opened_is s ps c.in_ok-table.table c.give.new.self c.set.new.self (subst (λ (n : ℕ). 2 ≤ n) (sym limit) c.requires.some) (c.in_ok-table.ensures.limit ∙ sym limit)
+    opened_is s ps c.in_ok-table.table c.give.new.self c.set.new.self (subst (λ (n : ℕ). 2 ≤ n) (sym limit) c.requires.some) (c.give.ensures.whole c.in_ok-table.ensures.whole)
+    (c.in_ok-table.ensures.limit ∙ sym limit)
     c.in_ok-table.ensures.parts c.in_ok-table.ensures.sets
     (subst (λ (n : ℕ). parts_in n ps ≡ parts_of s []) (sym limit) (c.in_ok-opening.ensures.parts s main args limit))
     (subst (λ (n : ℕ). ArePlaced n ps) (sym limit) c.in_ok-opening.ensures.placed)
-    c.give.ensures.limit c.give.ensures.sets c.give.ensures.parts c.set.ensures.limit c.set.ensures.parts c.in_ok-set.ensures.sets
+    c.give.ensures.limit c.give.ensures.sets (c.give.ensures.parts c.in_ok-table.ensures.whole) c.set.ensures.limit c.set.ensures.parts c.in_ok-set.ensures.sets

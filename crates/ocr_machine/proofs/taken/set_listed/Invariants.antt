@@ -1,6 +1,6 @@
 use Rattle.std.proofs.Common.{◌≡◌, ◌++◌, drop, take}
 use Rattle.ocr_parts.specs.Taken.{put}
-use Rattle.ocr_machine.proofs.taken.set.Given as goal
+use Rattle.ocr_machine.proofs.taken.set_listed.Given as goal
 
 abbrev pub invariant-loop-i : goal.invariant-loop-i
 invariant-loop-i l = record {

@@ -2,7 +2,7 @@ use Rattle.std.proofs.Common.{arith, ap, ◌∙◌, ℕ}
 use Rattle.ocr_parts.specs.declared.part.Part.{Part}
 use Rattle.ocr_parts.specs.declared.part.Part.TheVariants as part
 use Rattle.ocr_machine.proofs.Places.{placed, same_item}
-use Rattle.ocr_machine.proofs.taken.take.Goals as goal
+use Rattle.ocr_machine.proofs.taken.take_listed.Goals as goal
 
 pub returns-then-index-number-clause-left : goal.returns-then-index-number-clause-left
 returns-then-index-number-clause-left c =

@@ -1,7 +1,7 @@
 use Rattle.std.proofs.Common.{arith, ap, ◌∙◌, ℕ}
 use Rattle.ocr_parts.specs.declared.part.Part.{Part}
 use Rattle.ocr_machine.proofs.Places.{placed, same_item}
-use Rattle.ocr_machine.proofs.taken.set.Goals as goal
+use Rattle.ocr_machine.proofs.taken.set_listed.Goals as goal
 
 pub returns-then-index-number : goal.returns-then-index-number
 returns-then-index-number c =
