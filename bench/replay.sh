@@ -63,7 +63,7 @@ measure() {
     local length limit rounds whole half kept
     replay "$1" "$2" 1
     length=$entries limit=$objects
-    rounds=$((1 + 1000000 / length))
+    rounds=$((1 + 4000000 / length))
     replay "$1" "$2" "$rounds"
     whole=$seconds kept=$kilobytes
     [ "$outcome" = "Ok(())" ] || complain "$1 $2: not Ok"
