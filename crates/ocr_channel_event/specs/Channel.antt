@@ -93,7 +93,10 @@ with_queues s payloads targets = record {
 abbrev pub on_satisfy : State → ℕ → Satisfied
 on_satisfy s p = elim (refusal s p) as (λ _. Satisfied) [
   | Some c ↦ answer.Refused c
-  | None ↦ elim (slice_get s.targets 0) as (λ _. Satisfied) [ Some t ↦ answer.Fired (t ∷ []) | None ↦ answer.Kept ]
+  | None ↦ elim (slice_get s.targets 0) as (λ _. Satisfied) [
+    | Some t ↦ answer.Fired (t ∷ [])
+    | None ↦ answer.Kept
+  ]
 ]
 
 abbrev pub after_satisfy : State → ℕ → State

@@ -64,7 +64,9 @@ with_made (block ∷ made) holds =
 
 abbrev pub marked_at : List (ℕ × Mode) → ℕ → Bool → List (ℕ × Mode)
 marked_at entries place is_stale =
-    if is_stale then slice_set entries place ((slice_index_or entries place (0, mode.Null)).0, mode.Null) else entries
+    if is_stale
+    then slice_set entries place ((slice_index_or entries place (0, mode.Null)).0, mode.Null)
+    else entries
 
 abbrev pub progress_in : Identity → List (ℕ × Mode) → ℕ → Progress
 progress_in i entries done =

@@ -75,7 +75,8 @@ mutual
         → IsExpression l (lexeme_of_sign op ∷ ts) rest (tree.Unary op e)
     -- the right operand is of a higher level: operators of one level lean to the left
     joined : (l : ℕ) (op : BinaryOp) (ts mid rest : List Lexeme) (a b : Expression) → l ≤ level op
-        → IsExpression (level op) ts (lexeme_of_operator op ∷ mid) a → IsExpression (level op + 1) mid rest b
+        → IsExpression (level op) ts (lexeme_of_operator op ∷ mid) a
+        → IsExpression (level op + 1) mid rest b
         → IsExpression l ts rest (tree.Binary op a b)
     parentheses : (l : ℕ) (ts rest : List Lexeme) (e : Expression)
         → IsExpression 0 ts (lexeme.CloseRound ∷ rest) e
@@ -106,12 +107,14 @@ mutual
         → Follows ss t mid rest args
         → AreArguments (Values ∷ ss) (lexeme.OpenSquare ∷ lexeme.CloseSquare ∷ t
         ∷ mid) rest (list empty args)
-    some_values : (ss : List ArgumentKind) (t : Lexeme) (ts mid rest : List Lexeme) (es args : Arguments)
+    some_values : (ss : List ArgumentKind) (t : Lexeme) (ts mid rest : List Lexeme)
+        (es args : Arguments)
         → AreMembers ts (t ∷ mid) es → Follows ss t mid rest args
         → AreArguments (Values ∷ ss) (lexeme.OpenSquare ∷ ts) rest (list es args)
 
   -- what follows an argument, from its first token on
-  pub data Follows : List ArgumentKind → Lexeme → List Lexeme → List Lexeme → Arguments → Type 0 where
+  pub data Follows : List ArgumentKind → Lexeme → List Lexeme → List Lexeme → Arguments
+      → Type 0 where
     closes : (rest : List Lexeme) → Follows [] lexeme.CloseRound rest rest empty
     goes : (s : ArgumentKind) (ss : List ArgumentKind) (ts rest : List Lexeme) (args : Arguments)
         → AreArguments (s ∷ ss) ts rest args → Follows (s ∷ ss) lexeme.Comma ts rest args

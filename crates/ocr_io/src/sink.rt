@@ -48,7 +48,8 @@ impl Error for WriteStop {}
 #[tactic(auto, using(crate::proofs::KnownBytes::appends_nothing, crate::proofs::KnownBytes::appends_more))]
 pub fn write_all<O: Sink>(sink: &mut O, piece: &[u8]) -> Result<(), WriteStop>
     ensures whole { OnOk result (Appends (O.taken sink.old) (O.taken sink.new) piece.now) }
-    ensures sent { IfErr result (λ stop. Appends (O.taken sink.old) (O.taken sink.new) (take stop.sent piece.now)) }
+    ensures sent { IfErr result (λ stop.
+        Appends (O.taken sink.old) (O.taken sink.new) (take stop.sent piece.now)) }
     ensures within { IfErr result (λ stop. stop.sent < length piece.now) }
     ensures failed { OnErr result (Rose (O.failures sink.old) (O.failures sink.new)) }
     ensures calm { OnOk result (O.failures sink.new ≡ O.failures sink.old) }

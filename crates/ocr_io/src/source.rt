@@ -80,11 +80,14 @@ pub fn read_all<S: Source>(alloc: Global, source: &mut S, most: usize) -> Result
     ensures whole { IfOk result (λ read. IfSome (S.left source.old) (λ bytes. read.items ≡ bytes)) }
     ensures end { OnOk result (IfSome (S.left source.old) (λ _. S.left source.new ≡ Some [])) }
     ensures most { IfOk result (λ read. length read.items ≤ most) }
-    ensures given { IfOk result (λ read. RoseBy (S.given source.old) (S.given source.new) (length read.items)) }
+    ensures given { IfOk result (λ read.
+        RoseBy (S.given source.old) (S.given source.new) (length read.items)) }
     ensures too_big { IsErrOf result ReadStop.TooBig
-        → Took (S.left source.old) (S.left source.new) (S.given source.old) (S.given source.new) (most + 1) }
+        → Took (S.left source.old) (S.left source.new)
+        (S.given source.old) (S.given source.new) (most + 1) }
     ensures stopped { IfErr result (λ stop. (stop ≡ ReadStop.TooBig → ⊥) → (n : ℕ) × (n ≤ most)
-        × Took (S.left source.old) (S.left source.new) (S.given source.old) (S.given source.new) n) }
+        × Took (S.left source.old) (S.left source.new)
+        (S.given source.old) (S.given source.new) n) }
     ensures exactly { S.given source.old + (most + 1) < 2 ^ 64
         → ((result ≡ Err ReadStop.TooBig)
         ↔ (S.given source.new ≡ S.given source.old + (most + 1))) }

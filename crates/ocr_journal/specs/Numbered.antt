@@ -21,7 +21,9 @@ module _ {E : Type 0} where
 
   -- something stands in each slot
   abbrev pub AreFull : List (Option E) → Type 0
-  AreFull slots = (k : ℕ) (slot : Option E) → get_elem? slots k ≡ some slot → (e : E) × (slot ≡ Some e)
+  AreFull slots = (k : ℕ) (slot : Option E) → get_elem? slots k ≡ some slot
+      → (e : E) × (slot ≡ Some e)
 
   abbrev pub AllBelow : ℕ → List (List (ℕ × E)) → Type 0
-  AllBelow count logs = (j : ℕ) (log : List (ℕ × E)) → get_elem? logs j ≡ some log → IsBelow count log
+  AllBelow count logs = (j : ℕ) (log : List (ℕ × E)) → get_elem? logs j ≡ some log
+      → IsBelow count log

@@ -119,7 +119,8 @@ pub record IsJudging (b : Body) (t : ℕ) (entries : List Entry)
 
 -- THE VERDICT on an EDT: the first place of an entry that its body does not make, or the length of
 -- the journal, and then what it says next
-pub record IsVerdict (b : Body) (t : ℕ) (entries : List Entry) (from at : ℕ) (next : Told) : Type 0 where
+pub record IsVerdict (b : Body) (t : ℕ) (entries : List Entry) (from at : ℕ) (next : Told)
+    : Type 0 where
   pub after : from ≤ at
   pub within : at ≤ length entries
   pub said : IsSaidIn b t entries from at

@@ -162,7 +162,8 @@ impl<'a> Judge<'a> {
             (says (judged_body self.old) (log_of self.old)) }
         ensures keeps { Keeps self.old self.new }
         ensures ok { OnOk result (log_of self.new
-            ≡ record { call = Call.Store block word value; answer = answer_with 0 } ∷ log_of self.old) }
+            ≡ record { call = Call.Store block word value; answer = answer_with 0 }
+            ∷ log_of self.old) }
         ensures holds { OnOk result (held_in self.new.holding ≡ held_in self.old.holding) }
         ensures err { OnErr result (log_of self.new ≡ log_of self.old) }
         ensures refused { IfErr result (IsRefusal (Rose self.old.refusals self.new.refusals)) }
@@ -177,8 +178,8 @@ impl<'a> Judge<'a> {
 
 /// What an entry answers to this call; None where it is another entry.
 fn answer_in(holding: &Holding, call: &Call, entry: &Entry) -> Option<Answer>
-    ensures some { IfSome result (λ a. IsAnswerOf call.now (private_of call.now (held_in holding.now))
-        a entry.now) }
+    ensures some { IfSome result (λ a.
+        IsAnswerOf call.now (private_of call.now (held_in holding.now)) a entry.now) }
     ensures none { IfNone result (IsEntryOf call.now (private_of call.now (held_in holding.now))
         entry.now → ⊥) }
 {

@@ -19,7 +19,7 @@ pub fn is_running(table: &Table, edt: u64) -> bool
     ensures { result ≡ is_running (core_on table.now edt) }
 {
     match table.core(edt) {
-        Some(Part::Core(core)) => match &core.edt {
+        Some(Part::Core(core)) => match &core.get().edt {
             Edt::Running(_) => true,
             Edt::Filling(_) => false,
             Edt::Acquiring(_) => false,
@@ -41,7 +41,7 @@ pub fn least_held(table: &Table, edt: u64) -> Option<Guid>
     ensures { result ≡ least_of (holds_of (work_of (core_on table.now edt))) }
 {
     match table.core(edt) {
-        Some(Part::Core(core)) => match &core.edt {
+        Some(Part::Core(core)) => match &core.get().edt {
             Edt::Running(running) => running.least_held(),
             Edt::Filling(_) => None,
             Edt::Acquiring(_) => None,
@@ -63,7 +63,7 @@ pub(crate) fn begins(table: &Table, edt: u64) -> bool
     ensures { result ≡ begins (core_on table.now edt) }
 {
     match table.core(edt) {
-        Some(Part::Core(core)) => match &core.edt {
+        Some(Part::Core(core)) => match &core.get().edt {
             Edt::Filling(_) => true,
             Edt::Acquiring(_) => true,
             Edt::Running(_) => false,
@@ -200,7 +200,7 @@ pub(crate) fn mode_at(table: &Table, edt: Guid, block: u64) -> Option<Mode>
     ensures { result ≡ mode_on (core_on table.now edt) block }
 {
     match table.core(edt.0) {
-        Some(Part::Core(core)) => match &core.edt {
+        Some(Part::Core(core)) => match &core.get().edt {
             Edt::Running(running) => running.mode(Guid(block)),
             Edt::Filling(_) => None,
             Edt::Acquiring(_) => None,

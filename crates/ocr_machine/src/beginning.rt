@@ -14,7 +14,7 @@ use ocr_datablock::Block;
 use ocr_edt::{Edt, Filling};
 use ocr_guid::Guid;
 use ocr_history::{ARGUMENTS, MAIN_EDT};
-use ocr_parts::{Core, Loans, Part};
+use ocr_parts::{BoxedCore, Core, Loans, Part};
 use ocr_slots::Slots;
 use std::alloc::Global;
 
@@ -43,6 +43,7 @@ pub fn opening(
         edt: Edt::Filling(Filling::new(Guid(MAIN_EDT), Guid::NULL, Guid::NULL, false)),
         loans: Loans::new(alloc),
     };
+    let core = BoxedCore::new(alloc, core)?;
     match vec![in alloc;
         (ARGUMENTS, Part::Block(words)),
         (MAIN_EDT, Part::Edt(slots)),

@@ -3,7 +3,7 @@ ghost use Rattle.std.specs.Prelude.{◌≡◌, ◌≢◌, true, false, is_some, 
 ghost use Rattle.ocr_acquire.specs.Mode.{mode_in};
 ghost use Rattle.ocr_datablock.specs.Steps.{after_release, after_doom};
 ghost use Rattle.ocr_parts.specs.Calls.{is_number};
-ghost use Rattle.ocr_parts.specs.Effects.{with_face, with_core, with_phase, dropped_edt, ended_edt, dropping_core, returned, hold_ended, ended};
+ghost use Rattle.ocr_parts.specs.Effects.{with_face, with_core, with_phase, ended_edt, dropping_core, returned, hold_ended, ended};
 ghost use Rattle.ocr_parts.specs.Kinds.{IsBlock, with_block, on_core, is_running, is_destroyed, loan_on, identity_on};
 ghost use Rattle.ocr_parts.specs.LegalOn.{IsEnding, IsDooming, IsEndOn, IsLoanBack};
 ghost use Rattle.ocr_parts.specs.Loans.{loan_in};
@@ -17,7 +17,7 @@ use ocr_datablock::{Block, Lent};
 use ocr_edt::{Edt, Identity};
 use ocr_guid::Guid;
 use ocr_history::{What, Writes};
-use ocr_parts::{Core, Kept, Part};
+use ocr_parts::{Kept, Part};
 use std::alloc::Global;
 
 /// The EDT's hold of the block ends; gives who is resumed.
@@ -46,20 +46,8 @@ fn drop_core(parts: &mut Taken, edt: u64, block: u64) -> Option<Lent>
         (with_core (state parts.old) edt
         (on_core ((state parts.old).core edt) (dropping_core block))) }
 {
-    let Core {
-        function,
-        params,
-        edt: phase,
-        loans,
-    } = parts.take_core(edt);
-    let mut loans = loans;
-    let kept = loans.take(Guid(block));
-    let core = Core {
-        function,
-        params,
-        edt: dropped(phase, block),
-        loans,
-    };
+    let mut core = parts.take_core(edt);
+    let kept = core.drop_hold(Guid(block));
     parts.put_core(edt, core);
     loan_in(kept)
 }
@@ -70,21 +58,6 @@ fn loan_in(kept: Option<Kept>) -> Option<Lent>
     match kept {
         Some(kept) => kept.loan,
         None => None,
-    }
-}
-
-fn dropped(edt: Edt, block: u64) -> Edt
-    ensures { result ≡ dropped_edt block edt }
-{
-    match edt {
-        Edt::Running(mut running) => {
-            running.drop_hold(Guid(block));
-            Edt::Running(running)
-        }
-        Edt::Filling(filling) => Edt::Filling(filling),
-        Edt::Acquiring(acquiring) => Edt::Acquiring(acquiring),
-        Edt::Waiting(waiting) => Edt::Waiting(waiting),
-        Edt::Ended(ended) => Edt::Ended(ended),
     }
 }
 
@@ -208,22 +181,12 @@ fn end_core(parts: &mut Taken, edt: u64) -> Identity
         (on_core ((state parts.old).core edt) (with_phase ended_edt))) }
     ensures identity { result ≡ identity_on ((state parts.old).core edt) }
 {
-    let Core {
-        function,
-        params,
-        edt: phase,
-        loans,
-    } = parts.take_core(edt);
-    let Edt::Running(running) = phase else {
+    let mut core = parts.take_core(edt);
+    let Edt::Running(running) = core.take_edt() else {
         unreachable!()
     };
     let identity = running.identity();
-    let core = Core {
-        function,
-        params,
-        edt: Edt::Ended(running.end()),
-        loans,
-    };
+    core.put_edt(Edt::Ended(running.end()));
     parts.put_core(edt, core);
     identity
 }

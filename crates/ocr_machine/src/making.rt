@@ -9,7 +9,7 @@ ghost use Rattle.ocr_slots.specs.Slots.{state_of as slots_of};
 ghost use Rattle.ocr_slots.specs.Steps.{after_link};
 ghost use Rattle.ocr_template.specs.Template.{count_meant};
 ghost use Rattle.ocr_parts.specs.Calls.{dep_links, is_given};
-ghost use Rattle.ocr_parts.specs.Effects.{with_face, with_core, with_named, with_beside, creating_core, holding_edt, new_face, new_core, new_output, new_scope, deps_linked};
+ghost use Rattle.ocr_parts.specs.Effects.{with_face, with_core, with_named, with_beside, creating_core, new_face, new_core, new_output, new_scope, deps_linked};
 ghost use Rattle.ocr_parts.specs.Kinds.{on_core, is_running, is_template};
 ghost use Rattle.ocr_parts.specs.Messages.{dep_sends};
 ghost use Rattle.ocr_parts.specs.Parts.{new_identity};
@@ -27,7 +27,7 @@ use ocr_finish::Scope;
 use ocr_guid::Guid;
 use ocr_history::{OUTPUT_FLAGS, OUTPUT_KIND, What};
 use ocr_meaning::Answer;
-use ocr_parts::{Core, Kept, Loans, Part};
+use ocr_parts::{BoxedCore, Core, Loans, Part};
 use ocr_slots::Slots;
 use ocr_template::{EDT_PARAM_DEF, Template};
 use std::alloc::Global;
@@ -53,7 +53,8 @@ pub(crate) fn create_block(
 {
     let size = (length / 8) as u32;
     let state = Block::new(alloc, size, creator(edt, flags))?;
-    let core = creating(alloc, parts.take_core(edt), block, flags, size)?;
+    let mut core = parts.take_core(edt);
+    hold_made(alloc, &mut core, block, flags, size)?;
     parts.put_core(edt, core);
     parts.put_face(block, Part::Block(state));
     Ok(())
@@ -66,42 +67,20 @@ fn creator(edt: u64, flags: u64) -> Guid
     if flags == 0 { Guid(edt) } else { Guid::NULL }
 }
 
-/// The core of an EDT that made a block of so many words.
-fn creating(alloc: Global, core: Core, block: u64, flags: u64, size: u32) -> Result<Core, NoMemory>
-    ensures { IfOk result (λ after. after ≡ creating_core flags block size core) }
+/// An EDT that made a block of so many words holds it, unless the flag says that it does not.
+fn hold_made(
+    alloc: Global,
+    core: &mut BoxedCore,
+    block: u64,
+    flags: u64,
+    size: u32,
+) -> Result<(), NoMemory>
+    ensures { IfOk result (λ _. core.new ≡ creating_core flags block size core.old) }
 {
-    if flags != 0 {
-        return Ok(core);
+    if flags == 0 {
+        core.hold(alloc, Guid(block), size)?;
     }
-    let Core {
-        function,
-        params,
-        edt,
-        loans,
-    } = core;
-    let mut loans = loans;
-    loans.put(Guid(block), Kept { size, loan: None })?;
-    Ok(Core {
-        function,
-        params,
-        edt: holding(alloc, edt, block)?,
-        loans,
-    })
-}
-
-fn holding(alloc: Global, edt: Edt, block: u64) -> Result<Edt, NoMemory>
-    ensures { IfOk result (λ held. held ≡ holding_edt block edt) }
-{
-    match edt {
-        Edt::Running(mut running) => {
-            running.hold(alloc, Guid(block))?;
-            Ok(Edt::Running(running))
-        }
-        Edt::Filling(filling) => Ok(Edt::Filling(filling)),
-        Edt::Acquiring(acquiring) => Ok(Edt::Acquiring(acquiring)),
-        Edt::Waiting(waiting) => Ok(Edt::Waiting(waiting)),
-        Edt::Ended(ended) => Ok(Edt::Ended(ended)),
-    }
+    Ok(())
 }
 
 /// Makes a template.
@@ -269,7 +248,7 @@ fn made_core(
     function: u32,
     params: &Seq<u64>,
     identity: Identity,
-) -> Result<Core, NoMemory>
+) -> Result<BoxedCore, NoMemory>
     ensures { IfOk result
         (λ core. core ≡ record {
           function = function;
@@ -281,12 +260,13 @@ fn made_core(
     let Ok(params) = Vec::from_slice(alloc, params.as_slice()) else {
         return Err(NoMemory);
     };
-    Ok(Core {
+    let core = Core {
         function,
         params: Seq::from_vec(params),
         edt: filling(identity),
         loans: Loans::new(alloc),
-    })
+    };
+    BoxedCore::new(alloc, core)
 }
 
 fn filling(identity: Identity) -> Edt

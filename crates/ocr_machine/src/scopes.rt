@@ -22,7 +22,7 @@ pub fn home_of(part: &Part) -> Guid
     ensures { result ≡ home_on part.now }
 {
     match part {
-        Part::Core(core) => core.edt.scope(),
+        Part::Core(core) => core.get().edt.scope(),
         Part::Vacant | Part::Edt(_) | Part::Block(_) => Guid::NULL,
         Part::Template(_) | Part::Event(_) | Part::Scope(_) => Guid::NULL,
     }

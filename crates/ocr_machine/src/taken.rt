@@ -9,7 +9,7 @@ use ocr_any_event::AnyEvent;
 use ocr_codes::find;
 use ocr_datablock::Block;
 use ocr_finish::Scope;
-use ocr_parts::{Core, Part};
+use ocr_parts::{BoxedCore, Part};
 use ocr_slots::Slots;
 use ocr_template::Template;
 use std::marker::Model;
@@ -110,7 +110,7 @@ impl Taken {
 
     /// Puts a core in the place of the one that an EDT has.
     #[inline(always)]
-    pub fn put_core(&mut self, edt: u64, core: Core)
+    pub fn put_core(&mut self, edt: u64, core: BoxedCore)
         requires { edt ≤ self.old.limit }
         ensures { self.new ≡ with_part self.old (self.old.limit + edt) (part.Core core) }
     {
@@ -119,7 +119,7 @@ impl Taken {
 
     /// Takes the core of an EDT out.
     #[inline(always)]
-    pub fn take_core(&mut self, edt: u64) -> Core
+    pub fn take_core(&mut self, edt: u64) -> BoxedCore
         requires { is_core ((state self.old).core edt) ≡ true }
         ensures within { edt ≤ self.old.limit }
         ensures was { (state self.old).core edt ≡ part.Core result }

@@ -16,7 +16,7 @@ use ocr_base::NoMemory;
 use ocr_datablock::{Block, Lent};
 use ocr_edt::{Acquiring, Edt};
 use ocr_guid::Guid;
-use ocr_parts::{Core, Kept, Part};
+use ocr_parts::{Kept, Part};
 use std::alloc::Global;
 
 /// The EDT acquires the block.
@@ -43,7 +43,7 @@ fn next_mode(parts: &Taken, edt: u64) -> Mode
     let Some(Part::Core(core)) = parts.core(edt) else {
         unreachable!()
     };
-    match &core.edt {
+    match &core.get().edt {
         Edt::Acquiring(acquiring) => {
             let Some((_, mode)) = acquiring.next() else {
                 unreachable!()
@@ -125,20 +125,10 @@ fn acquire_core(parts: &mut Taken, edt: u64, block: u64, kept: Kept) -> Result<(
         (with_core (state parts.old) edt
         (on_core ((state parts.old).core edt) (acquiring_core block m size words)))) }
 {
-    let Core {
-        function,
-        params,
-        edt: phase,
-        loans,
-    } = parts.take_core(edt);
-    let mut loans = loans;
-    loans.put(Guid(block), kept)?;
-    let core = Core {
-        function,
-        params,
-        edt: Edt::Acquiring(awake(phase).acquired(false)),
-        loans,
-    };
+    let mut core = parts.take_core(edt);
+    core.put_kept(Guid(block), kept)?;
+    let acquiring = awake(core.take_edt());
+    core.put_edt(Edt::Acquiring(acquiring.acquired(false)));
     parts.put_core(edt, core);
     Ok(())
 }
@@ -148,18 +138,9 @@ pub(crate) fn pass_by(parts: &mut Taken, edt: u64)
     requires { is_some (next_on (state parts.old) edt) ≡ true }
     ensures { Becomes parts.old parts.new (passed_by (state parts.old) edt) }
 {
-    let Core {
-        function,
-        params,
-        edt: phase,
-        loans,
-    } = parts.take_core(edt);
-    let core = Core {
-        function,
-        params,
-        edt: Edt::Acquiring(awake(phase).acquired(true)),
-        loans,
-    };
+    let mut core = parts.take_core(edt);
+    let acquiring = awake(core.take_edt());
+    core.put_edt(Edt::Acquiring(acquiring.acquired(true)));
     parts.put_core(edt, core);
 }
 
@@ -220,21 +201,11 @@ fn wait_core(parts: &mut Taken, edt: u64)
         (with_core (state parts.old) edt
         (on_core ((state parts.old).core edt) (with_phase waiting_edt))) }
 {
-    let Core {
-        function,
-        params,
-        edt: phase,
-        loans,
-    } = parts.take_core(edt);
-    let Edt::Acquiring(acquiring) = phase else {
+    let mut core = parts.take_core(edt);
+    let Edt::Acquiring(acquiring) = core.take_edt() else {
         unreachable!()
     };
-    let core = Core {
-        function,
-        params,
-        edt: Edt::Waiting(acquiring.wait()),
-        loans,
-    };
+    core.put_edt(Edt::Waiting(acquiring.wait()));
     parts.put_core(edt, core);
 }
 
@@ -245,20 +216,10 @@ pub(crate) fn start_core(parts: &mut Taken, edt: u64)
         (with_core (state parts.old) edt
         (on_core ((state parts.old).core edt) (with_phase started_edt))) }
 {
-    let Core {
-        function,
-        params,
-        edt: phase,
-        loans,
-    } = parts.take_core(edt);
-    let Edt::Acquiring(acquiring) = phase else {
+    let mut core = parts.take_core(edt);
+    let Edt::Acquiring(acquiring) = core.take_edt() else {
         unreachable!()
     };
-    let core = Core {
-        function,
-        params,
-        edt: Edt::Running(acquiring.start()),
-        loans,
-    };
+    core.put_edt(Edt::Running(acquiring.start()));
     parts.put_core(edt, core);
 }

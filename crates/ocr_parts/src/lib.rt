@@ -2,11 +2,13 @@
 //! of these.
 #![tactic(auto)]
 
+mod boxed;
 mod laws;
 mod loans;
 mod many;
 mod part;
 
+pub use boxed::BoxedCore;
 pub use laws::{block_laws, event_laws, machine_laws, run_laws, settled_laws};
 pub use loans::{Kept, Loans};
 pub use part::{Core, Part, Stepped};

@@ -1,4 +1,5 @@
 // The parts of the machine's state.
+use crate::boxed::BoxedCore;
 use crate::loans::Loans;
 use ocr_any_event::AnyEvent;
 use ocr_base::Seq;
@@ -32,7 +33,7 @@ pub enum Part {
     Event(AnyEvent),
     Scope(Scope),
     /// The core of an EDT.
-    Core(Core),
+    Core(BoxedCore),
 }
 
 /// What an entry does: the parts that it names, as they are after it, the messages that it sends,

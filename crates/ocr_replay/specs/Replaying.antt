@@ -33,7 +33,8 @@ entry_at entries n = slice_index_or entries n (Stop by.Memory)
 
 -- the verdict on an EDT
 abbrev pub verdict_at : List Verdict → ℕ → Verdict
-verdict_at verdicts t = slice_index_or verdicts t (record { at = 0; told = told.Stopped stop.NoMemory })
+verdict_at verdicts t =
+    slice_index_or verdicts t (record { at = 0; told = told.Stopped stop.NoMemory })
 
 -- the verdict on each EDT that runs
 abbrev pub AreVerdicts : Setting → List Entry → ℕ → List Verdict → Type 0
@@ -53,7 +54,8 @@ pub record IsReplayed (s : Setting) (entries : List Entry) (n : ℕ) (table : Ta
   pub judged : AreVerdicts s entries n verdicts
 
 abbrev pub IsReplaying : Setting → List Entry → ℕ → Replay → Type 0
-IsReplaying s entries n replay = IsReplayed s entries n replay.table replay.mail replay.verdicts.items
+IsReplaying s entries n replay =
+    IsReplayed s entries n replay.table replay.mail replay.verdicts.items
 
 -- all entries were replayed
 pub record IsAtEnd (s : Setting) (entries : List Entry) (replay : Replay) : Type 0 where

@@ -216,7 +216,7 @@ impl Replay {
         let verdict = verdict_on(
             alloc,
             program,
-            core,
+            core.get(),
             &deps,
             front,
             links,

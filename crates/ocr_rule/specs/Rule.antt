@@ -187,7 +187,8 @@ module _ {G E P N F : Type 0} (m : Meaning G E P N F) (t : Terms G) where
     -- each part has one keeper: its slot, where its turn word is 0, or one seat
     pub keeper : (p : ℕ) → p < length s.homes → total (λ v. weigh
         (one_at p) v.parts) s.views + is_free (slice_index s.words (p + TURNS)) ≡ 1
-    pub home : (p : ℕ) → p < length s.homes → slice_index s.words (p + TURNS) ≡ 0 → HomeOf s.homes J p
+    pub home : (p : ℕ) → p < length s.homes → slice_index s.words (p + TURNS) ≡ 0
+        → HomeOf s.homes J p
 
   -- the first rule, of a table whose history is J
   pub record Kept (J : List E) (s : State (Option P) (View G E P N F)) : Type 0 where

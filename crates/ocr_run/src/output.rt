@@ -156,7 +156,8 @@ fn entries(
     is_asked: bool,
 ) -> Result<(), NoMemory>
     ensures { OnOk result (text.new.items ≡ text.old.items
-        ++ asked_if is_asked (journals.journal_text (tree_of program.now) (history_of journal.now))) }
+        ++ asked_if is_asked
+        (journals.journal_text (tree_of program.now) (history_of journal.now))) }
 {
     if is_asked {
         let report = journal_text(alloc, journal, program)?;

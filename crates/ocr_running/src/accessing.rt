@@ -50,7 +50,7 @@ pub(crate) fn core_at(clerk: &Clerk<Ocr>, place: u64) -> &Core
     ensures { clerk.now.parts ≡ (place, Some (part.Core result.now)) ∷ [] }
 {
     match clerk.part(place) {
-        Part::Core(core) => core,
+        Part::Core(core) => core.get(),
         _ => unreachable!(),
     }
 }

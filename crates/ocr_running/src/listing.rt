@@ -19,18 +19,18 @@ use ocr_edt::Edt;
 use ocr_guid::{Code, Guid};
 use ocr_history::Writes;
 use ocr_meaning::Call;
-use ocr_parts::{Core, Kept, Loans};
+use ocr_parts::{BoxedCore, Kept, Loans};
 use std::alloc::Global;
 
 /// The private writes of the hold of a block, by the core of the EDT that holds it; none where it
 /// does not hold the block in EW or CONST. The loan of the block is listed then.
-pub fn listed_writes(alloc: Global, core: &mut Core, block: Guid) -> Result<Writes, NoMemory>
+pub fn listed_writes(alloc: Global, core: &mut BoxedCore, block: Guid) -> Result<Writes, NoMemory>
     ensures core { core.new ≡ core_after after_list_writes block core.old }
     ensures writes { IfOk result (λ w. w ≡ private_in (holds_in (part.Core core.old) block)) }
 {
-    core.loans.list_writes(block);
-    if holds_apart(&core.edt, block) {
-        return writes_among(alloc, &core.loans, block);
+    core.list_writes(block);
+    if holds_apart(&core.get().edt, block) {
+        return writes_among(alloc, &core.get().loans, block);
     }
     Ok(Writes::none(alloc))
 }
@@ -85,7 +85,7 @@ pub(crate) fn carried_writes(
     alloc: Global,
     call: &Call,
     code: Code,
-    core: &mut Core,
+    core: &mut BoxedCore,
 ) -> Result<Writes, NoMemory>
     ensures alike { settled_core core.new ≡ settled_core core.old }
     ensures edt { core.new.edt ≡ core.old.edt }

@@ -121,7 +121,7 @@ fn store_in(
         ≡ on_core part.old (core_after (λ loan. lent.after_store loan word value) block)) }
 {
     match part {
-        Part::Core(core) => core.loans.store(alloc, block, word, value),
+        Part::Core(core) => core.store(alloc, block, word, value),
         _ => unreachable!(),
     }
 }

@@ -99,7 +99,7 @@ pub(crate) fn core_at(clerk: &Clerk<Ocr>, place: u64) -> &Core
     ensures { HasCore place result.now clerk.now }
 {
     match clerk.part(place) {
-        Part::Core(core) => core,
+        Part::Core(core) => core.get(),
         _ => unreachable!(),
     }
 }
@@ -112,7 +112,7 @@ fn settle_core(clerk: &mut Clerk<Ocr>, place: u64)
     let Part::Core(mut core) = clerk.lift(place) else {
         unreachable!()
     };
-    core.loans.settle();
+    core.settle();
     clerk.put(place, Part::Core(core));
 }
 

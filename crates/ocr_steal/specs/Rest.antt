@@ -41,7 +41,8 @@ pub record IsLone {P : Type 0} (own : Worker ℕ Global Account P) : Type 0 wher
   pub parts : (worker_view own).parts ≡ all_parts
 
 -- an owner with its number, whose deque has that place in the pool
-pub record IsPlaced {P : Type 0} (names : List Name) (o : ℕ × Worker ℕ Global Account P) : Type 0 where
+pub record IsPlaced {P : Type 0} (names : List Name) (o : ℕ × Worker ℕ Global Account P)
+    : Type 0 where
   pub owner : IsOwner (length names) o.1
   pub deque : get_elem? names o.0 ≡ some (worker_deque o.1)
 

@@ -42,7 +42,8 @@ mutual
     Index : Indexed → Stack → Stack
     -- an argument of a call: the arguments before it, the slots after it
     Argument : (c : CallName) (done : Arguments) (slots : List ArgumentKind) → CallSite → Stack
-    Member : (c : CallName) (done members : Arguments) (slots : List ArgumentKind) → CallSite → Stack
+    Member : (c : CallName) (done members : Arguments) (slots : List ArgumentKind) → CallSite
+        → Stack
     FlagsArgument : (c : CallName) (done : Arguments) → CallSite → Stack
 
   -- where a call stands: in an expression, or as a statement
@@ -174,7 +175,8 @@ at_end h c done k lexeme.CloseRound = Some (after_call h c done k)
 at_end h c done k other = None
 
 -- the token after another argument
-abbrev pub at_comma : Position → CallName → Arguments → List ArgumentKind → CallSite → Lexeme → Option State
+abbrev pub at_comma : Position → CallName → Arguments → List ArgumentKind → CallSite → Lexeme
+    → Option State
 at_comma h c done ss k lexeme.Comma = Some (argument h c done ss k)
 at_comma h c done ss k other = None
 

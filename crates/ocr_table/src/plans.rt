@@ -127,7 +127,7 @@ impl Table {
             return Ok(first(members.as_slice()));
         }
         match self.core(edt) {
-            Some(Part::Core(core)) => Ok(next_of(core)),
+            Some(Part::Core(core)) => Ok(next_of(core.get())),
             Some(Part::Vacant) | Some(Part::Edt(_)) => Ok(None),
             Some(Part::Block(_)) | Some(Part::Template(_)) => Ok(None),
             Some(Part::Event(_)) | Some(Part::Scope(_)) | None => Ok(None),
@@ -223,7 +223,7 @@ impl Table {
         ensures { result ≡ is_named block (stale_on (core_on self.now edt)) }
     {
         match self.core(edt) {
-            Some(Part::Core(core)) => is_stale_in(&core.edt, block),
+            Some(Part::Core(core)) => is_stale_in(&core.get().edt, block),
             Some(Part::Vacant) | Some(Part::Edt(_)) => false,
             Some(Part::Block(_)) | Some(Part::Template(_)) => false,
             Some(Part::Event(_)) | Some(Part::Scope(_)) | None => false,
@@ -255,7 +255,7 @@ impl Table {
         ensures { result ≡ is_filling_on (core_on self.now edt) }
     {
         match self.core(edt) {
-            Some(Part::Core(core)) => is_filling(&core.edt),
+            Some(Part::Core(core)) => is_filling(&core.get().edt),
             Some(Part::Vacant) | Some(Part::Edt(_)) => false,
             Some(Part::Block(_)) | Some(Part::Template(_)) => false,
             Some(Part::Event(_)) | Some(Part::Scope(_)) | None => false,
@@ -327,19 +327,10 @@ fn ready_part(part: Part, members: Plan) -> Part
     ensures { result ≡ on_core part (with_phase (made_ready members.items)) }
 {
     match part {
-        Part::Core(core) => {
-            let Core {
-                function,
-                params,
-                edt,
-                loans,
-            } = core;
-            Part::Core(Core {
-                function,
-                params,
-                edt: ready(edt, members),
-                loans,
-            })
+        Part::Core(mut core) => {
+            let edt = core.take_edt();
+            core.put_edt(ready(edt, members));
+            Part::Core(core)
         }
         Part::Vacant => Part::Vacant,
         Part::Edt(slots) => Part::Edt(slots),

@@ -35,7 +35,8 @@ pub struct Template {
 pub fn counts(template: &Template, paramc: u64, depc: u64) -> Result<(u32, u32), Code>
     ensures answer { result ≡ counts_of template.now paramc depc }
     ensures refused { (result ≡ Err Code.Einval)
-        ↔ (IsRefused template.now.paramc paramc MOST_PARAMETERS ⊎ IsRefused template.now.depc depc MOST_DEPENDENCES) }
+        ↔ (IsRefused template.now.paramc paramc MOST_PARAMETERS
+        ⊎ IsRefused template.now.depc depc MOST_DEPENDENCES) }
 {
     match (
         count(template.paramc, paramc, MOST_PARAMETERS),

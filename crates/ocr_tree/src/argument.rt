@@ -46,7 +46,8 @@ impl Invoke {
     #[tactic(auto, using(crate::proofs::Rows::members_are))]
     pub fn arguments(&self, alloc: Global) -> Result<Vec<Argument<'_>>, NoMemory>
         ensures same { IfOk result (λ arguments. plain_of arguments.items ≡ arguments_of self.now) }
-        ensures within { IfOk result (λ arguments. All (IsWithin (size-Invoke self.now)) arguments.items) }
+        ensures within { IfOk result (λ arguments.
+            All (IsWithin (size-Invoke self.now)) arguments.items) }
     {
         use Argument::{List, Name, Value};
 

@@ -74,7 +74,7 @@ pub(crate) fn act_at(
     let (Part::Core(core), Part::Edt(slots)) = (core, face) else {
         unreachable!()
     };
-    let next = next_with(alloc, &core.edt, slots, payloads)?;
+    let next = next_with(alloc, &core.get().edt, slots, payloads)?;
     let Some(mode) = mode_at(next, block) else {
         return Ok(None);
     };

@@ -66,13 +66,13 @@ pub(crate) fn put_ready(
         × SameRoom clerk.old clerk.new × (length clerk.new.parts ≡ length clerk.old.parts) }
     ensures ready { OnOk result (PutReady clerk.old.parts clerk.new.parts place edt payloads.now) }
 {
-    let Part::Core(core) = clerk.lift(place) else {
+    let Part::Core(mut core) = clerk.lift(place) else {
         unreachable!()
     };
     let Part::Edt(slots) = clerk.part(edt.0) else {
         unreachable!()
     };
-    let core = ready_core(alloc, core, slots, payloads)?;
+    ready_core(alloc, &mut core, slots, payloads)?;
     clerk.put(place, Part::Core(core));
     Ok(())
 }

@@ -10,33 +10,23 @@ use ocr_acquire::{Mode, plan};
 use ocr_base::NoMemory;
 use ocr_edt::Edt;
 use ocr_guid::Guid;
-use ocr_parts::Core;
+use ocr_parts::BoxedCore;
 use ocr_slots::Slots;
 use std::alloc::Global;
 
 /// Makes an EDT ready with the plan of its slots, set to these payloads, where it is not ready yet.
 pub fn ready_core(
     alloc: Global,
-    core: Core,
+    core: &mut BoxedCore,
     slots: &Slots,
     payloads: &[Guid],
-) -> Result<Core, NoMemory>
+) -> Result<(), NoMemory>
     requires { length payloads.now ≡ length slots.now }
-    ensures { IfOk result (λ c. c ≡ ready_with slots.now payloads.now core) }
+    ensures { IfOk result (λ _. core.new ≡ ready_with slots.now payloads.now core.old) }
 {
-    let Core {
-        function,
-        params,
-        edt,
-        loans,
-    } = core;
-    let edt = ready_edt(alloc, edt, slots, payloads)?;
-    Ok(Core {
-        function,
-        params,
-        edt,
-        loans,
-    })
+    let edt = core.take_edt();
+    core.put_edt(ready_edt(alloc, edt, slots, payloads)?);
+    Ok(())
 }
 
 fn ready_edt(alloc: Global, edt: Edt, slots: &Slots, payloads: &[Guid]) -> Result<Edt, NoMemory>

@@ -215,7 +215,7 @@ fn plan_next<R: Wait, G: Gate>(
     let (Part::Core(core), Part::Edt(slots)) = (clerk.part(place), clerk.part(edt.0)) else {
         unreachable!()
     };
-    let Ok(next) = next_with(alloc, &core.edt, slots, payloads) else {
+    let Ok(next) = next_with(alloc, &core.get().edt, slots, payloads) else {
         return Err(close_memory(job, worker, clerk));
     };
     Ok(block_in(next))

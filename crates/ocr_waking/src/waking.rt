@@ -118,7 +118,7 @@ fn next_of(core: &Part) -> Option<Guid>
     let Part::Core(core) = core else {
         return None;
     };
-    match &core.edt {
+    match &core.get().edt {
         Edt::Acquiring(acquiring) => Some(acquiring.next()?.0),
         Edt::Waiting(waiting) => Some(waiting.next().0),
         Edt::Filling(_) | Edt::Running(_) | Edt::Ended(_) => None,

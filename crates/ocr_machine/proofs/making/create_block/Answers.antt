@@ -17,6 +17,6 @@ returns c =
     let after = with_core f t (on_core (f.core t) (creating_core c.args.flags c.args.block size)) in
     into h c.put_face.new.self _ _
     (face_then h c.put_core.new.self c.put_face.new.self after c.args.block (part.Block c.in_ok-state.state)
-    (core_step h c.take_core.new.self c.put_core.new.self t c.take_core.result c.in_ok-core.core (creating_core c.args.flags c.args.block size) c.take_core.ensures.left c.put_core.ensures c.take_core.ensures.was c.in_ok-core.ensures)
+    (core_step h c.take_core-core.new.self c.put_core.new.self t c.take_core-core.result c.hold_made.new.core (creating_core c.args.flags c.args.block size) c.take_core-core.ensures.left c.put_core.ensures c.take_core-core.ensures.was c.in_ok-hold_made.ensures)
     c.put_face.ensures c.requires.face refl)
     (ap (λ (st : State). with_face after c.args.block (part.Block st)) (rw (c.in_ok-state.ensures, c.creator.ensures) refl))
