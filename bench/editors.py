@@ -17,6 +17,7 @@ TESTS = TOP / "crates/ocr_tests_text/src/editors.rt"
 HEAD = """// The names in the files of editors/, as bench/editors.py takes them from there.
 """
 SCOPES = {"WORDS": "keyword.control.ocr", "CALLS": "support.function.ocr", "CONSTANTS": "constant.language.ocr"}
+COMMENTS = {"WORDS": "Words of the language.", "CALLS": "Names of calls.", "CONSTANTS": "Names of constants."}
 GROUPS = {"WORDS": "ocrWord", "CALLS": "ocrCall", "CONSTANTS": "ocrConstant"}
 
 
@@ -45,7 +46,7 @@ def table():
         names = in_vim(GROUPS[name])
         if sorted(names) != sorted(in_textmate(SCOPES[name])):
             sys.exit(f"editors: the two files have other {name.lower()}")
-        text += f"\npub const {name}: [&[u8]; {len(names)}] = [\n{lines(names)}];\n"
+        text += f"\n/// {COMMENTS[name]}\npub const {name}: [&[u8]; {len(names)}] = [\n{lines(names)}];\n"
     return text
 
 

@@ -47,14 +47,14 @@ def table():
         sizes.append(len(path.read_bytes()) + len(output))
     # a constant has at most 10,000 expressions, and each byte is one
     half = next(i for i in range(len(names)) if sum(sizes[: i + 1]) > sum(sizes) / 2)
-    items.append(rows("EXAMPLES", names[:half]))
-    items.append(rows("MORE_EXAMPLES", names[half:]))
+    items.append(rows("EXAMPLES", "The first half of the programs.", names[:half]))
+    items.append(rows("MORE_EXAMPLES", "The other half.", names[half:]))
     return HEAD + "\n".join(items)
 
 
-def rows(table, names):
+def rows(table, comment, names):
     lines = "".join(f"    ({n}, {n}_OUT, {n}_STATUS),\n" for n in names)
-    return f"pub const {table}: [Example; {len(names)}] = [\n{lines}];\n"
+    return f"/// {comment}\npub const {table}: [Example; {len(names)}] = [\n{lines}];\n"
 
 
 def main():

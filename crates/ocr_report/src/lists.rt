@@ -6,6 +6,7 @@ use ocr_base::{NoMemory, Seq};
 use std::alloc::Global;
 use std::collections::BTreeMap;
 
+/// Lists of numbers, each by the number that it is of.
 pub type Lists = BTreeMap<u64, Seq<u64>>;
 
 /// The list of a number.

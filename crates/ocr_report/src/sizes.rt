@@ -11,6 +11,7 @@ use ocr_meaning::{Answer, Call};
 use std::alloc::Global;
 use std::collections::BTreeMap;
 
+/// How many words each block has, by the number of the block.
 pub type Sizes = BTreeMap<u64, u64>;
 
 // What an accepted call makes, and its words.

@@ -22,6 +22,7 @@ pub enum Counted {
     Edt(u64),
 }
 
+/// The count of each template and EDT, by its number.
 pub type Counts = BTreeMap<u64, Counted>;
 
 // The EDT's count, from that of its template and the one that is given.

@@ -22,8 +22,10 @@ pub struct Tally {
     pub was_even: bool,
 }
 
+/// The kind of each event, by its number.
 pub type Kinds = BTreeMap<u64, u64>;
 
+/// The tally of each event, by its number.
 pub type Tallies = BTreeMap<u64, Tally>;
 
 // The output event that is made beside an EDT, and its kind.

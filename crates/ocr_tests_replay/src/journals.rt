@@ -60,6 +60,7 @@ fn first_program_is_replayed(rt: HostRuntime) -> Result<(), Fail> {
     Ok(())
 }
 
+/// EDTs with parameters: one adds them up, one returns the first.
 pub const CREATIONS: &[u8] = b"fn add { print paramv[0] + paramv[1]; }
 fn back { print paramc; return paramv[0]; }
 fn mainEdt {
@@ -115,6 +116,7 @@ fn creations_are_replayed(rt: HostRuntime) -> Result<(), Fail> {
     Ok(())
 }
 
+/// A tree of EDTs: mainEdt makes two, and each of these makes a leaf.
 pub const TREE: &[u8] = b"fn leaf { print paramv[0]; }
 fn node { print paramv[0]; ocrEdtCreate(paramv[1], 1, [paramv[0] + 1], 0, [], 0); }
 fn mainEdt {

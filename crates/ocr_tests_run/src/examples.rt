@@ -483,6 +483,7 @@ const STENCIL_OUT: &[u8] = b"81900000000000
 
 const STENCIL_STATUS: u8 = 0;
 
+/// The first half of the programs.
 pub const EXAMPLES: [Example; 10] = [
     (ABORT, ABORT_OUT, ABORT_STATUS),
     (COLLATZ, COLLATZ_OUT, COLLATZ_STATUS),
@@ -496,6 +497,7 @@ pub const EXAMPLES: [Example; 10] = [
     (PRINTS, PRINTS_OUT, PRINTS_STATUS),
 ];
 
+/// The other half.
 pub const MORE_EXAMPLES: [Example; 5] = [
     (QUEENS, QUEENS_OUT, QUEENS_STATUS),
     (REFUSALS, REFUSALS_OUT, REFUSALS_STATUS),

@@ -24,6 +24,7 @@ pub struct Faults<'a> {
     pub write_most: usize,
 }
 
+/// Words, input and output that fail nowhere.
 pub const NO_FAULTS: Faults<'static> = Faults {
     reads: &[],
     read_most: 4096,

@@ -1,10 +1,12 @@
 // The names in the files of editors/, as bench/editors.py takes them from there.
 
+/// Words of the language.
 pub const WORDS: [&[u8]; 12] = [
     b"fn", b"let", b"if", b"else", b"while", b"print", b"return", b"paramc", b"paramv", b"depc",
     b"depv", b"code",
 ];
 
+/// Names of calls.
 pub const CALLS: [&[u8]; 16] = [
     b"ocrDbCreate",
     b"ocrDbRelease",
@@ -24,6 +26,7 @@ pub const CALLS: [&[u8]; 16] = [
     b"store",
 ];
 
+/// Names of constants.
 pub const CONSTANTS: [&[u8]; 22] = [
     b"NULL_GUID",
     b"UNINITIALIZED_GUID",
