@@ -1,13 +1,12 @@
 // Journals in which EDTs have output events, worked out on paper.
-use crate::lines::Line::{
+use ocr_guid::Code;
+use ocr_guid::Code::{Done, Einval};
+use ocr_tests_journals::Change::{Doubled, Dropped, Ends, Is, Swapped};
+use ocr_tests_journals::Line::{
     Acquire, Block, Depends, Edt, End, Free, Leave, Light, Load, NoDependence, Print, Returns,
     Satisfies, Satisfy, Set, Shutdown, Start, Store, Task, Template, Unevent, Wait,
 };
-use crate::lines::{BOTH, FINISH, OUTPUT, PLAIN, Words};
-use crate::tables::Change::{Doubled, Dropped, Ends, Is, Swapped};
-use crate::tables::{Table, wrong_in};
-use ocr_guid::Code;
-use ocr_guid::Code::{Done, Einval};
+use ocr_tests_journals::{BOTH, FINISH, OUTPUT, PLAIN, Table, Words, wrong_in};
 use std::test::Fail;
 
 const NULL: u64 = 0;

@@ -2,14 +2,12 @@
 ghost use Rattle.std.specs.Prelude.{◌<◌, ◌+◌, ◌^◌, length};
 
 use crate::edits::add;
-use ocr_check::check;
 use ocr_code::Checked;
 use ocr_history::Entry;
 use ocr_io::{MemorySink, MemorySource};
-use ocr_program::parse;
 use ocr_replay::{ReplayStop, replay};
 use ocr_run::{Merged, NoGate, ocr_main};
-use ocr_text::tokens;
+use ocr_tests_journals::program_of;
 use std::alloc::Global;
 use std::sync::Wait;
 use std::test::Fail;
@@ -20,16 +18,6 @@ use std::thread::Threads;
 pub struct Recording {
     pub program: Checked,
     pub entries: Vec<Entry>,
-}
-
-/// The program that a text is.
-pub fn program_of(alloc: Global, text: &[u8]) -> Result<Checked, Fail> {
-    let tokens = tokens(alloc, text)?;
-    let program = parse(alloc, text, &tokens)?;
-    if program.functions.len() > 1000 {
-        return Err(Fail::from("a program of few functions"));
-    }
-    Ok(check(alloc, program)?)
 }
 
 // The journal of the program's run by so many workers.

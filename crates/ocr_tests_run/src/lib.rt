@@ -1,19 +1,11 @@
-//! Tests of the top call, which cross crates.
+//! Tests of the top call, which cross crates: words, texts, inputs and outputs.
 #![tactic(auto)]
 
-#[cfg(test)]
-mod events;
+mod outcomes;
+
+pub use outcomes::{Faults, NO_FAULTS, Outcome, outcome_at, outcome_of, run};
+
 #[cfg(test)]
 mod examples;
 #[cfg(test)]
-mod gates;
-#[cfg(test)]
-mod outcomes;
-#[cfg(test)]
 mod runs;
-#[cfg(test)]
-mod scopes;
-#[cfg(test)]
-mod stencil;
-#[cfg(test)]
-mod workers;

@@ -1,7 +1,7 @@
 // A run that no one worker can do alone: a gate holds whoever is ahead.
-use crate::outcomes::{NO_FAULTS, outcome_at};
 use ocr_clerks::{Gate, Ocr};
 use ocr_codes::weight;
+use ocr_tests_run::{NO_FAULTS, outcome_at};
 use ocr_turns::Clerk;
 use std::alloc::Global;
 use std::sync::Wait;

@@ -1,5 +1,5 @@
 // Runs by one, two and four workers.
-use crate::outcomes::{NO_FAULTS, Outcome, outcome_of};
+use ocr_tests_run::{NO_FAULTS, Outcome, outcome_of};
 use std::alloc::Global;
 use std::str;
 use std::sync::Wait;

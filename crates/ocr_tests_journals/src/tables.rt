@@ -1,6 +1,6 @@
 // Journals as tables of lines, and what replay says of them, as they are and changed.
 use crate::lines::{Line, entry_of};
-use crate::runs::program_of;
+use crate::programs::program_of;
 use ocr_code::Checked;
 use ocr_replay::{ReplayStop, replay};
 use std::alloc::Global;

@@ -1,7 +1,7 @@
 // A stencil of 64 by 64 cells in 16 tiles: tile i is row i / 4 and column i % 4, and both borders
 // wrap. In each of 10 rounds a cell becomes the sum of itself and its four neighbours.
-use crate::outcomes::{Faults, NO_FAULTS, outcome_of};
 use crate::workers::{Row, first_wrong};
+use ocr_tests_run::{Faults, NO_FAULTS, outcome_of};
 use std::test::Fail;
 
 const STENCIL: &[u8] = b"fn tile {

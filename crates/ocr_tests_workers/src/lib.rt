@@ -1,0 +1,13 @@
+//! Tests of the top call with one, two and four workers.
+#![tactic(auto)]
+
+#[cfg(test)]
+mod events;
+#[cfg(test)]
+mod gates;
+#[cfg(test)]
+mod scopes;
+#[cfg(test)]
+mod stencil;
+#[cfg(test)]
+mod workers;
