@@ -12,7 +12,7 @@ use Rattle.ocr_words.specs.declared.wanted.Reports.{Reports}
 use Rattle.ocr_run.specs.declared.execute.Executed.{Executed}
 use Rattle.ocr_run.specs.Headline.{IsRunOf}
 use Rattle.ocr_run.specs.Lines.{end_of, end_status}
-use Rattle.ocr_run.specs.Output.{output_of}
+use Rattle.ocr_writing.specs.Output.{output_of}
 use Rattle.ocr_run.proofs.Ends.{status_of_end}
 
 -- the text tells the run whatever its setting is

@@ -18,7 +18,7 @@ use Rattle.ocr_run.specs.declared.text.TextFault.{TextFault}
 use Rattle.ocr_crew.specs.Ended.{setting_of, IsFinished}
 use Rattle.ocr_crew.specs.Limits.{IsLimited}
 use Rattle.ocr_run.specs.Lines.{ending_line, fault_line}
-use Rattle.ocr_run.specs.Output.{output_of}
+use Rattle.ocr_writing.specs.Output.{output_of}
 use Rattle.ocr_run.specs.ProgramText.{IsProgramText, IsCanonicalOf, IsNoProgram, most_bytes}
 
 -- this is the journal of a run of the program by workers, with these options and arguments, that

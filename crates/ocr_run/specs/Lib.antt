@@ -1,5 +1,4 @@
 pub mod Headline
 pub mod Lines
-pub mod Output
 pub mod ProgramText
 pub mod Wants

@@ -4,7 +4,6 @@
 mod ending;
 mod execute;
 mod lines;
-mod output;
 mod text;
 mod top;
 

@@ -9,7 +9,7 @@ ghost use Rattle.ocr_report.specs.Left as lefts;
 ghost use Rattle.ocr_report.specs.Refused as refusals;
 ghost use Rattle.ocr_report.specs.Stale as stales;
 ghost use Rattle.ocr_report.specs.Summary as summaries;
-ghost use Rattle.ocr_run.specs.Output.{asked_if, output_of};
+ghost use Rattle.ocr_writing.specs.Output.{asked_if, output_of};
 
 use itoa::Buffer;
 use ocr_base::NoMemory;

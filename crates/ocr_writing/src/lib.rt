@@ -1,0 +1,6 @@
+//! What a run writes: the lines of its prints, and the texts that are asked for.
+#![tactic(auto)]
+
+mod output;
+
+pub use output::output;
