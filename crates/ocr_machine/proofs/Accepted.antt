@@ -21,7 +21,7 @@ use Rattle.ocr_parts.proofs.After.{accepted as accepted_code, of_kind, not_stale
 use Rattle.ocr_parts.proofs.Beside.{home_stays}
 use Rattle.ocr_parts.proofs.Choices.{or_left, or_rest}
 use Rattle.ocr_parts.proofs.Fresh.{some_named}
-use Rattle.ocr_machine.specs.AtHand.{AtHand, state, IsAccepted, AreOthers, HasRoom, slots_meant}
+use Rattle.ocr_hand.specs.AtHand.{AtHand, state, IsAccepted, AreOthers, HasRoom, slots_meant}
 
 code_done : (h : AtHand) (t home : ℕ) (c : body.Call) (a : Answer) (w : List (ℕ × ℕ)) → IsAccepted h t home c a w → code_of t (state h).face c ≡ code.Done
 code_done h t home c a w accepted = sym accepted.legal.code ∙ accepted.done

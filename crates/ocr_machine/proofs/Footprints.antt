@@ -25,8 +25,8 @@ use Rattle.ocr_parts.proofs.Beside.{beside_is}
 use Rattle.ocr_parts.proofs.Choices.{same, or_right}
 use Rattle.ocr_parts.proofs.Fresh.{both_of, either_of, number_named}
 use Rattle.ocr_parts.proofs.Local.{call_named}
-use Rattle.ocr_machine.specs.AtHand.{AtHand, state, HasMade, HasNamed}
-use Rattle.ocr_machine.proofs.Places.{has_keys, no_face, back_again}
+use Rattle.ocr_hand.specs.AtHand.{AtHand, state, HasMade, HasNamed}
+use Rattle.ocr_hand.proofs.Places.{has_keys, no_face, back_again}
 
 or_swap : (a b c : Bool) → (a || (b || c)) ≡ (b || (a || c))
 or_swap true true c = refl

@@ -10,17 +10,14 @@ ghost use Rattle.ocr_parts.specs.Effects.{with_face, called, joined, doomed_temp
 ghost use Rattle.ocr_parts.specs.Kinds.{IsBlock, with_block, with_links, with_template, is_template, with_event, is_event, is_edt_face, counted_on};
 ghost use Rattle.ocr_any_event.specs.AnyEvent.{after_destroy};
 ghost use Rattle.ocr_parts.specs.Messages.{sent_by, linked_by, resumed_by_call};
-ghost use Rattle.ocr_machine.specs.AtHand.{state, Becomes, IsAccepted, IsStorable};
+ghost use Rattle.ocr_hand.specs.AtHand.{state, Becomes, IsAccepted, IsStorable};
 
-use crate::ending::{destroy, end_hold};
-use crate::events::{depend, satisfy_at};
 use crate::making::{create_block, create_event, create_template, make_edt};
-use crate::scopes::join_home;
-use crate::taken::Taken;
 use ocr_acquire::Mode;
 use ocr_base::NoMemory;
 use ocr_guid::Guid;
 use ocr_guid::target::Target;
+use ocr_hand::{Taken, depend, destroy, end_hold, join_home, satisfy_at};
 use ocr_history::{What, Writes};
 use ocr_meaning::{Answer, Call};
 use ocr_parts::Part;

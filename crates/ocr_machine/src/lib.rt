@@ -3,15 +3,11 @@
 
 mod beginning;
 mod calling;
-mod ending;
-mod events;
 mod making;
-mod scopes;
 mod stepping;
-mod taken;
 mod waking;
 
 pub use beginning::opening;
 pub use calling::Entered;
-pub use scopes::home_of;
+pub use ocr_hand::home_of;
 pub use stepping::{SteppedAll, step, step_all};

@@ -8,14 +8,14 @@ ghost use Rattle.ocr_parts.specs.Kinds.{IsBlock, with_block, words_on, size_on, 
 ghost use Rattle.ocr_parts.specs.LegalOn.{IsAcquireOn, IsWaitOn, IsStartOn, IsTaken, IsRefused};
 ghost use Rattle.ocr_parts.specs.Loans.{given_loan, kept_of};
 ghost use Rattle.ocr_datablock.specs.Steps.{after_ask};
-ghost use Rattle.ocr_machine.specs.AtHand.{state, Becomes};
+ghost use Rattle.ocr_hand.specs.AtHand.{state, Becomes};
 
-use crate::taken::Taken;
 use ocr_acquire::Mode;
 use ocr_base::NoMemory;
 use ocr_datablock::{Block, Lent};
 use ocr_edt::{Acquiring, Edt};
 use ocr_guid::Guid;
+use ocr_hand::Taken;
 use ocr_parts::{Kept, Part};
 use std::alloc::Global;
 

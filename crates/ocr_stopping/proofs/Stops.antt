@@ -26,7 +26,7 @@ use Rattle.ocr_parts.specs.Legal.{IsRun, IsWeighed, carried}
 use Rattle.ocr_parts.specs.LegalOn.{IsCallOn}
 use Rattle.ocr_parts.specs.Parts.{Parts, parts_of}
 use Rattle.ocr_parts.specs.Taken.{is_within}
-use Rattle.ocr_machine.specs.All.{core_at}
+use Rattle.ocr_hand.specs.All.{core_at}
 use Rattle.ocr_table.specs.Table.{face_on, core_on, IsOf}
 use Rattle.ocr_table.specs.declared.table.Table.{Table}
 use Rattle.ocr_quiet.specs.Marks.{mark, mark_in}

@@ -34,10 +34,10 @@ use Rattle.ocr_parts.specs.Taken.{look, has, as_face, as_core, is_within, parts_
 use Rattle.ocr_parts.proofs.Choices.{same}
 use Rattle.ocr_table.specs.Sets.{filled, are_set, payloads_in, slots_in, is_filling, is_filling_on, stale_on, set_after}
 use Rattle.ocr_codes.specs.Lookup.{part_at}
-use Rattle.ocr_machine.specs.All.{core_at, all_parts, AreAllPlaced}
+use Rattle.ocr_hand.specs.All.{core_at, all_parts, AreAllPlaced}
 use Rattle.ocr_table.specs.Table.{state_in, face_on, core_on, sets_in, slots_on, plan_on, IsWhole, IsOf, IsBefore}
 use Rattle.ocr_table.specs.declared.table.Table.{Table}
-use Rattle.ocr_machine.proofs.Places.{parts_by, place_is, AreKept, kept_as, kept_set, core_set}
+use Rattle.ocr_hand.proofs.Places.{parts_by, place_is, AreKept, kept_as, kept_set, core_set}
 use Rattle.ocr_finish.specs.Scope.{ScopeCall}
 
 -- THE SAME PARTS at all numbers

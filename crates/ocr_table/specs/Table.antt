@@ -12,7 +12,7 @@ use Rattle.ocr_parts.specs.Legal.{IsRun, IsLegal}
 use Rattle.ocr_parts.specs.Parts.{Parts, parts_of}
 use Rattle.ocr_parts.specs.Taken.{is_within}
 use Rattle.ocr_codes.specs.Lookup.{face_at}
-use Rattle.ocr_machine.specs.All.{all_parts, core_at, AreAllPlaced}
+use Rattle.ocr_hand.specs.All.{all_parts, core_at, AreAllPlaced}
 use Rattle.ocr_table.specs.Sets.{filled, slots_in}
 use Rattle.ocr_table.specs.declared.table.Table.{Table}
 

@@ -11,7 +11,7 @@ ghost use Rattle.ocr_parts.specs.Kinds.{on_core, core_progress, next_in, is_runn
 ghost use Rattle.ocr_parts.specs.Parts.{parts_of};
 ghost use Rattle.ocr_parts.specs.declared.part.Part.TheVariants as part;
 ghost use Rattle.ocr_table.specs.Sets.{filled, are_set, payloads_in, is_filling, is_filling_on, stale_in, stale_on};
-ghost use Rattle.ocr_machine.specs.All.{AreAllPlaced};
+ghost use Rattle.ocr_hand.specs.All.{AreAllPlaced};
 ghost use Rattle.ocr_table.specs.Table.{state_in, core_on, slots_on, plan_on, IsOf};
 
 use crate::rows::set_at;

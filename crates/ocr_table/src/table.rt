@@ -40,7 +40,7 @@ pub struct Table {
 
 impl Table {
     ghost use Rattle.ocr_codes.specs.Lookup.{part_at};
-    ghost use Rattle.ocr_machine.specs.All.{AreAllPlaced};
+    ghost use Rattle.ocr_hand.specs.All.{AreAllPlaced};
     ghost use Rattle.ocr_table.specs.Table.{state_in, face_on, core_on, sets_in, IsWhole, IsOf, IsBefore, IsBeforeEntry};
 
     /// A table in which nothing is made.

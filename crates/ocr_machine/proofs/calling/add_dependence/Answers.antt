@@ -7,9 +7,9 @@ use Rattle.ocr_parts.specs.Effects.{with_face, linked_if}
 use Rattle.ocr_parts.specs.Kinds.{is_edt_face, with_links}
 use Rattle.ocr_parts.specs.Messages.{linked_by}
 use Rattle.ocr_parts.specs.Parts.{Parts}
-use Rattle.ocr_machine.specs.AtHand.{state, Becomes}
-use Rattle.ocr_machine.proofs.Linking.{same_face, no_links, linked_apart}
-use Rattle.ocr_machine.proofs.Places.{follow, into, stays}
+use Rattle.ocr_hand.specs.AtHand.{state, Becomes}
+use Rattle.ocr_hand.proofs.Linking.{same_face, no_links, linked_apart}
+use Rattle.ocr_hand.proofs.Places.{follow, into, stays}
 use Rattle.ocr_machine.proofs.calling.add_dependence.Goals as goal
 use Rattle.ocr_machine.proofs.calling.add_dependence.Goals.{then-is_edt, else-is_edt}
 

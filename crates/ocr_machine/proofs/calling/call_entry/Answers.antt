@@ -2,9 +2,9 @@ use Rattle.std.proofs.Common.{sym, subst}
 use Rattle.ocr_parts.specs.Effects.{called, joined}
 use Rattle.ocr_parts.specs.LegalOn.{IsJoinable}
 use Rattle.ocr_parts.specs.Parts.{Parts}
-use Rattle.ocr_machine.specs.AtHand.{state}
+use Rattle.ocr_hand.specs.AtHand.{state}
 use Rattle.ocr_machine.proofs.Accepted.{joinable}
-use Rattle.ocr_machine.proofs.Places.{follow}
+use Rattle.ocr_hand.proofs.Places.{follow}
 use Rattle.ocr_machine.proofs.calling.call_entry.Goals as goal
 
 pub join_home-requires : goal.join_home-requires

@@ -1,6 +1,6 @@
 use Rattle.std.proofs.Common.{◌≡◌, ◌∙◌}
 use Rattle.ocr_parts.specs.Kinds.{home_on}
-use Rattle.ocr_machine.specs.AtHand.{state}
+use Rattle.ocr_hand.specs.AtHand.{state}
 use Rattle.ocr_machine.proofs.Accepted.{slots_most, deps_given, own_home, room, block_dooms, block_live, template_there, event_there}
 use Rattle.ocr_machine.proofs.calling.call_step.Goals as goal
 

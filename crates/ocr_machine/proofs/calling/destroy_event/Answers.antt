@@ -1,5 +1,5 @@
 use Rattle.ocr_any_event.specs.AnyEvent.{after_destroy}
-use Rattle.ocr_machine.proofs.Places.{event_step}
+use Rattle.ocr_hand.proofs.Places.{event_step}
 use Rattle.ocr_machine.proofs.calling.destroy_event.Goals as goal
 
 pub returns : goal.returns

@@ -1,6 +1,6 @@
 use Rattle.ocr_parts.specs.Effects.{doomed_template}
 use Rattle.std.proofs.Common.{refl}
-use Rattle.ocr_machine.proofs.Places.{template_step}
+use Rattle.ocr_hand.proofs.Places.{template_step}
 use Rattle.ocr_machine.proofs.calling.doom_template.Goals as goal
 
 pub returns : goal.returns

@@ -3,7 +3,7 @@ use Rattle.ocr_acquire.specs.declared.Mode.{Mode}
 use Rattle.ocr_slots.specs.declared.Slot.{Slot}
 use Rattle.ocr_slots.specs.Steps.{after_link}
 use Rattle.ocr_parts.specs.Calls.{mode_named}
-use Rattle.ocr_machine.proofs.Places.{links_step}
+use Rattle.ocr_hand.proofs.Places.{links_step}
 use Rattle.ocr_machine.proofs.calling.link_at.Goals as goal
 
 pub returns-clause-parts : goal.returns-clause-parts

@@ -1,6 +1,6 @@
 use Rattle.ocr_datablock.specs.Block.{State}
 use Rattle.ocr_datablock.specs.Steps.{after_store}
-use Rattle.ocr_machine.proofs.Places.{block_step}
+use Rattle.ocr_hand.proofs.Places.{block_step}
 use Rattle.ocr_machine.proofs.calling.store_at.Goals as goal
 
 pub returns : goal.returns

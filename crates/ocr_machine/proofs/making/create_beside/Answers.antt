@@ -2,8 +2,8 @@ use Rattle.std.proofs.Common.{ap}
 use Rattle.ocr_meaning.specs.declared.call.Answer.{Answer}
 use Rattle.ocr_parts.specs.Effects.{with_named, new_output, new_scope}
 use Rattle.ocr_parts.specs.Parts.{Parts}
-use Rattle.ocr_machine.specs.AtHand.{state}
-use Rattle.ocr_machine.proofs.Places.{follow, still_face}
+use Rattle.ocr_hand.specs.AtHand.{state}
+use Rattle.ocr_hand.proofs.Places.{follow, still_face}
 use Rattle.ocr_machine.proofs.making.create_beside.Goals as goal
 
 pub create_scope-requires : goal.create_scope-requires

@@ -4,8 +4,8 @@ use Rattle.ocr_parts.specs.declared.part.Part.TheVariants as part
 use Rattle.ocr_parts.specs.Effects.{with_face, with_core, creating_core}
 use Rattle.ocr_parts.specs.Kinds.{on_core}
 use Rattle.ocr_parts.specs.Parts.{Parts}
-use Rattle.ocr_machine.specs.AtHand.{state}
-use Rattle.ocr_machine.proofs.Places.{core_step, face_then, into}
+use Rattle.ocr_hand.specs.AtHand.{state}
+use Rattle.ocr_hand.proofs.Places.{core_step, face_then, into}
 use Rattle.ocr_machine.proofs.making.create_block.Goals as goal
 
 pub returns : goal.returns

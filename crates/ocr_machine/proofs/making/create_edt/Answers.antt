@@ -1,6 +1,6 @@
 use Rattle.std.proofs.Common.{refl}
 use Rattle.ocr_parts.specs.declared.part.Part.TheVariants as part
-use Rattle.ocr_machine.proofs.Places.{edt_made, into}
+use Rattle.ocr_hand.proofs.Places.{edt_made, into}
 use Rattle.ocr_machine.proofs.making.create_edt.Goals as goal
 
 pub returns : goal.returns

@@ -1,5 +1,5 @@
 use Rattle.std.proofs.Common.{refl}
-use Rattle.ocr_machine.proofs.Places.{face_made}
+use Rattle.ocr_hand.proofs.Places.{face_made}
 use Rattle.ocr_machine.proofs.making.create_event.Goals as goal
 
 pub returns : goal.returns

@@ -1,7 +1,7 @@
 use Rattle.std.proofs.Common.{◌≡◌, ◌==◌, false, arith}
 use Rattle.std.proofs.lemmas.Grind.{common_steps}
 use Rattle.ocr_parts.specs.Effects.{new_output}
-use Rattle.ocr_machine.proofs.Places.{named_made}
+use Rattle.ocr_hand.proofs.Places.{named_made}
 use Rattle.ocr_machine.proofs.making.create_output.Goals as goal
 
 pub returns-then-output-ne0 : goal.returns-then-output-ne0

@@ -1,7 +1,7 @@
 use Rattle.std.proofs.Common.{◌≡◌, ◌==◌, false, refl, rules, ap}
 use Rattle.ocr_meaning.specs.declared.call.Answer.{Answer}
 use Rattle.ocr_parts.specs.Effects.{new_scope}
-use Rattle.ocr_machine.proofs.Places.{face_made, named_made}
+use Rattle.ocr_hand.proofs.Places.{face_made, named_made}
 use Rattle.ocr_machine.proofs.making.create_scope.Goals as goal
 
 pub returns-then-ne : goal.returns-then-ne

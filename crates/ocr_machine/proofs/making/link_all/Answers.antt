@@ -5,7 +5,7 @@ use Rattle.ocr_acquire.specs.declared.Mode.TheVariants as mode
 use Rattle.ocr_slots.specs.declared.Slot.{Slot}
 use Rattle.ocr_slots.specs.Steps.{after_link}
 use Rattle.ocr_parts.specs.Calls.{is_given, with_dep, dep_links}
-use Rattle.ocr_machine.proofs.Steps.{linked_one, unlinked_above}
+use Rattle.ocr_hand.proofs.Steps.{linked_one, unlinked_above}
 use Rattle.ocr_machine.proofs.making.link_all.Goals as goal
 
 pub loop-k-preserved : goal.loop-k-preserved

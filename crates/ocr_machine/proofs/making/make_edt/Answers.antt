@@ -5,9 +5,9 @@ use Rattle.ocr_parts.specs.Messages.{dep_sends}
 use Rattle.ocr_parts.specs.Parts.{Parts, new_identity}
 use Rattle.ocr_parts.specs.declared.part.Part.{Part}
 use Rattle.ocr_parts.specs.declared.part.Part.TheVariants as part
-use Rattle.ocr_machine.specs.AtHand.{state, Becomes}
-use Rattle.ocr_machine.proofs.Linking.{made_sends}
-use Rattle.ocr_machine.proofs.Places.{ok_map, ok_with, follow, into, still_face, still_core}
+use Rattle.ocr_hand.specs.AtHand.{state, Becomes}
+use Rattle.ocr_hand.proofs.Linking.{made_sends}
+use Rattle.ocr_hand.proofs.Places.{ok_map, ok_with, follow, into, still_face, still_core}
 use Rattle.ocr_machine.proofs.making.make_edt.Goals as goal
 use Rattle.ocr_machine.proofs.making.make_edt.Goals.{After-depend_all}
 

@@ -4,7 +4,7 @@ use Rattle.ocr_history.specs.declared.entry.Entry.TheVariants.{Call}
 use Rattle.ocr_meaning.specs.Holds.{is_done}
 use Rattle.ocr_parts.specs.Footprint.{Covers}
 use Rattle.ocr_parts.specs.LegalOn.{IsCallOn}
-use Rattle.ocr_machine.specs.AtHand.{AtHand, state}
+use Rattle.ocr_hand.specs.AtHand.{AtHand, state}
 use Rattle.ocr_machine.proofs.Footprints.{has_made}
 use Rattle.ocr_machine.proofs.stepping.enter.Goals as goal
 

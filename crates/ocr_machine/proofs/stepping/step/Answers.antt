@@ -2,8 +2,8 @@ use Rattle.std.proofs.Common.{◌∙◌, ap}
 use Rattle.ocr_parts.specs.Effects.{changed}
 use Rattle.ocr_parts.specs.Messages.{sends, resumes}
 use Rattle.ocr_parts.specs.Taken.{keys}
-use Rattle.ocr_machine.specs.AtHand.{AtHand, state}
-use Rattle.ocr_machine.proofs.Places.{step_placed, step_parts}
+use Rattle.ocr_hand.specs.AtHand.{AtHand, state}
+use Rattle.ocr_hand.proofs.Places.{step_placed, step_parts}
 use Rattle.ocr_machine.proofs.stepping.step.Goals as goal
 
 pub enter-requires-clause-legal : goal.enter-requires-clause-legal

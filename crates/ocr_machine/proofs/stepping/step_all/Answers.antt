@@ -4,8 +4,8 @@ use Rattle.ocr_parts.specs.Kinds.{counted_on}
 use Rattle.ocr_parts.specs.LegalOn.{IsLegalOn}
 use Rattle.ocr_parts.specs.Messages.{sends, resumes}
 use Rattle.ocr_parts.specs.Parts.{Parts}
-use Rattle.ocr_machine.specs.AtHand.{AtHand, state}
-use Rattle.ocr_machine.proofs.Numbered.{all_numbered, all_cover, all_stepped, all_kept, all_placed}
+use Rattle.ocr_hand.specs.AtHand.{AtHand, state}
+use Rattle.ocr_hand.proofs.Numbered.{all_numbered, all_cover, all_stepped, all_kept, all_placed}
 use Rattle.ocr_machine.proofs.stepping.step_all.Goals as goal
 
 pub enter-requires-clause-legal : goal.enter-requires-clause-legal

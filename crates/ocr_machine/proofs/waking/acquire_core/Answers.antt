@@ -6,8 +6,8 @@ use Rattle.ocr_parts.specs.declared.part.Core.{Core}
 use Rattle.ocr_parts.specs.Effects.{core_with, acquiring_core, acquired_edt, awoken}
 use Rattle.ocr_parts.specs.Kinds.{progress_in}
 use Rattle.ocr_parts.specs.Loans.{kept_of, with_kept}
-use Rattle.ocr_machine.proofs.Places.{core_step, phase_put}
-use Rattle.ocr_machine.proofs.Steps.{awake_acquires}
+use Rattle.ocr_hand.proofs.Places.{core_step, phase_put}
+use Rattle.ocr_hand.proofs.Steps.{awake_acquires}
 use Rattle.ocr_machine.proofs.waking.acquire_core.Goals as goal
 
 pub returns : goal.returns

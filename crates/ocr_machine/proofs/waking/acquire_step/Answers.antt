@@ -3,8 +3,8 @@ use Rattle.ocr_acquire.specs.declared.Mode.{Mode}
 use Rattle.ocr_parts.specs.Effects.{with_face, with_core, acquiring_core, granted, next_on}
 use Rattle.ocr_parts.specs.Kinds.{with_block, on_core, size_on, words_on}
 use Rattle.ocr_parts.specs.Parts.{Parts}
-use Rattle.ocr_machine.specs.AtHand.{state}
-use Rattle.ocr_machine.proofs.Places.{ok_map, follow, into}
+use Rattle.ocr_hand.specs.AtHand.{state}
+use Rattle.ocr_hand.proofs.Places.{ok_map, follow, into}
 use Rattle.ocr_machine.proofs.waking.acquire_step.Goals as goal
 
 pub acquire_core-requires : goal.acquire_core-requires

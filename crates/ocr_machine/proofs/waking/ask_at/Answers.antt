@@ -1,6 +1,6 @@
 use Rattle.ocr_datablock.specs.Block.{State}
 use Rattle.ocr_datablock.specs.Steps.{after_ask}
-use Rattle.ocr_machine.proofs.Places.{block_step}
+use Rattle.ocr_hand.proofs.Places.{block_step}
 use Rattle.ocr_machine.proofs.waking.ask_at.Goals as goal
 
 pub returns : goal.returns

@@ -1,6 +1,6 @@
 use Rattle.std.proofs.Common.{◌∙◌, ap}
 use Rattle.ocr_parts.specs.Effects.{lent_if, granted}
-use Rattle.ocr_machine.proofs.Places.{block_step}
+use Rattle.ocr_hand.proofs.Places.{block_step}
 use Rattle.ocr_machine.proofs.waking.grant_at.Goals as goal
 
 pub returns-clause-parts : goal.returns-clause-parts

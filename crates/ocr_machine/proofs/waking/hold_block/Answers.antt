@@ -1,7 +1,7 @@
 use Rattle.std.proofs.Common.{ap, ◌∙◌}
 use Rattle.ocr_acquire.specs.Mode.{mode_in}
 use Rattle.ocr_datablock.specs.Block.{State}
-use Rattle.ocr_machine.proofs.Steps.{asked_held, none_of}
+use Rattle.ocr_hand.proofs.Steps.{asked_held, none_of}
 use Rattle.ocr_machine.proofs.waking.hold_block.Goals as goal
 
 pub returns-in_ok-ask-clause-held : goal.returns-in_ok-ask-clause-held

@@ -3,8 +3,8 @@ use Rattle.ocr_edt.specs.declared.Edt.{Edt}
 use Rattle.ocr_edt.specs.declared.Edt.TheVariants as phase
 use Rattle.ocr_parts.specs.Kinds.{progress_in}
 use Rattle.ocr_parts.specs.Effects.{core_with, with_phase, stale_edt, awoken}
-use Rattle.ocr_machine.proofs.Places.{core_step, phase_put}
-use Rattle.ocr_machine.proofs.Steps.{awake_passes}
+use Rattle.ocr_hand.proofs.Places.{core_step, phase_put}
+use Rattle.ocr_hand.proofs.Steps.{awake_passes}
 use Rattle.ocr_machine.proofs.waking.pass_by.Goals as goal
 
 pub returns : goal.returns

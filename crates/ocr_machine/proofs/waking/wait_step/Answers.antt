@@ -5,8 +5,8 @@ use Rattle.ocr_datablock.specs.Steps.{after_ask}
 use Rattle.ocr_parts.specs.Effects.{with_face, with_core, with_phase, waiting_edt, next_on}
 use Rattle.ocr_parts.specs.Kinds.{with_block, on_core, is_acquiring}
 use Rattle.ocr_parts.specs.Parts.{Parts}
-use Rattle.ocr_machine.specs.AtHand.{state}
-use Rattle.ocr_machine.proofs.Places.{follow, into}
+use Rattle.ocr_hand.specs.AtHand.{state}
+use Rattle.ocr_hand.proofs.Places.{follow, into}
 use Rattle.ocr_machine.proofs.waking.wait_step.Goals as goal
 
 pub wait_core-requires-clause-acquiring : goal.wait_core-requires-clause-acquiring

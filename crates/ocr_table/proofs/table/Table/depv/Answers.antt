@@ -1,5 +1,5 @@
 use Rattle.std.proofs.Common.{◌∙◌}
-use Rattle.ocr_machine.proofs.Places.{ok_with}
+use Rattle.ocr_hand.proofs.Places.{ok_with}
 use Rattle.ocr_table.proofs.Tables.{depv_is}
 use Rattle.ocr_table.proofs.table.Table.depv.Goals as goal
 

@@ -1,5 +1,5 @@
 use Rattle.std.proofs.Common.{◌∙◌}
-use Rattle.ocr_machine.proofs.Places.{ok_with}
+use Rattle.ocr_hand.proofs.Places.{ok_with}
 use Rattle.ocr_table.proofs.Tables.{payloads_are}
 use Rattle.ocr_table.proofs.table.Table.payloads.Goals as goal
 

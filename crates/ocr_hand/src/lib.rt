@@ -1,0 +1,13 @@
+//! The parts that an entry has at hand, and what changes them in most entries: members that join
+//! and leave finish scopes, events that are satisfied, holds and EDTs that end.
+#![tactic(auto)]
+
+mod ending;
+mod events;
+mod scopes;
+mod taken;
+
+pub use ending::{destroy, end_hold, end_step};
+pub use events::{deliver_step, depend, depend_all, satisfy_at};
+pub use scopes::{home_of, join_home};
+pub use taken::Taken;
