@@ -68,12 +68,16 @@ is_stmt_in f s = is_step_placed (numbers_of f) f.names.now s
 abbrev pub are_stmts_in : walker.Frame → List StmtCode → Bool
 are_stmts_in f ss = are_placed (numbers_of f) f.names.now ss
 
--- the parts of the body, from this state on: an expression, a call, arguments, a call once its
--- arguments are found and once it is known what it comes to, a call that has codes, a load, a
--- store, a statement, statements, and a loop
+-- the parts of the body, from this state on: an expression, an expression after a unit of fuel, a
+-- call, arguments, a call once its arguments are found and once it is known what it comes to, a
+-- call that has codes, a load, a store, a statement, statements, and a loop
 abbrev pub expr_part : walker.Frame → ExprCode → Holds → Local → (Value → Behaviour)
 expr_part f e holds l =
     meaning.eval (frame_of f) (expression_at f.names.now e) (state_in f holds l)
+
+abbrev pub paid_part : walker.Frame → ExprCode → Holds → Local → (Value → Behaviour)
+paid_part f e holds l k = meaning.spend (state_in f holds l) (λ st.
+    meaning.eval (frame_of f) (expression_at f.names.now e) st k)
 
 abbrev pub call_part : walker.Frame → CallCode → Holds → Local → (Value → Behaviour)
 call_part f c holds l =

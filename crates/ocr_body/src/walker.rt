@@ -20,8 +20,8 @@ ghost use Rattle.ocr_body.specs.Serving.{StoppedBy};
 ghost use Rattle.ocr_body.specs.Walker.{next_of, next_after, GoesOn, IsCause, Yields, Leads};
 ghost use Rattle.ocr_body.specs.Walker.{StillFits, is_call_in, are_args_in, is_stmt_in};
 ghost use Rattle.ocr_body.specs.Walker.{are_stmts_in, expr_part, call_part, coded_part, args_part};
-ghost use Rattle.ocr_body.specs.Walker.{made_part, way_part, ask_part, load_part, store_part};
-ghost use Rattle.ocr_body.specs.Walker.{stmt_part, stmts_part, loop_part};
+ghost use Rattle.ocr_body.specs.Walker.{paid_part, made_part, way_part, ask_part, load_part};
+ghost use Rattle.ocr_body.specs.Walker.{store_part, stmt_part, stmts_part, loop_part};
 
 use crate::api::Api;
 use ocr_base::{NoMemory, Seq};
@@ -324,8 +324,7 @@ fn eval_all<A: Api>(
     }
 }
 
-// The value of an expression. One that makes no call and does not stop is found with its fuel in a
-// register; the commonest form is done in place.
+// The value of an expression. The commonest form is done in place.
 #[cycle(eval)]
 #[inline(always)]
 fn find<A: Api>(frame: &Frame, expr: &ExprCode, local: &mut Local, api: &mut A) -> Result<u64, Halt>
@@ -348,6 +347,30 @@ fn find<A: Api>(frame: &Frame, expr: &ExprCode, local: &mut Local, api: &mut A) 
             }
         }
     }
+    find_other(frame, expr, local, api)
+}
+
+// The value of an expression of any form. One that makes no call and does not stop is found with
+// its fuel in a register.
+#[cycle(eval)]
+#[inline(always)]
+fn find_other<A: Api>(
+    frame: &Frame,
+    expr: &ExprCode,
+    local: &mut Local,
+    api: &mut A,
+) -> Result<u64, Halt>
+    requires ready { A.is_ready api.old }
+    requires fits { Fits frame.now local.old }
+    requires placed { is_expr_in frame.now expr.now ≡ true }
+    requires begins { BeginsValue (next_of A.Api api.old)
+        (expr_part frame.now expr.now (A.holds api.old) local.old) }
+    ensures goes_on { GoesOn A.Api api.old api.new }
+    ensures still_fits { StillFits frame.now local.old local.new }
+    ensures ok { IfOk result (λ v. Yields A.Api api.old api.new
+        (expr_part frame.now expr.now (A.holds api.old) local.old) v frame.now local.new) }
+    ensures err { OnErr result (IsCause A.Api api.old api.new local.new.stop) }
+{
     if let ExprCode::Invoke(call) = expr {
         return invoke(frame, call, local, api);
     }
@@ -357,6 +380,39 @@ fn find<A: Api>(frame: &Frame, expr: &ExprCode, local: &mut Local, api: &mut A) 
     }
     local.fuel = found.left;
     Ok(found.value)
+}
+
+// Pays a unit and then finds the value of an expression, as a statement or a test of a loop begins.
+// The commonest form takes one test of the fuel for both.
+#[inline(always)]
+fn find_paid<A: Api>(
+    frame: &Frame,
+    expr: &ExprCode,
+    local: &mut Local,
+    api: &mut A,
+) -> Result<u64, Halt>
+    requires ready { A.is_ready api.old }
+    requires fits { Fits frame.now local.old }
+    requires placed { is_expr_in frame.now expr.now ≡ true }
+    requires begins { BeginsValue (next_of A.Api api.old)
+        (paid_part frame.now expr.now (A.holds api.old) local.old) }
+    ensures goes_on { GoesOn A.Api api.old api.new }
+    ensures still_fits { StillFits frame.now local.old local.new }
+    ensures less { OnOk result (local.new.fuel < local.old.fuel) }
+    ensures ok { IfOk result (λ v. Yields A.Api api.old api.new
+        (paid_part frame.now expr.now (A.holds api.old) local.old) v frame.now local.new) }
+    ensures err { OnErr result (IsCause A.Api api.old api.new local.new.stop) }
+{
+    if let ExprCode::WithNumber(op, place, number) = expr {
+        if local.fuel >= 4 {
+            if let Ok(value) = operate(*op, read(frame, *place, local), *number) {
+                local.fuel -= 4;
+                return Ok(value);
+            }
+        }
+    }
+    pay(local)?;
+    find_other(frame, expr, local, api)
 }
 
 // A parameter by its index, or a stop for an index past the end.
@@ -606,14 +662,12 @@ fn exec<A: Api>(
     match step {
         StmtCode::While(test, body) => repeat(frame, test, body, local, api),
         StmtCode::Let(place, value) | StmtCode::Assign(place, value) => {
-            pay(local)?;
-            let value = find(frame, value, local, api)?;
+            let value = find_paid(frame, value, local, api)?;
             assign(frame, *place, value, local, api);
             Ok(Flow::Next)
         }
         StmtCode::If(test, yes, no) => {
-            pay(local)?;
-            let value = find(frame, test, local, api)?;
+            let value = find_paid(frame, test, local, api)?;
             if value == 0 {
                 exec_all(frame, no, local, api)
             } else {
@@ -621,14 +675,12 @@ fn exec<A: Api>(
             }
         }
         StmtCode::Print(value) => {
-            pay(local)?;
-            let value = find(frame, value, local, api)?;
+            let value = find_paid(frame, value, local, api)?;
             print(frame, value, local, api)?;
             Ok(Flow::Next)
         }
         StmtCode::Return(value) => {
-            pay(local)?;
-            let value = find(frame, value, local, api)?;
+            let value = find_paid(frame, value, local, api)?;
             local.returned = Guid(value);
             Ok(Flow::Returned)
         }
@@ -662,8 +714,7 @@ fn repeat<A: Api>(
     ensures err { OnErr result (IsCause A.Api api.old api.new local.new.stop) }
 {
     loop {
-        pay(local)?; // one unit for each test of the condition
-        let value = find(frame, test, local, api)?;
+        let value = find_paid(frame, test, local, api)?; // each test takes one unit more
         if value == 0 {
             return Ok(Flow::Next);
         }
