@@ -25,8 +25,8 @@ ready_core-requires c =
     let same = edt_same c.in-Edt.slots b.slots (sym c.in-Edt.is ∙ item_same c.part.result.now (part.Edt b.slots) (sym c.part.ensures ∙ there)) in
     b.count_is ∙ ap (λ (l : List Slot). length l) (sym same)
 
-pub returns-in_err-core-clause-same : goal.returns-in_err-core-clause-same
-returns-in_err-core-clause-same c =
+pub returns-in_err-ready_core-clause-same : goal.returns-in_err-ready_core-clause-same
+returns-in_err-ready_core-clause-same c =
     let e = c.lift.ensures in (e.rest.0, e.rest.1, e.rest.2, ap (λ (l : List (ℕ × Option Part)). length l) e.parts ∙ long_replaced c.args.place None c.args.clerk.now.parts)
 
 pub put-requires : goal.put-requires
@@ -46,11 +46,11 @@ returns-clause-ready c =
     let b = c.requires.both in let e = c.lift.ensures in let q = c.put.ensures in
     let there : find c.edt.inside.0 c.lift.new.self.parts ≡ Some (Some (part.Edt b.slots)) = ap (λ (n : ℕ). find n c.lift.new.self.parts) c.edt.view_is ∙ (ap (find c.args.edt) e.parts ∙ (find_other c.args.edt c.args.place None c.args.clerk.now.parts b.apart ∙ b.face_there)) in
     let same = edt_same c.in-Edt.slots b.slots (sym c.in-Edt.is ∙ item_same c.part.result.now (part.Edt b.slots) (sym c.part.ensures ∙ there)) in
-    let core = c.in_ok-core.ensures ∙ ap (λ (l : List Slot). ready_with l c.args.payloads.now c.in-Core.core) same in
+    let core = c.in_ok-ready_core.ensures ∙ ap (λ (l : List Slot). ready_with l c.args.payloads.now c.in-Core.core) same in
     record {
       core = c.in-Core.core;
       slots = b.slots;
       core_there = e.part ∙ ap (λ (x : Part). Some (Some x)) c.in-Core.is;
       face_there = b.face_there;
-      ready = q.parts ∙ (ap (λ (l : List (ℕ × Option Part)). replace c.args.place (Some (part.Core c.in_ok-core.core)) l) e.parts ∙ ap (λ k. replace c.args.place (Some (part.Core k)) (replace c.args.place None c.args.clerk.now.parts)) core);
+      ready = q.parts ∙ (ap (λ (l : List (ℕ × Option Part)). replace c.args.place (Some (part.Core c.ready_core.new.core)) l) e.parts ∙ ap (λ k. replace c.args.place (Some (part.Core k)) (replace c.args.place None c.args.clerk.now.parts)) core);
     }

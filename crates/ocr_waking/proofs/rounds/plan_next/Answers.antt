@@ -22,7 +22,7 @@ pub returns-clause-next : goal.returns-clause-next
 returns-clause-next g c =
     let t = c.args.job.now.turns.now.1 in let k = c.requires.knows in let old = c.args.clerk.now in
     let slots = face_found_is t c.args.edt old k.face c.part-2.result.now c.in-Core-Edt.slots (ap (λ (n : ℕ). find n old.parts) (sym c.edt.view_is) ∙ c.part-2.ensures) c.in-Core-Edt.is-1 in
-    let core = core_found_is t c.args.edt old k.face c.part.result.now c.in-Core-Edt.core ((λ i. find (sym c.limit.ensures i + sym c.edt.view_is i) old.parts) ∙ c.part.ensures) c.in-Core-Edt.is-0 in
+    let core = c.get.ensures ∙ core_found_is t c.args.edt old k.face c.part.result.now c.in-Core-Edt.core ((λ i. find (sym c.limit.ensures i + sym c.edt.view_is i) old.parts) ∙ c.part.ensures) c.in-Core-Edt.is-0 in
     record {
       knows = k;
       next_is = c.block_in.ensures ∙ ap name_in (c.in-Ok.ensures ∙ (λ i. next_in (progress_in (made_ready (plan_from (slots i) c.args.payloads.now) (core i).edt))));
