@@ -383,7 +383,7 @@ fn find_other<A: Api>(
 }
 
 // Pays a unit and then finds the value of an expression, as a statement or a test of a loop begins.
-// The commonest form takes one test of the fuel for both.
+// One test of the fuel is enough for both in the commonest form.
 #[inline(always)]
 fn find_paid<A: Api>(
     frame: &Frame,
@@ -403,14 +403,39 @@ fn find_paid<A: Api>(
         (paid_part frame.now expr.now (A.holds api.old) local.old) v frame.now local.new) }
     ensures err { OnErr result (IsCause A.Api api.old api.new local.new.stop) }
 {
+    if local.fuel < 4 {
+        return pay_and_find(frame, expr, local, api);
+    }
     if let ExprCode::WithNumber(op, place, number) = expr {
-        if local.fuel >= 4 {
-            if let Ok(value) = operate(*op, read(frame, *place, local), *number) {
-                local.fuel -= 4;
-                return Ok(value);
-            }
+        if let Ok(value) = operate(*op, read(frame, *place, local), *number) {
+            local.fuel -= 4;
+            return Ok(value);
         }
     }
+    pay(local)?;
+    find_other(frame, expr, local, api)
+}
+
+// The same where the fuel may not be enough for both.
+#[inline(never)]
+fn pay_and_find<A: Api>(
+    frame: &Frame,
+    expr: &ExprCode,
+    local: &mut Local,
+    api: &mut A,
+) -> Result<u64, Halt>
+    requires ready { A.is_ready api.old }
+    requires fits { Fits frame.now local.old }
+    requires placed { is_expr_in frame.now expr.now ≡ true }
+    requires begins { BeginsValue (next_of A.Api api.old)
+        (paid_part frame.now expr.now (A.holds api.old) local.old) }
+    ensures goes_on { GoesOn A.Api api.old api.new }
+    ensures still_fits { StillFits frame.now local.old local.new }
+    ensures less { OnOk result (local.new.fuel < local.old.fuel) }
+    ensures ok { IfOk result (λ v. Yields A.Api api.old api.new
+        (paid_part frame.now expr.now (A.holds api.old) local.old) v frame.now local.new) }
+    ensures err { OnErr result (IsCause A.Api api.old api.new local.new.stop) }
+{
     pay(local)?;
     find_other(frame, expr, local, api)
 }
