@@ -3,7 +3,6 @@ pub mod Sound
 pub mod Exact
 pub mod Fitting
 pub mod Marks
-pub mod Heights
 pub mod Unfinished
 pub mod Places
 pub mod One

@@ -6,12 +6,12 @@ ghost use Rattle.ocr_grammar.specs.declared.argument_kind.ArgumentKind.TheVarian
 ghost use Rattle.ocr_syntax.specs.Joined.{with};
 ghost use Rattle.ocr_syntax.specs.Machine as machine;
 ghost use Rattle.ocr_syntax.specs.Fitting.{LeadsTo, LeadsToFlags, IsFitting};
-ghost use Rattle.ocr_syntax.specs.View.{args_of, slots_after, stack_of, site_of, held_of, position_of, indexed_of, state_of, state_if_any};
+ghost use Rattle.ocr_syntax.specs.View.{args_of, slots_after, stack_of, site_of, position_of, indexed_of, state_of, state_if_any};
 
 use ocr_grammar::{Lexeme, Word, level};
 use ocr_syntax::{
     Arg, CallSite, Indexed, Position, Stack, State, Wanted, after_argument, after_flags,
-    after_member, at_expression_end, with_member, with_value,
+    after_member, at_expression_end, fold, with_member, with_value,
 };
 use ocr_tree::{BinaryOp, CallName, Expr, UnaryOp};
 use std::alloc::{AllocError, Global};
@@ -23,66 +23,6 @@ fn operator(lexeme: &Lexeme) -> Option<BinaryOp>
     match lexeme {
         Lexeme::Operator(op) => Some(*op),
         _ => None,
-    }
-}
-
-fn binary(
-    alloc: Global,
-    op: BinaryOp,
-    left: Box<Expr>,
-    right: Box<Expr>,
-) -> Result<Box<Expr>, AllocError>
-    ensures { IfOk result (λ e. expression_of e.value
-        ≡ tree.Binary op (expression_of left.value) (expression_of right.value)) }
-{
-    Ok(Box::new(alloc, Expr::Binary(op, left, right))?)
-}
-
-fn unary(alloc: Global, op: UnaryOp, operand: Box<Expr>) -> Result<Box<Expr>, AllocError>
-    ensures { IfOk result
-        (λ e. expression_of e.value ≡ tree.Unary op (expression_of operand.value)) }
-{
-    Ok(Box::new(alloc, Expr::Unary(op, operand))?)
-}
-
-/// Puts together what binds as close as this level.
-fn fold(
-    alloc: Global,
-    low: u8,
-    stack: Stack,
-    operand: Box<Expr>,
-) -> Result<(Stack, Box<Expr>), AllocError>
-    ensures { IfOk result (λ r. held_of r.0 r.1.value
-        ≡ machine.fold_of low (stack_of stack) (expression_of operand.value)) }
-{
-    let mut stack = stack;
-    let mut operand = operand;
-    loop {
-        match stack {
-            Stack::Left(left, op, below) => {
-                if level(op) < low {
-                    return Ok((Stack::Left(left, op, below), operand));
-                }
-                operand = binary(alloc, op, left, operand)?;
-                stack = Box::into_inner(below);
-            }
-            Stack::Prefix(op, below) => {
-                operand = unary(alloc, op, operand)?;
-                stack = Box::into_inner(below);
-            }
-            Stack::Bottom(purpose) => return Ok((Stack::Bottom(purpose), operand)),
-            Stack::Round(below) => return Ok((Stack::Round(below), operand)),
-            Stack::Index(which, below) => return Ok((Stack::Index(which, below), operand)),
-            Stack::Argument(call, args, site) => {
-                return Ok((Stack::Argument(call, args, site), operand));
-            }
-            Stack::Member(call, args, members, site) => {
-                return Ok((Stack::Member(call, args, members, site), operand));
-            }
-            Stack::FlagsArgument(call, args, site) => {
-                return Ok((Stack::FlagsArgument(call, args, site), operand));
-            }
-        }
     }
 }
 

@@ -5,6 +5,5 @@ mod expressions;
 mod lists;
 mod parsing;
 mod steps;
-mod wanted;
 
 pub use parsing::{ParseStop, SyntaxFault, parse};

@@ -6,14 +6,11 @@ ghost use Rattle.ocr_syntax.specs.View.{position_of, wanted_of, state_of, state_
 
 use crate::expressions::{after_operand, operand};
 use crate::lists::list_start;
-use crate::wanted::{
-    assign_equals, call_open, function_name, function_open, function_word, index_open, let_equals,
-    let_name, list_open, name_at, output_and, output_name,
-};
 use ocr_grammar::Lexeme;
 use ocr_syntax::{
-    BlockKind, Position, State, Wanted, after_argument, after_call, at_brace, at_call_end,
-    at_statement, may_else,
+    BlockKind, Position, State, Wanted, after_argument, after_call, assign_equals, at_brace,
+    at_call_end, at_statement, call_open, function_name, function_open, function_word, index_open,
+    let_equals, let_name, list_open, may_else, name_at, output_and, output_name,
 };
 use std::alloc::{AllocError, Global};
 

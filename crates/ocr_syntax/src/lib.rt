@@ -1,18 +1,26 @@
-//! The states of the parser, and what each token of a statement or of a call does to them.
+//! The states of the parser, what each token of a statement or of a call does to them, and how
+//! operators are folded.
 #![tactic(auto)]
 
 mod calls;
+mod folding;
 mod invoking;
 mod limits;
 mod statements;
 mod states;
+mod wanted;
 
 pub use calls::{
     after_argument, after_flags, after_member, argument, at_call_end, with_list, with_member,
     with_name, with_value,
 };
+pub use folding::fold;
 pub use limits::{Tally, is_over, tally_after};
 pub use statements::{
     after_call, at_brace, at_expression_end, at_statement, first_operand, may_else,
 };
 pub use states::{Arg, BlockKind, CallSite, Indexed, Position, Purpose, Stack, State, Wanted};
+pub use wanted::{
+    assign_equals, call_open, function_name, function_open, function_word, index_open, let_equals,
+    let_name, list_open, name_at, output_and, output_name,
+};

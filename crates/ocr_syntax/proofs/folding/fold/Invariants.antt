@@ -2,8 +2,8 @@ use Rattle.std.proofs.Common.{◌≡◌}
 use Rattle.ocr_syntax.specs.Machine as machine
 use Rattle.ocr_tree.specs.View.{expression_of}
 use Rattle.ocr_syntax.specs.View.{stack_of}
-use Rattle.ocr_program.proofs.Heights.{height}
-use Rattle.ocr_program.proofs.expressions.fold.Given as goal
+use Rattle.ocr_syntax.proofs.Heights.{height}
+use Rattle.ocr_syntax.proofs.folding.fold.Given as goal
 
 abbrev pub invariant-loop-stack : goal.invariant-loop-stack
 invariant-loop-stack l =

@@ -4,11 +4,10 @@ ghost use Rattle.ocr_tree.specs.View.{expression_of, functions_of, statements_of
 ghost use Rattle.ocr_syntax.specs.Machine as machine;
 ghost use Rattle.ocr_syntax.specs.View.{args_of, slots_after, stack_of, site_of, position_of, indexed_of, state_of, state_if_any};
 
+use crate::calls::{argument, with_name};
+use crate::statements::first_operand;
+use crate::states::{Arg, CallSite, Indexed, Position, Purpose, Stack, State, Wanted};
 use ocr_grammar::{Lexeme, Word};
-use ocr_syntax::{
-    Arg, CallSite, Indexed, Position, Purpose, Stack, State, Wanted, argument, first_operand,
-    with_name,
-};
 use ocr_tree::{BinaryOp, CallName, Function, Name};
 use std::alloc::{AllocError, Global};
 
@@ -125,7 +124,7 @@ fn index_start(
 }
 
 /// Wants `(` after the name of a call.
-#[tactic(auto, using(ocr_syntax::proofs::CallLemmas::opened))]
+#[tactic(auto, using(crate::proofs::CallLemmas::opened))]
 pub fn call_open(
     alloc: Global,
     position: Position,
@@ -164,7 +163,7 @@ pub fn list_open(
 }
 
 /// Wants the name of a function as an argument.
-#[tactic(auto, using(ocr_syntax::proofs::CallLemmas::after_pushed))]
+#[tactic(auto, using(crate::proofs::CallLemmas::after_pushed))]
 pub fn name_at(
     position: Position,
     call: CallName,
@@ -206,7 +205,7 @@ pub fn output_and(
 }
 
 /// Wants the name of the variable after `&`.
-#[tactic(auto, using(ocr_syntax::proofs::CallLemmas::ending_pushed))]
+#[tactic(auto, using(crate::proofs::CallLemmas::ending_pushed))]
 pub fn output_name(
     position: Position,
     call: CallName,
