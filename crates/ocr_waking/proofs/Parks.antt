@@ -1,7 +1,8 @@
 -- What a worker keeps once it has entered what a block let its EDT do.
 use Rattle.std.proofs.Common.{◌≡◌, ◌≢◌, ℕ, ◌+◌, ◌≤◌, ◌==◌, Bool, true, false, List, [], ◌∷◌, ◌++◌, take, Option, Some, None, is_some, refl, ap, sym, ◌∙◌, subst, arith}
-use Rattle.std.specs.Prelude.{IfNone, IfSome}
+use Rattle.std.specs.Prelude.{Err, IfNone, IfOk, IfSome, Ok, Result}
 use Rattle.std.specs.List.{All}
+use Rattle.std.proofs.lemmas.List.{append-nil}
 use Rattle.std.proofs.lemmas.List.Elements.{All-cons, All-nil}
 use mathlib.Core.Option.{some}
 use lib.ListN.{get_elem?}
@@ -30,19 +31,21 @@ use Rattle.ocr_clerks.specs.Entering.{Hand, OcrKnown}
 use Rattle.ocr_code.specs.declared.checked.Checked.{Checked}
 use Rattle.ocr_rule.specs.Words.{SeesReady}
 use Rattle.ocr_clerks.specs.Work.{AtWork, EntersKept, HasTakenOn, KeepsFaces, OcrTable, RunsNone, RunsOnly, Stays, ready_with}
-use Rattle.ocr_clerks.proofs.Going.{stays_both, stays_still}
+use Rattle.ocr_clerks.proofs.Going.{stays_still}
 use Rattle.ocr_clerks.proofs.Hands.{apart_is, number_same}
 use Rattle.ocr_clerks.proofs.Seen.{core_apart, within_bounds}
 use Rattle.ocr_parking.specs.Parking.{IsLetWait}
 use Rattle.ocr_waking.specs.Meeting.{CanAct, CarriesOut, IsUnbegun, WantsOther, pair_of}
-use Rattle.ocr_waking.specs.Rounds.{GaveFaces, HasWaited, hand_of, lets_wait, places_of, slots_on, two_places}
+use Rattle.ocr_waking.specs.Rounds.{GaveFaces, HasWaited, IsAfter, hand_of, lets_wait, places_of, slots_on, two_places}
 use Rattle.ocr_waking.specs.Waking.{Meets, entry_by, two_faces}
 use Rattle.ocr_waking.specs.declared.acting.Act.{Act}
 use Rattle.ocr_waking.specs.declared.acting.Act.TheVariants as act
+use Rattle.ocr_waking.specs.declared.waking.Step.{Step}
+use Rattle.ocr_waking.specs.declared.waking.Step.TheVariants as step
 use Rattle.ocr_waking.proofs.After.{IsGoing, alone_after, core_now, keeps_after, later_keys, state_is, still_taken, still_unstarted}
 use Rattle.ocr_waking.proofs.Awake.{none_own}
 use Rattle.ocr_waking.proofs.Carries.{meets_now}
-use Rattle.ocr_waking.proofs.Holding.{KeepsCore, Shown, other_core, other_faces, shown_ready, shown_taken, still_unbegun, two_others}
+use Rattle.ocr_waking.proofs.Holding.{KeepsCore, Shown, other_core, other_faces, shown_ready, shown_taken, still_unbegun, two_others, waited_after}
 use Rattle.ocr_waking.proofs.Taking.{core_found, face_found, two_items}
 use Rattle.ocr_waking.proofs.Three.{block_there}
 
@@ -225,13 +228,24 @@ module _ (t : OcrTerms) (edt d : ℕ) (first : Bool) (payloads : List ℕ) (h : 
       }
 
 -- and the newest entry says so
-pub has_waited : (t : OcrTerms) (edt d : ℕ) (h : Hand) (old now new last : OcrKnown) → Stays old now → EntersKept t now new (Wait edt d) h → last.view ≡ record new.view { parts = []; claims = [] } → HasWaited old last edt
-has_waited t edt d h old now new last stays enters view = record {
-  more = stays.log.0;
+pub has_waited : (t : OcrTerms) (edt d : ℕ) (h : Hand) (old new last : OcrKnown) → EntersKept t old new (Wait edt d) h → last.view ≡ record new.view { parts = []; claims = [] } → HasWaited old last edt
+has_waited t edt d h old new last enters view = record {
+  more = [];
   number = enters.number;
   block = d;
-  log = ap (λ (v : OcrView). v.log) view ∙ (ap (λ (v : OcrView). v.log) enters.view ∙ ap (λ (l : List (ℕ × Entry)). l ++ (enters.number, Wait edt d) ∷ []) stays.log.1);
+  log = ap (λ (v : OcrView). v.log) view ∙ (ap (λ (v : OcrView). v.log) enters.view ∙ ap (λ (l : List (ℕ × Entry)). l ++ (enters.number, Wait edt d) ∷ []) (sym (append-nil old.view.log)));
 }
+
+-- after others too
+pub after_stays : (t : OcrTerms) (edt : ℕ) (s : Step) (a b c : OcrKnown) → Stays a b → IsAfter t edt s b c → IsAfter t edt s a c
+after_stays t edt (step.Ready payloads) a b c stays after = after
+after_stays t edt (step.Wants d) a b c stays after = after
+after_stays t edt step.Again a b c stays after = after
+after_stays t edt step.Parked a b c stays after = (after.0, waited_after a b c edt stays after.1)
+
+pub after_ok : {E : Type 0} (t : OcrTerms) (edt : ℕ) (r : Result Step E) (a b c : OcrKnown) → Stays a b → IfOk r (λ s. IsAfter t edt s b c) → IfOk r (λ s. IsAfter t edt s a c)
+after_ok t edt (Ok s) a b c stays after = after_stays t edt s a b c stays after
+after_ok t edt (Err e) a b c stays after = after
 
 -- BY WHAT IS DECIDED
 pub if_some : {A : Type 0} (P : A → Type 0) (o : Option A) (x : A) → o ≡ Some x → IfSome o P → P x
@@ -250,15 +264,14 @@ look_face false limit edt d x y z wt wd off =
     let a : ((limit + edt) == edt) ≡ false = apart_is (limit + edt) edt (core_apart limit edt edt wt wt) in
     rw (a, number_same edt) refl
 
-pub carries : (t : OcrTerms) (edt d : ℕ) (first : Bool) (payloads : List ℕ) (a : Act) (old now : OcrKnown) → edt ≢ d → is_within t.limit d ≡ true → CanAct t edt d first payloads a old → now ≡ old
-    → CarriesOut t edt d first payloads a (hand_of now edt payloads) now
-carries t edt d first payloads a old now off wd can same =
+pub carries : (t : OcrTerms) (edt d : ℕ) (first : Bool) (payloads : List ℕ) (a : Act) (c : OcrKnown) → edt ≢ d → is_within t.limit d ≡ true → CanAct t edt d first payloads a c → CarriesOut t edt d first payloads a (hand_of c edt payloads) c
+carries t edt d first payloads a c off wd can =
     let m = can.knows.three in
-    let there : look old.view.parts edt ≡ part.Edt can.knows.slots = ap (λ (l : List (ℕ × Part)). look l edt) m.kept ∙ (look_face first t.limit edt d (part.Core m.core) m.face m.other m.taken.number wd off ∙ can.knows.face_is) in
-    subst (λ (c : OcrKnown). CarriesOut t edt d first payloads a (hand_of c edt payloads) c) (sym same) (record {
+    let there : look c.view.parts edt ≡ part.Edt can.knows.slots = ap (λ (l : List (ℕ × Part)). look l edt) m.kept ∙ (look_face first t.limit edt d (part.Core m.core) m.face m.other m.taken.number wd off ∙ can.knows.face_is) in
+    record {
       can = can;
-      hand = ap (λ (x : Part). record { members = plan_from (slots_on x) payloads; parts = old.view.parts }) there;
-    })
+      hand = ap (λ (x : Part). record { members = plan_from (slots_on x) payloads; parts = c.view.parts }) there;
+    }
 
 pub going : (a : Act) → lets_wait a ≡ false → IsGoing a
 going act.Acquire is = tt
@@ -271,41 +284,37 @@ let_wait_by t edt d first payloads act.Wait h old new off wd is carries enters =
 let_wait_by t edt d first payloads act.Acquire h old new off wd is carries enters = cc is
 let_wait_by t edt d first payloads act.Pass h old new off wd is carries enters = cc is
 
-pub has_waited_by : (t : OcrTerms) (edt d : ℕ) (a : Act) (h : Hand) (old now new last : OcrKnown) → lets_wait a ≡ true → Stays old now → EntersKept t now new (entry_by a edt d) h → last.view ≡ record new.view { parts = []; claims = [] } → HasWaited old last edt
-has_waited_by t edt d act.Wait h old now new last is stays enters view = has_waited t edt d h old now new last stays enters view
-has_waited_by t edt d act.Acquire h old now new last is stays enters view = cc is
-has_waited_by t edt d act.Pass h old now new last is stays enters view = cc is
+pub has_waited_by : (t : OcrTerms) (edt d : ℕ) (a : Act) (h : Hand) (old new last : OcrKnown) → lets_wait a ≡ true → EntersKept t old new (entry_by a edt d) h → last.view ≡ record new.view { parts = []; claims = [] } → HasWaited old last edt
+has_waited_by t edt d act.Wait h old new last is enters view = has_waited t edt d h old new last enters view
+has_waited_by t edt d act.Acquire h old new last is enters view = cc is
+has_waited_by t edt d act.Pass h old new last is enters view = cc is
 
 -- WHAT A ROUND LEAVES before the faces go home
-pub record IsDone (t : OcrTerms) (edt d : ℕ) (first : Bool) (start c : OcrKnown) : Type 0 where
-  pub stays : Stays start c
+pub record IsDone (t : OcrTerms) (edt d : ℕ) (first : Bool) (c : OcrKnown) : Type 0 where
   pub taken : HasTakenOn t edt c
   pub keeps : KeepsFaces t edt (two_places first edt d) c
   pub core : KeepsCore t edt c
   pub shown : Shown t c.view edt
 
-pub done_other : (table : OcrTable) (program : Checked) (edt d : ℕ) (first : Bool) (payloads : List ℕ) (start old now : OcrKnown) → is_within table.1.limit d ≡ true → IsUnbegun start.view edt → Stays start old → AtWork table program old
-    → SeesReady meaning old.view edt → WantsOther table.1 edt d first payloads old → now ≡ old → IsDone table.1 edt d first start now
-done_other table program edt d first payloads start old now within unbegun stays work ready other same =
-    let t = table.1 in
-    subst (λ (c : OcrKnown). IsDone t edt d first start c) (sym same) (record {
-      stays = stays;
+pub done_other : (table : OcrTable) (program : Checked) (edt d : ℕ) (first : Bool) (payloads : List ℕ) (c : OcrKnown) → is_within table.1.limit d ≡ true → IsUnbegun c.view edt → AtWork table program c → SeesReady meaning c.view edt
+    → WantsOther table.1 edt d first payloads c → IsDone table.1 edt d first c
+done_other table program edt d first payloads c within unbegun work ready other =
+    let t = table.1 in record {
       taken = other.knows.three.taken;
-      keeps = other_faces t edt d first payloads old within other;
-      core = other_core t edt d first payloads old other (still_unbegun start old edt stays unbegun);
-      shown = shown_ready table program old edt work ready;
-    })
+      keeps = other_faces t edt d first payloads c within other;
+      core = other_core t edt d first payloads c other unbegun;
+      shown = shown_ready table program c edt work ready;
+    }
 
-pub done_act : (table : OcrTable) (program : Checked) (edt d : ℕ) (first : Bool) (payloads : List ℕ) (a : Act) (h : Hand) (start old new : OcrKnown) → edt ≢ d → is_within table.1.limit d ≡ true → IsUnbegun start.view edt → Stays start old → Stays old new
-    → AtWork table program new → lets_wait a ≡ false → CarriesOut table.1 edt d first payloads a h old → EntersKept table.1 old new (entry_by a edt d) h → IsDone table.1 edt d first start new
-done_act table program edt d first payloads a h start old new off wd unbegun before after work goes carries enters =
-    let t = table.1 in let stays = stays_both start old new before after in
+pub done_act : (table : OcrTable) (program : Checked) (edt d : ℕ) (first : Bool) (payloads : List ℕ) (a : Act) (h : Hand) (old new : OcrKnown) → edt ≢ d → is_within table.1.limit d ≡ true → IsUnbegun old.view edt → Stays old new
+    → AtWork table program new → lets_wait a ≡ false → CarriesOut table.1 edt d first payloads a h old → EntersKept table.1 old new (entry_by a edt d) h → IsDone table.1 edt d first new
+done_act table program edt d first payloads a h old new off wd unbegun stays work goes carries enters =
+    let t = table.1 in
     let taken = taken_after t edt d first payloads a h old new off wd carries enters in
     record {
-      stays = stays;
       taken = taken;
       keeps = faces_after t edt d first payloads a h old new off wd carries enters (going a goes);
-      core = core_after t edt d first payloads a h old new off wd carries enters (going a goes) (still_unbegun start new edt stays unbegun);
+      core = core_after t edt d first payloads a h old new off wd carries enters (going a goes) (still_unbegun old new edt stays unbegun);
       shown = shown_taken table program new edt work taken enters.sees;
     }
 

@@ -1,11 +1,12 @@
 // A round of an EDT that was claimed: at the block that it acquires next, or at its face.
-ghost use Rattle.std.specs.Prelude.{◌≡◌, ◌+◌, [], ◌∷◌, true, None, IfOk, OnOk, OnErr};
+ghost use Rattle.std.specs.Prelude.{◌≡◌, ◌≢◌, ◌+◌, [], ◌∷◌, true, None, IfOk, OnOk, OnErr};
 ghost use Rattle.ocr_facts.specs.Ocr.{meaning};
+ghost use Rattle.ocr_parts.specs.Taken.{is_within};
 ghost use Rattle.ocr_rule.specs.Steps.{Sees};
 ghost use Rattle.ocr_rule.specs.Words.{SeesReady};
 ghost use Rattle.ocr_clerks.specs.Work.{AtWork, HasTakenOn, IsGone, IsIdle, KeepsFaces, Stays};
 ghost use Rattle.ocr_parking.specs.Parking.{IsLetWait};
-ghost use Rattle.ocr_waking.specs.Meeting.{HasThree, HoldsCore};
+ghost use Rattle.ocr_waking.specs.Meeting.{CanAct, HasThree, HoldsCore, IsUnbegun, KnowsThree, WantsNext};
 ghost use Rattle.ocr_waking.specs.Rounds.{GaveFaces, HasFace, HoldsAwake, IsAfter, IsWanted, KnowsFace, PlansNext, lets_wait, name_in, places_of, two_places};
 
 use crate::acting::Act;
@@ -69,13 +70,67 @@ pub(crate) fn block_round<R: Wait, G: Gate>(
 {
     let first = take_two(job, worker, clerk, edt, block)?;
     let payloads = read_three(alloc, job, worker, clerk, edt, block, first)?;
-    let payloads = payloads.as_slice();
-    if let Some(act) = decide(alloc, job, worker, clerk, edt, block, first, payloads)? {
-        carry_out(alloc, job, worker, clerk, edt, block, first, act, payloads)?;
-        if is_wait(act) {
-            park_two(job, clerk, edt, block, first);
-            return Ok(Step::Parked);
-        }
+    let known = payloads.as_slice();
+    meet(alloc, job, worker, clerk, edt, block, first, known)
+}
+
+// The EDT does what the block lets it do, where the block comes next.
+fn meet<R: Wait, G: Gate>(
+    alloc: Global,
+    job: &Job<R, G>,
+    worker: u32,
+    clerk: &mut Clerk<Ocr>,
+    edt: Guid,
+    block: Guid,
+    first: bool,
+    payloads: &[Guid],
+) -> Result<Step, Over>
+    requires work { AtWork job.now.turns.now job.now.program.now clerk.old }
+    requires apart { edt ≢ block }
+    requires block { is_within job.now.turns.now.1.limit block ≡ true }
+    requires knows { KnowsThree job.now.turns.now.1 edt block first payloads.now clerk.old }
+    requires ready { SeesReady meaning clerk.old.view edt }
+    requires wants { WantsNext job.now.turns.now.1 edt block clerk.old }
+    requires unbegun { IsUnbegun clerk.old.view edt }
+    ensures stays { Stays clerk.old clerk.new }
+    ensures work { OnOk result (AtWork job.now.turns.now job.now.program.now clerk.new) }
+    ensures after { IfOk result (λ s. IsAfter job.now.turns.now.1 edt s clerk.old clerk.new) }
+    ensures gone { OnErr result (IsGone job.now.turns.now worker clerk.new) }
+{
+    let Some(act) = decide(alloc, job, worker, clerk, edt, block, first, payloads)? else {
+        give_two(job, clerk, edt, block, first);
+        return Ok(Step::Again);
+    };
+    act_at_block(alloc, job, worker, clerk, edt, block, first, act, payloads)
+}
+
+// Enters what the block lets the EDT do. An EDT that is to wait is parked; else the core alone is
+// kept.
+fn act_at_block<R: Wait, G: Gate>(
+    alloc: Global,
+    job: &Job<R, G>,
+    worker: u32,
+    clerk: &mut Clerk<Ocr>,
+    edt: Guid,
+    block: Guid,
+    first: bool,
+    act: Act,
+    payloads: &[Guid],
+) -> Result<Step, Over>
+    requires work { AtWork job.now.turns.now job.now.program.now clerk.old }
+    requires apart { edt ≢ block }
+    requires block { is_within job.now.turns.now.1.limit block ≡ true }
+    requires can { CanAct job.now.turns.now.1 edt block first payloads.now act clerk.old }
+    requires unbegun { IsUnbegun clerk.old.view edt }
+    ensures stays { Stays clerk.old clerk.new }
+    ensures work { OnOk result (AtWork job.now.turns.now job.now.program.now clerk.new) }
+    ensures after { IfOk result (λ s. IsAfter job.now.turns.now.1 edt s clerk.old clerk.new) }
+    ensures gone { OnErr result (IsGone job.now.turns.now worker clerk.new) }
+{
+    carry_out(alloc, job, worker, clerk, edt, block, first, act, payloads)?;
+    if is_wait(act) {
+        park_two(job, clerk, edt, block, first);
+        return Ok(Step::Parked);
     }
     give_two(job, clerk, edt, block, first);
     Ok(Step::Again)
