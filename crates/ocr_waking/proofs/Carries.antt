@@ -14,9 +14,10 @@ use Rattle.ocr_clerks.specs.Entering.{Hand, OcrKnown}
 use Rattle.ocr_clerks.specs.Work.{KnowsPayloads, ready_with}
 use Rattle.ocr_clerks.proofs.Hands.{number_same}
 use Rattle.ocr_waking.specs.Meeting.{CarriesOut, pair_of}
-use Rattle.ocr_waking.specs.Waking.{IsAble, Meets, PutReady, two_faces}
+use Rattle.ocr_readying.specs.Readying.{PutReady}
+use Rattle.ocr_waking.specs.Waking.{IsAble, Meets, two_faces}
 use Rattle.ocr_waking.specs.declared.acting.Act.{Act}
-use Rattle.ocr_waking.proofs.Putting.{core_same, edt_same}
+use Rattle.ocr_readying.proofs.Putting.{core_same, edt_same}
 use Rattle.ocr_waking.proofs.Taking.{core_found, face_found, item_is}
 
 faces_are : (b : Bool) (t d : ℕ) (x y : Part) (slots : List Slot) (st : block.State) → x ≡ part.Edt slots → y ≡ part.Block st → pair_of b t d x y ≡ two_faces b t d slots st

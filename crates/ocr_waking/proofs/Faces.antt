@@ -36,10 +36,11 @@ use Rattle.ocr_clerks.proofs.Seen.{core_apart, core_is}
 use Rattle.ocr_parking.proofs.Parked.{has_claim}
 use Rattle.ocr_waking.specs.Meeting.{HoldsCore, next_by}
 use Rattle.ocr_waking.specs.Rounds.{GaveFaces, HasFace, HoldsAwake, IsWanted, PlansNext, name_in}
-use Rattle.ocr_waking.specs.Waking.{KeepsFace, Learns, PutReady}
+use Rattle.ocr_readying.specs.Readying.{PutReady}
+use Rattle.ocr_waking.specs.Waking.{KeepsFace, Learns}
 use Rattle.ocr_waking.proofs.Acts.{filled_known}
 use Rattle.ocr_waking.proofs.Awake.{IsReadyIn, early, edt_face, other_object, unstarted_is, none_own}
-use Rattle.ocr_waking.proofs.Putting.{edt_same, item_same}
+use Rattle.ocr_readying.proofs.Putting.{edt_same, item_same}
 use Rattle.ocr_waking.proofs.Holding.{KeepsCore, face_other, holds_given, one_of, shown_taken}
 use Rattle.ocr_waking.proofs.Taking.{learnt_taken, taken_on_still}
 

@@ -16,7 +16,7 @@ use Rattle.ocr_waking.specs.Meeting.{LetsSome, StandsAtNext, mode_at, next_by}
 use Rattle.ocr_waking.specs.Waking.{IsAble, IsLet, LetsAny}
 use Rattle.ocr_waking.specs.declared.acting.Act.{Act}
 use Rattle.ocr_waking.specs.declared.acting.Act.TheVariants as act
-use Rattle.ocr_waking.proofs.Putting.{core_same, edt_same}
+use Rattle.ocr_readying.proofs.Putting.{core_same, edt_same}
 
 -- who may take the block holds it, or it can be granted
 taken_not_refused : (t : ℕ) (m : Mode) (st : block.State) → IsTaken t m st → IsRefused t m st → ⊥

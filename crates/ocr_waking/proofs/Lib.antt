@@ -1,6 +1,5 @@
 pub mod Acts
 pub mod After
-pub mod Asked
 pub mod Awake
 pub mod Can
 pub mod Carries
@@ -10,7 +9,6 @@ pub mod Learning
 pub mod Learnt
 pub mod Letting
 pub mod Parks
-pub mod Putting
 pub mod Standing
 pub mod Taking
 pub mod Three

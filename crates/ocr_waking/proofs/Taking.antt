@@ -27,7 +27,7 @@ use lib.ListN.{get_elem?}
 use Rattle.ocr_clerks.proofs.Hands.{apart_is, number_same}
 use Rattle.ocr_clerks.proofs.Seen.{core_apart}
 use Rattle.ocr_waking.specs.Waking.{KeepsFace, Learns}
-use Rattle.ocr_waking.proofs.Putting.{core_same, edt_same, first_same, item_same}
+use Rattle.ocr_readying.proofs.Putting.{core_same, edt_same, first_same, item_same}
 use Rattle.ocr_waking.proofs.Standing.{face_at, kept_slots, sees_ready, stands_now}
 use Rattle.ocr_clerks.specs.Entering.{OcrKnown}
 use Rattle.ocr_clerks.specs.Work.{HasTakenOn, KnowsPayloads, Took}

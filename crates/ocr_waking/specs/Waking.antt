@@ -1,5 +1,5 @@
 -- How an EDT goes on until it can run.
-use Rattle.std.specs.Prelude.{◌≡◌, ◌≢◌, ◌+◌, ◌++◌, ℕ, List, [], ◌∷◌, Bool, true, false, Option, Some, None, length}
+use Rattle.std.specs.Prelude.{◌≡◌, ◌≢◌, ◌+◌, ◌++◌, ℕ, List, [], ◌∷◌, Bool, true, false, Some, length}
 use mathlib.Core.Option.{some}
 use lib.ListN.{get_elem?}
 use Rattle.ocr_acquire.specs.declared.Mode.{Mode}
@@ -16,7 +16,7 @@ use Rattle.ocr_parts.specs.LegalOn.{IsRefused, IsTaken}
 use Rattle.ocr_parts.specs.Taken.{is_within}
 use Rattle.ocr_slots.specs.declared.Slot.{Slot}
 use Rattle.ocr_standing.specs.Kept.{plan_from}
-use Rattle.ocr_rule.specs.Sums.{as_some, find, keys, replace}
+use Rattle.ocr_rule.specs.Sums.{as_some, keys}
 use Rattle.ocr_clerks.specs.Entering.{Hand, OcrKnown}
 use Rattle.ocr_clerks.specs.Work.{KnowsPayloads, ready_with}
 use Rattle.ocr_waking.specs.declared.acting.Act.{Act}
@@ -81,22 +81,3 @@ pub record Meets (t : OcrTerms) (edt d : ℕ) (a : Act) (payloads places : List 
   pub next : next_in (progress_in (ready_with slots payloads core).edt) ≡ Some (d, mode)
   pub lets : IsLet a edt mode state
   pub able : IsAble a (ready_with slots payloads core)
-
--- the core of an EDT and its face, with so many slots, stand at hand, at two places
-pub record HasBoth (hands : List (ℕ × Option Part)) (place edt count : ℕ) : Type 0 where
-  pub core : Core
-  pub slots : List Slot
-  pub core_there : find place hands ≡ Some (Some (part.Core core))
-  pub face_there : find edt hands ≡ Some (Some (part.Edt slots))
-  pub apart : edt ≢ place
-  pub count_is : count ≡ length slots
-
--- the core was made ready with the plan that the face tells
-pub record PutReady (old new : List (ℕ × Option Part)) (place edt : ℕ) (payloads : List ℕ)
-    : Type 0 where
-  pub core : Core
-  pub slots : List Slot
-  pub core_there : find place old ≡ Some (Some (part.Core core))
-  pub face_there : find edt old ≡ Some (Some (part.Edt slots))
-  pub ready : new ≡ replace place (Some (part.Core (ready_with slots payloads core)))
-      (replace place None old)

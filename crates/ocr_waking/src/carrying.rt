@@ -7,9 +7,9 @@ ghost use Rattle.ocr_waking.specs.Meeting.{CarriesOut};
 ghost use Rattle.ocr_waking.specs.Waking.{entry_by};
 
 use crate::acting::{Act, go_on};
-use crate::planning::put_ready;
 use ocr_clerks::{Gate, Job, Ocr, Over, close_memory};
 use ocr_guid::Guid;
+use ocr_readying::put_ready;
 use ocr_turns::Clerk;
 use std::alloc::Global;
 use std::sync::Wait;

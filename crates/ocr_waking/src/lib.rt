@@ -5,14 +5,11 @@
 mod acting;
 mod carrying;
 mod meeting;
-mod planning;
 mod reading;
-mod readying;
 mod rounds;
 mod waking;
 
 pub use acting::{Act, act_on, go_on};
 pub use carrying::carry_out;
 pub use reading::read_payloads;
-pub use readying::ready_core;
 pub use waking::{Woken, wake};

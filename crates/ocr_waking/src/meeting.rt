@@ -9,13 +9,13 @@ ghost use Rattle.ocr_waking.specs.Meeting.{CanAct, HasThree, KnowsThree, MayAct,
 ghost use Rattle.ocr_waking.specs.Waking.{Learns};
 
 use crate::acting::{Act, act_on};
-use crate::planning::next_with;
 use crate::reading::read_payloads;
 use ocr_acquire::Mode;
 use ocr_base::NoMemory;
 use ocr_clerks::{Gate, Job, Ocr, Over, close_memory};
 use ocr_guid::Guid;
 use ocr_parts::Part;
+use ocr_readying::next_with;
 use ocr_turns::Clerk;
 use std::alloc::Global;
 use std::sync::Wait;

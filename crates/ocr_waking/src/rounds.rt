@@ -12,7 +12,6 @@ ghost use Rattle.ocr_waking.specs.Rounds.{GaveFaces, HasFace, HoldsAwake, IsAfte
 use crate::acting::Act;
 use crate::carrying::carry_out;
 use crate::meeting::{decide, read_three};
-use crate::planning::{next_with, put_ready};
 use crate::reading::read_payloads;
 use crate::waking::Step;
 use ocr_acquire::Mode;
@@ -20,6 +19,7 @@ use ocr_clerks::{Gate, Job, Ocr, Over, close_memory, give_faces, take_part};
 use ocr_guid::Guid;
 use ocr_parking::park_edt;
 use ocr_parts::Part;
+use ocr_readying::{next_with, put_ready};
 use ocr_turns::Clerk;
 use std::alloc::Global;
 use std::sync::Wait;

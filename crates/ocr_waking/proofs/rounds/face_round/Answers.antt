@@ -2,7 +2,7 @@ use Rattle.std.proofs.Common.{◌≡◌, ◌+◌, ◌∙◌, ◌∷◌, [], ℕ,
 use Rattle.ocr_clerks.specs.Entering.{OcrKnown}
 use Rattle.ocr_clerks.specs.Work.{CanRun, Took}
 use Rattle.ocr_waking.specs.Rounds.{PlansNext}
-use Rattle.ocr_waking.specs.Waking.{PutReady}
+use Rattle.ocr_readying.specs.Readying.{PutReady}
 use Rattle.ocr_waking.proofs.Carries.{ready_at_place}
 use Rattle.ocr_waking.proofs.Faces.{after_wants, can_run, faced}
 use Rattle.ocr_waking.proofs.Holding.{core_can, take_ready}

@@ -5,7 +5,7 @@ use Rattle.ocr_parts.specs.declared.part.Part.TheVariants as part
 use Rattle.ocr_rule.specs.Sums.{find}
 use Rattle.ocr_waking.specs.Rounds.{next_block}
 use Rattle.ocr_waking.proofs.Holding.{awake_or, core_alone, wanted_or}
-use Rattle.ocr_waking.proofs.Putting.{item_same}
+use Rattle.ocr_readying.proofs.Putting.{item_same}
 use Rattle.ocr_waking.proofs.waking.round.Goals as goal
 
 pub part-requires : goal.part-requires

@@ -6,7 +6,7 @@ ghost use Rattle.ocr_parts.specs.Kinds.{next_in, progress_in};
 ghost use Rattle.ocr_parts.specs.declared.part.Part.TheVariants as part;
 ghost use Rattle.ocr_standing.specs.Kept.{plan_from};
 ghost use Rattle.ocr_rule.specs.Contract.{SameRoom};
-ghost use Rattle.ocr_waking.specs.Waking.{HasBoth, PutReady};
+ghost use Rattle.ocr_readying.specs.Readying.{HasBoth, PutReady};
 
 use crate::readying::{asks, ready_core};
 use ocr_acquire::{Mode, plan};
@@ -21,7 +21,7 @@ use std::alloc::Global;
 
 /// The block that an EDT acquires next, once it is ready with the plan of its slots, set to these
 /// payloads.
-pub(crate) fn next_with(
+pub fn next_with(
     alloc: Global,
     edt: &Edt,
     slots: &Slots,
@@ -54,7 +54,7 @@ fn first(members: &[(Guid, Mode)]) -> Option<(Guid, Mode)>
 }
 
 /// Makes the core at hand ready with the plan of the face at hand. For want of memory it is lost.
-pub(crate) fn put_ready(
+pub fn put_ready(
     alloc: Global,
     clerk: &mut Clerk<Ocr>,
     place: u64,

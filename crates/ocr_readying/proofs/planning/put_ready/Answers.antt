@@ -4,8 +4,8 @@ use Rattle.ocr_parts.specs.declared.part.Part.{Part}
 use Rattle.ocr_parts.specs.declared.part.Part.TheVariants as part
 use Rattle.ocr_rule.specs.Sums.{find, replace}
 use Rattle.ocr_clerks.specs.Work.{ready_with}
-use Rattle.ocr_waking.proofs.Putting.{edt_same, find_other, find_replaced, item_same, long_replaced}
-use Rattle.ocr_waking.proofs.planning.put_ready.Goals as goal
+use Rattle.ocr_readying.proofs.Putting.{edt_same, find_other, find_replaced, item_same, long_replaced}
+use Rattle.ocr_readying.proofs.planning.put_ready.Goals as goal
 
 pub part-requires : goal.part-requires
 part-requires c =
