@@ -239,8 +239,7 @@ has_waited t edt d h old new last enters view = record {
 -- after others too
 pub after_stays : (t : OcrTerms) (edt : ℕ) (s : Step) (a b c : OcrKnown) → Stays a b → IsAfter t edt s b c → IsAfter t edt s a c
 after_stays t edt (step.Ready payloads) a b c stays after = after
-after_stays t edt (step.Wants d) a b c stays after = after
-after_stays t edt step.Again a b c stays after = after
+after_stays t edt (step.Next wanted) a b c stays after = after
 after_stays t edt step.Parked a b c stays after = (after.0, waited_after a b c edt stays after.1)
 
 pub after_ok : {E : Type 0} (t : OcrTerms) (edt : ℕ) (r : Result Step E) (a b c : OcrKnown) → Stays a b → IfOk r (λ s. IsAfter t edt s b c) → IfOk r (λ s. IsAfter t edt s a c)

@@ -111,8 +111,7 @@ pub record HasWaited (old new : OcrKnown) (edt : ℕ) : Type 0 where
 -- WHAT A ROUND LEAVES
 abbrev pub IsAfter : OcrTerms → ℕ → Step → OcrKnown → OcrKnown → Type 0
 IsAfter t edt (step.Ready payloads) old new = CanRun t edt payloads.items new
-IsAfter t edt (step.Wants block) old new = HoldsCore t edt new × IsWanted t edt block new
-IsAfter t edt step.Again old new = HoldsCore t edt new
+IsAfter t edt (step.Next wanted) old new = HoldsCore t edt new × IsWantedIf t edt wanted new
 IsAfter t edt step.Parked old new = IsIdle new × HasWaited old new edt
 
 -- and all of them

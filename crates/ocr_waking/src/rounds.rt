@@ -99,7 +99,7 @@ fn meet<R: Wait, G: Gate>(
 {
     let Some(act) = decide(alloc, job, worker, clerk, edt, block, first, payloads)? else {
         give_two(job, clerk, edt, block, first);
-        return Ok(Step::Again);
+        return Ok(Step::Next(None));
     };
     act_at_block(alloc, job, worker, clerk, edt, block, first, act, payloads)
 }
@@ -133,7 +133,7 @@ fn act_at_block<R: Wait, G: Gate>(
         return Ok(Step::Parked);
     }
     give_two(job, clerk, edt, block, first);
-    Ok(Step::Again)
+    Ok(Step::Next(None))
 }
 
 // Whether the EDT is to wait.
@@ -214,7 +214,7 @@ pub(crate) fn face_round<R: Wait, G: Gate>(
     let next = plan_next(alloc, job, worker, clerk, edt, known)?;
     if let Some(block) = next {
         give_faces(job.turns, job.program, clerk, edt, &[edt.0]);
-        return Ok(Step::Wants(block));
+        return Ok(Step::Next(Some(block)));
     }
     let place = job.turns.limit() + edt.0;
     let Ok(()) = put_ready(alloc, clerk, place, edt, known) else {

@@ -20,10 +20,8 @@ use std::sync::Wait;
 pub enum Step {
     /// The plan is done, and the EDT may start with these payloads.
     Ready(Vec<Guid>),
-    /// It acquires this block next.
-    Wants(Guid),
-    /// It has the block that it wanted, or found it gone.
-    Again,
+    /// It goes on: at this block, which it acquires next, or where none is told at its face.
+    Next(Option<Guid>),
     /// It waits for a block, and is parked.
     Parked,
 }
@@ -80,8 +78,7 @@ fn rounds<R: Wait, G: Gate>(
         match round(alloc, job, worker, clerk, edt, wanted)? {
             Step::Ready(payloads) => return Ok(Woken::Ready(payloads)),
             Step::Parked => return Ok(Woken::Parked),
-            Step::Wants(block) => wanted = Some(block),
-            Step::Again => wanted = None,
+            Step::Next(next) => wanted = next,
         }
     }
     unreachable!()

@@ -67,4 +67,4 @@ returns-clause-after g c =
     let its = carries t edt d first payloads c.args.act old r.apart r.block r.can in
     let e = c.in_ok-carry_out.ensures in
     let done = done_act table program edt d first payloads c.args.act (hand_of old edt payloads) old c.carry_out.new.clerk r.apart r.block r.unbegun e.stays e.work (sym c.is_wait.ensures ∙ c.if-is_wait.false) its e.entered in
-    holds_given t edt c.carry_out.new.clerk c.give_two.new.clerk done.core done.shown c.give_two.ensures.gave
+    (holds_given t edt c.carry_out.new.clerk c.give_two.new.clerk done.core done.shown c.give_two.ensures.gave, tt)

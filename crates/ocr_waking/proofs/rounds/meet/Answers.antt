@@ -27,4 +27,4 @@ returns-in_default-clause-after g c =
     let edt = c.args.edt in let d = c.args.block in let first = c.args.first in let payloads = c.args.payloads.now in
     let other : WantsOther t edt d first payloads old = if_none (WantsOther t edt d first payloads old) c.in_ok-act.field-0 (λ x is. c.in_default.not-Some x is) c.in_ok-act.ensures.other in
     let done = subst (λ (x : OcrKnown). IsDone t edt d first x) (sym c.in_ok-act.ensures.same) (done_other table c.args.job.now.program.now edt d first payloads old r.block r.unbegun r.work r.ready other) in
-    holds_given t edt c.decide.new.clerk c.give_two.new.clerk done.core done.shown c.give_two.ensures.gave
+    (holds_given t edt c.decide.new.clerk c.give_two.new.clerk done.core done.shown c.give_two.ensures.gave, tt)
