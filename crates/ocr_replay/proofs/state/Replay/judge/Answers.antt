@@ -1,6 +1,8 @@
-use Rattle.std.proofs.Common.{◌≡◌, ℕ, true, arith, rules, subst}
+use Rattle.std.proofs.Common.{◌≡◌, ℕ, true, arith, rules, subst, sym}
 use Rattle.ocr_history.specs.History.{History, Setting}
+use Rattle.ocr_judge.specs.Cases.{IsFitCore}
 use Rattle.ocr_judge.proofs.Nexts.{following_start}
+use Rattle.ocr_parts.specs.declared.part.Core.{Core}
 use Rattle.ocr_table.specs.Table.{IsOf}
 use Rattle.ocr_parts.specs.Calls.{depv_of}
 use Rattle.ocr_parts.specs.Kinds.{is_running}
@@ -17,7 +19,8 @@ pub verdict_on-requires-clause-fresh : goal.verdict_on-requires-clause-fresh
 verdict_on-requires-clause-fresh c = fresh_now c.lasting_laws.ensures.no_own c.requires.started.0 c.args.front.now c.args.place c.args.edt c.args.self.now c.requires.started.1
 
 pub verdict_on-requires-clause-fit : goal.verdict_on-requires-clause-fit
-verdict_on-requires-clause-fit c = fit_started c.holding_laws.ensures.fits c.requires.started.0 c.args.front.now c.args.place c.args.edt c.args.self.now c.in-Some-Core.core c.requires.started.1 (search rules)
+verdict_on-requires-clause-fit c =
+    subst (λ (core : Core). IsFitCore core) (sym c.get.ensures) (fit_started c.holding_laws.ensures.fits c.requires.started.0 c.args.front.now c.args.place c.args.edt c.args.self.now c.in-Some-Core.core c.requires.started.1 (search rules))
 
 pub set_verdict-requires : goal.set_verdict-requires
 set_verdict-requires c = omega (arith, small_started c.args.self.now.table c.args.edt c.requires.running, c.requires.room)
@@ -25,4 +28,4 @@ set_verdict-requires c = omega (arith, small_started c.args.self.now.table c.arg
 pub returns-clause-verdict : goal.returns-clause-verdict
 returns-clause-verdict c = λ s program started.
     judged_now s c.args.front.now c.args.place c.args.edt c.args.self.now c.in-Some-Core.core c.in_ok-deps.deps.items c.in_ok-verdict.verdict c.set_verdict.new.verdicts.items _ started program c.requires.running (search rules)
-    (subst (λ (k : ℕ). (s' : Setting) (past : History) → IsOf s' past c.args.self.now.table → is_running ((parts_of s' past).core k) ≡ true → c.in_ok-deps.deps.items ≡ depv_of s' past k) c.edt.view_is c.in_ok-deps.ensures) (omega (arith, small_started c.args.self.now.table c.args.edt c.requires.running, c.requires.room)) c.set_verdict.ensures (rw c.deref.ensures.value at c.in_ok-verdict.ensures)
+    (subst (λ (k : ℕ). (s' : Setting) (past : History) → IsOf s' past c.args.self.now.table → is_running ((parts_of s' past).core k) ≡ true → c.in_ok-deps.deps.items ≡ depv_of s' past k) c.edt.view_is c.in_ok-deps.ensures) (omega (arith, small_started c.args.self.now.table c.args.edt c.requires.running, c.requires.room)) c.set_verdict.ensures (rw (c.deref.ensures.value, c.get.ensures) at c.in_ok-verdict.ensures)
