@@ -1,13 +1,10 @@
 pub mod Accessed
-pub mod Answered
 pub mod Asked
 pub mod Back
 pub mod Begun
 pub mod Called
 pub mod Calls
-pub mod Coded
 pub mod Cores
-pub mod Drawn
 pub mod Ended
 pub mod Entered
 pub mod Entering
@@ -15,7 +12,6 @@ pub mod Found
 pub mod Kept
 pub mod Loaned
 pub mod Logs
-pub mod Makes
 pub mod Own
 pub mod Parts
 pub mod Places

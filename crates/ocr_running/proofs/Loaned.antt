@@ -3,18 +3,15 @@ use Rattle.std.specs.Prelude.{IfOk}
 use Rattle.std.proofs.Common.{◌≡◌, ℕ, Bool, true, false, ◌==◌, if◌then◌else◌, List, [], ◌∷◌, Option, Some, None, Result, Ok, Err, refl, ap, sym, ◌∙◌, subst}
 use Rattle.ocr_acquire.specs.declared.Mode.{Mode}
 use Rattle.ocr_datablock.specs.Lent.{Loan, after_list_writes, after_store, loan_of}
-use Rattle.ocr_meaning.specs.Holds.{Hold, Holds, private_in, private_of}
-use Rattle.ocr_meaning.specs.declared.call.Call as body
-use Rattle.ocr_meaning.specs.declared.call.Call.TheVariants as call
+use Rattle.ocr_meaning.specs.Holds.{Hold, private_in}
 use Rattle.ocr_parts.specs.declared.loans.Kept.{Kept}
 use Rattle.ocr_parts.specs.declared.part.Core.{Core}
 use Rattle.ocr_parts.specs.declared.part.Part.TheVariants as part
 use Rattle.ocr_parts.specs.Bodies.{hold_in, hold_of, writes_in}
 use Rattle.ocr_parts.specs.Effects.{core_with, settled_core}
-use Rattle.ocr_parts.specs.Legal.{carried}
 use Rattle.ocr_parts.specs.Kinds.{mode_on}
 use Rattle.ocr_parts.specs.Loans.{kept_after, kept_in, loan_after, loan_in, settled_loan, settled_loans, with_loan}
-use Rattle.ocr_running.specs.Loans.{IsListed, core_after, ended_in, is_apart}
+use Rattle.ocr_running.specs.Loans.{IsListed, core_after, is_apart}
 use Rattle.ocr_running.specs.Running.{IsCoreOf}
 use Rattle.ocr_running.specs.Serving.{holds_in}
 
@@ -105,21 +102,6 @@ loans_listed d ls new is = subst (λ (l : List (ℕ × Kept)). IsListed (loan_in
 pub ok_map : {A E : Type 0} (r : Result A E) (P Q : A → Type 0) → IfOk r P → ((a : A) → P a → Q a) → IfOk r Q
 ok_map (Ok a) P Q p go = go a p
 ok_map (Err e) P Q p go = tt
-
--- WHAT A CALL CARRIES
-pub carried_is : (c : body.Call) (done : Bool) (holds : Holds) (d : ℕ) → (if done then ended_in c else None) ≡ Some d → carried done (private_of c holds) ≡ private_in (holds d)
-carried_is (call.DbRelease e) true holds d is = let same : e ≡ d = cc is in ap (λ (n : ℕ). private_in (holds n)) same
-carried_is (call.DbRelease e) false holds d is = cc is
-carried_is (call.DbDestroy e) true holds d is = let same : e ≡ d = cc is in ap (λ (n : ℕ). private_in (holds n)) same
-carried_is (call.DbDestroy e) false holds d is = cc is
-carried_is other true holds d is = cc is
-carried_is other false holds d is = cc is
-
-pub carried_none : (c : body.Call) (done : Bool) (holds : Holds) → (if done then ended_in c else None) ≡ None → carried done (private_of c holds) ≡ []
-carried_none (call.DbRelease e) true holds is = cc is
-carried_none (call.DbDestroy e) true holds is = cc is
-carried_none other true holds is = refl
-carried_none c false holds is = refl
 
 pub listed_settled : (d : ℕ) (core new : Core) → new ≡ core_after after_list_writes d core → settled_core new ≡ settled_core core
 listed_settled d core new is = ap settled_core is ∙ ap (λ (ls : List (ℕ × Kept)). core_with core core.edt ls) (settled_with after_list_writes (λ l. refl) (λ l. refl) d core.loans)

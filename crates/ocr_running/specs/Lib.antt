@@ -1,7 +1,6 @@
 pub mod Accesses
 pub mod Calls
 pub mod Loans
-pub mod Making
 pub mod Running
 pub mod Serving
 pub mod Stops

@@ -3,8 +3,6 @@ use Rattle.std.specs.Prelude.{◌≡◌, ℕ, true, false, Bool, Option, Some, N
 use Rattle.ocr_acquire.specs.declared.Mode.{Mode}
 use Rattle.ocr_datablock.specs.Lent.{Loan}
 use Rattle.ocr_meaning.specs.Holds.{is_isolated}
-use Rattle.ocr_meaning.specs.declared.call.Call as body
-use Rattle.ocr_meaning.specs.declared.call.Call.TheVariants as call
 use Rattle.ocr_parts.specs.declared.part.Core.{Core}
 use Rattle.ocr_parts.specs.Effects.{core_with}
 use Rattle.ocr_parts.specs.Loans.{with_loan}
@@ -22,9 +20,3 @@ is_apart (Some m) = is_isolated m
 abbrev pub IsListed : Option Loan → Type 0
 IsListed None = Unit {0}
 IsListed (Some loan) = loan.listed ≡ true
-
--- the block whose hold a call ends where it is accepted
-abbrev pub ended_in : body.Call → Option ℕ
-ended_in (call.DbRelease d) = Some d
-ended_in (call.DbDestroy d) = Some d
-ended_in other = None

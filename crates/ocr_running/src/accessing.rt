@@ -45,7 +45,7 @@ pub(crate) enum Found {
 }
 
 /// The core at hand of a clerk that keeps it alone.
-pub(crate) fn core_at(clerk: &Clerk<Ocr>, place: u64) -> &Core
+pub fn core_at(clerk: &Clerk<Ocr>, place: u64) -> &Core
     requires { (core : Core) × (clerk.now.parts ≡ (place, Some (part.Core core)) ∷ []) }
     ensures { clerk.now.parts ≡ (place, Some (part.Core result.now)) ∷ [] }
 {

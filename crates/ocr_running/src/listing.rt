@@ -1,24 +1,21 @@
 // The private writes of a hold.
-ghost use Rattle.std.specs.Prelude.{◌≡◌, true, None, if◌then◌else◌, IfOk};
+ghost use Rattle.std.specs.Prelude.{◌≡◌, true, IfOk};
 ghost use Rattle.ocr_acquire.specs.Mode.{mode_in};
 ghost use Rattle.ocr_datablock.specs.Lent.{after_list_writes};
-ghost use Rattle.ocr_meaning.specs.Holds.{is_done, private_in, private_of};
+ghost use Rattle.ocr_meaning.specs.Holds.{private_in};
 ghost use Rattle.ocr_parts.specs.declared.part.Part.TheVariants as part;
 ghost use Rattle.ocr_parts.specs.Bodies.{writes_in};
-ghost use Rattle.ocr_parts.specs.Effects.{settled_core};
 ghost use Rattle.ocr_parts.specs.Kinds.{holds_of, work_in};
-ghost use Rattle.ocr_parts.specs.Legal.{carried};
 ghost use Rattle.ocr_parts.specs.Loans.{kept_in, loan_in};
-ghost use Rattle.ocr_running.specs.Loans.{IsListed, core_after, ended_in, is_apart};
+ghost use Rattle.ocr_running.specs.Loans.{IsListed, core_after, is_apart};
 ghost use Rattle.ocr_running.specs.Serving.{holds_in};
 
 use ocr_acquire::Mode;
 use ocr_base::NoMemory;
 use ocr_datablock::Lent;
 use ocr_edt::Edt;
-use ocr_guid::{Code, Guid};
+use ocr_guid::Guid;
 use ocr_history::Writes;
-use ocr_meaning::Call;
 use ocr_parts::{BoxedCore, Kept, Loans};
 use std::alloc::Global;
 
@@ -77,38 +74,4 @@ fn copied_writes(alloc: Global, loan: &Lent) -> Result<Writes, NoMemory>
         return Err(NoMemory);
     };
     Ok(Writes::from_vec(words))
-}
-
-/// The private writes that a call carries: those of the hold that it ends, where it is accepted.
-/// What the core holds stays the same.
-pub(crate) fn carried_writes(
-    alloc: Global,
-    call: &Call,
-    code: Code,
-    core: &mut BoxedCore,
-) -> Result<Writes, NoMemory>
-    ensures alike { settled_core core.new ≡ settled_core core.old }
-    ensures edt { core.new.edt ≡ core.old.edt }
-    ensures holds { holds_in (part.Core core.new) ≡ holds_in (part.Core core.old) }
-    ensures writes { IfOk result (λ w. w
-        ≡ carried (is_done code) (private_of call.now (holds_in (part.Core core.old)))) }
-{
-    match ended_block(call, code) {
-        None => Ok(Writes::none(alloc)),
-        Some(block) => listed_writes(alloc, core, block),
-    }
-}
-
-// The block whose hold the call ends.
-fn ended_block(call: &Call, code: Code) -> Option<Guid>
-    ensures { result ≡ (if is_done code then ended_in call.now else None) }
-{
-    match code {
-        Code::Done => {}
-        Code::Eperm | Code::Enoent | Code::Ebusy | Code::Einval | Code::Stale => return None,
-    }
-    match call {
-        Call::DbRelease { block } | Call::DbDestroy { block } => Some(Guid(*block)),
-        _ => None,
-    }
 }

@@ -1,5 +1,5 @@
 // The entry of a load or a store of a word that EDTs share, on the face of its block.
-ghost use Rattle.std.specs.Prelude.{◌∷◌, [], ℕ, IfOk, OnOk, OnErr};
+ghost use Rattle.std.specs.Prelude.{◌≡◌, ◌∷◌, [], ℕ, IfOk, OnOk, OnErr};
 ghost use Rattle.ocr_body.specs.Serving.{answer_with};
 ghost use Rattle.ocr_meaning.specs.Behaviour.{IsNextWith};
 ghost use Rattle.ocr_meaning.specs.Body.{Body, says};
@@ -9,13 +9,12 @@ ghost use Rattle.ocr_running.specs.Accesses.{EntersIn, HasWord, IsAccessOf, seco
 ghost use Rattle.ocr_running.specs.Running.{HasLifted, IsCalled, Runs, holds_at};
 ghost use Rattle.ocr_running.specs.Serving.{own_log};
 
-use crate::copying::answer_of;
 use ocr_clerks::{
     Gate, Job, Ocr, Over, close_memory, enter_at_work, give_faces, lift_parts, take_part,
 };
 use ocr_guid::{Code, Guid};
 use ocr_history::{Entry, Writes};
-use ocr_meaning::Call;
+use ocr_meaning::{Answer, Call};
 use ocr_parts::Part;
 use ocr_turns::Clerk;
 use std::alloc::Global;
@@ -80,10 +79,22 @@ pub(crate) fn enter_access<R: Wait, G: Gate>(
         edt,
         home: Guid::NULL,
         call,
-        answer: answer_of(Code::Done, value),
+        answer: answer_with(value),
         writes: Writes::none(alloc),
     };
     enter_at_work(alloc, job, worker, clerk, entry, parts)?;
     give_faces(job.turns, job.program, clerk, edt, &[block.0]);
     Ok(())
+}
+
+// The answer of a load or a store.
+fn answer_with(value: u64) -> Answer
+    ensures { result ≡ answer_with value }
+{
+    Answer {
+        code: Code::Done,
+        value,
+        scope: Guid::NULL,
+        output: Guid::NULL,
+    }
 }

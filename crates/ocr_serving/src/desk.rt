@@ -14,10 +14,11 @@ ghost use Rattle.ocr_serving.specs.Given.{body_given};
 
 use crate::given::Given;
 use ocr_body::Api;
+use ocr_calling::make_call;
 use ocr_clerks::{Gate, Job, Ocr, Over};
 use ocr_guid::Guid;
 use ocr_meaning::{Answer, BodyStop, Call};
-use ocr_running::{Refusal, load, make_call, store};
+use ocr_running::{Refusal, load, store};
 use ocr_steal::Hand;
 use ocr_turns::Clerk;
 use std::alloc::Global;

@@ -9,7 +9,7 @@ enter_at_work-requires g c = λ κs lives.
         lives.1,
         (
           r.0,
-          can_access a.job.now.turns.now a.job.now.program.now a.edt a.block g.s.0 g.s.1 a.clerk.now a.parts.items r.0 r.1.0 r.1.1.0 a.call a.value r.1.1.1.0 r.1.1.1.1 c.answer_of.result c.none.result c.answer_of.ensures c.none.ensures,
+          can_access a.job.now.turns.now a.job.now.program.now a.edt a.block g.s.0 g.s.1 a.clerk.now a.parts.items r.0 r.1.0 r.1.1.0 a.call a.value r.1.1.1.0 r.1.1.1.1 c.answer_with.result c.none.result c.answer_with.ensures c.none.ensures,
         ),
       ),
     )
@@ -17,23 +17,23 @@ enter_at_work-requires g c = λ κs lives.
 pub give_faces-requires-clause-taken : goal.give_faces-requires-clause-taken
 give_faces-requires-clause-taken g c =
     let r = c.requires.1.1 in let a = c.args in
-    access_taken a.job.now.turns.now a.job.now.program.now a.edt a.block g.s.0 g.s.1 a.clerk.now a.parts.items r.0 r.1.0 r.1.1.0 a.call a.value r.1.1.1.0 r.1.1.1.1 c.answer_of.result c.none.result c.answer_of.ensures c.none.ensures
+    access_taken a.job.now.turns.now a.job.now.program.now a.edt a.block g.s.0 g.s.1 a.clerk.now a.parts.items r.0 r.1.0 r.1.1.0 a.call a.value r.1.1.1.0 r.1.1.1.1 c.answer_with.result c.none.result c.answer_with.ensures c.none.ensures
     c.enter_at_work.new.clerk c.in_ok-enter_at_work.ensures.entered
 
 pub give_faces-requires-clause-keeps : goal.give_faces-requires-clause-keeps
 give_faces-requires-clause-keeps g c =
     let r = c.requires.1.1 in let a = c.args in
-    access_keeps a.job.now.turns.now a.job.now.program.now a.edt a.block g.s.0 g.s.1 a.clerk.now a.parts.items r.0 r.1.0 r.1.1.0 a.call a.value r.1.1.1.0 r.1.1.1.1 c.answer_of.result c.none.result c.answer_of.ensures c.none.ensures
+    access_keeps a.job.now.turns.now a.job.now.program.now a.edt a.block g.s.0 g.s.1 a.clerk.now a.parts.items r.0 r.1.0 r.1.1.0 a.call a.value r.1.1.1.0 r.1.1.1.1 c.answer_with.result c.none.result c.answer_with.ensures c.none.ensures
     c.enter_at_work.new.clerk c.in_ok-enter_at_work.ensures.entered c.block.inside.0 c.block.view_is
 
 pub returns-clause-runs : goal.returns-clause-runs
 returns-clause-runs g c =
     let r = c.requires.1.1 in let a = c.args in
-    access_runs a.job.now.turns.now a.job.now.program.now a.edt a.block g.s.0 g.s.1 a.clerk.now a.parts.items r.0 r.1.0 r.1.1.0 a.call a.value r.1.1.1.0 r.1.1.1.1 c.answer_of.result c.none.result c.answer_of.ensures c.none.ensures
+    access_runs a.job.now.turns.now a.job.now.program.now a.edt a.block g.s.0 g.s.1 a.clerk.now a.parts.items r.0 r.1.0 r.1.1.0 a.call a.value r.1.1.1.0 r.1.1.1.1 c.answer_with.result c.none.result c.answer_with.ensures c.none.ensures
     c.enter_at_work.new.clerk c.in_ok-enter_at_work.ensures.entered c.give_faces.new.clerk c.give_faces.ensures.view c.give_faces.ensures.hand
 
 pub returns-clause-called : goal.returns-clause-called
 returns-clause-called g c =
     let r = c.requires.1.1 in let a = c.args in
-    access_called a.job.now.turns.now a.job.now.program.now a.edt a.block g.s.0 g.s.1 a.clerk.now a.parts.items r.0 r.1.0 r.1.1.0 a.call a.value r.1.1.1.0 r.1.1.1.1 c.answer_of.result c.none.result c.answer_of.ensures c.none.ensures
+    access_called a.job.now.turns.now a.job.now.program.now a.edt a.block g.s.0 g.s.1 a.clerk.now a.parts.items r.0 r.1.0 r.1.1.0 a.call a.value r.1.1.1.0 r.1.1.1.1 c.answer_with.result c.none.result c.answer_with.ensures c.none.ensures
     c.enter_at_work.new.clerk c.in_ok-enter_at_work.ensures.entered c.give_faces.new.clerk c.give_faces.ensures.view c.give_faces.ensures.hand

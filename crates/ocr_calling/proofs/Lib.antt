@@ -1,0 +1,5 @@
+pub mod Answered
+pub mod Carried
+pub mod Coded
+pub mod Drawn
+pub mod Makes
