@@ -1,6 +1,22 @@
 use Rattle.ocr_clerks.proofs.Going.{stays_both}
+use Rattle.ocr_waking.proofs.Holding.{still_unbegun, wants_learnt}
 use Rattle.ocr_waking.proofs.Parks.{after_ok}
 use Rattle.ocr_waking.proofs.rounds.block_round.Goals as goal
+
+pub meet-requires-clause-wants : goal.meet-requires-clause-wants
+meet-requires-clause-wants g c = wants_learnt c.args.job.now.turns.now.1 c.args.edt c.args.block c.take_two.new.clerk c.read_three.new.clerk c.in_ok-first.ensures.wants.next c.in_ok-payloads.ensures.learns
+
+pub meet-requires-clause-unbegun : goal.meet-requires-clause-unbegun
+meet-requires-clause-unbegun g c =
+    let start = c.args.clerk.now in let mid = c.read_three.new.clerk in
+    let stays = stays_both start c.take_two.new.clerk mid c.in_ok-first.ensures.stays c.in_ok-payloads.ensures.stays in
+    still_unbegun start mid c.args.edt stays c.requires.holds.unbegun
+
+pub returns-clause-stays : goal.returns-clause-stays
+returns-clause-stays g c =
+    let start = c.args.clerk.now in let mid = c.read_three.new.clerk in
+    let stays = stays_both start c.take_two.new.clerk mid c.in_ok-first.ensures.stays c.in_ok-payloads.ensures.stays in
+    stays_both start mid c.meet.new.clerk stays c.meet.ensures.stays
 
 pub returns-clause-after : goal.returns-clause-after
 returns-clause-after g c =
