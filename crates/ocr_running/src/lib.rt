@@ -1,4 +1,4 @@
-//! The body of a running EDT on the table of turns, but for its calls: its start, its loads and stores, what is settled after an entry, its stops and its end.
+//! The body of a running EDT on the table of turns but for its calls: its start, accesses and end.
 #![tactic(auto)]
 
 mod accessing;
