@@ -17,7 +17,7 @@ use ocr_clerks::Gate;
 use ocr_crew::{Limits, Merged, run};
 use ocr_facts::Setting;
 use ocr_words::{Options, Reports};
-use ocr_writing::output;
+use ocr_writing::output_of;
 use std::alloc::Global;
 use std::sync::Wait;
 use std::thread::Threads;
@@ -102,7 +102,7 @@ fn told(
     let ending = ending_of(alloc, entries.entries())?;
     let line = line_of_ending(alloc, &ending)?;
     let program = setting.program.program();
-    let text = output(alloc, program, setting.args.as_slice(), entries, reports)?;
+    let text = output_of(alloc, program, setting.args.as_slice(), entries, reports)?;
     Ok(Executed {
         journal,
         text,

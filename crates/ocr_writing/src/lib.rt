@@ -3,4 +3,4 @@
 
 mod output;
 
-pub use output::output;
+pub use output::output_of;

@@ -23,7 +23,7 @@ use std::alloc::Global;
 
 /// What a run of this program with these arguments writes that has this journal: the lines of its
 /// prints, in their order, and the texts that are asked for.
-pub fn output(
+pub fn output_of(
     alloc: Global,
     program: &Program,
     args: &[u64],
