@@ -1,3 +1,4 @@
 pub mod Source
 pub mod MemorySource
 pub mod MemorySink
+pub mod Messages

@@ -37,6 +37,11 @@ pub struct WriteStop {
 }
 
 impl fmt::Display for WriteStop {
+    ghost use Rattle.std.specs.Prelude.{◌++◌, Some, codes, decimal};
+
+    ghost output = { λ stop. Some (codes "a write failed after "
+        ++ (decimal stop.sent ++ codes " bytes")) };
+
     fn fmt<W: fmt::Write>(&self, f: &mut fmt::Formatter<W>) -> fmt::Result {
         write!(f, "a write failed after {} bytes", self.sent)
     }

@@ -60,6 +60,11 @@ impl From<AllocError> for ReadStop {
 }
 
 impl fmt::Display for ReadStop {
+    ghost use Rattle.std.specs.Prelude.{Some};
+    ghost use Rattle.ocr_io.specs.Messages.{read_stop_text};
+
+    ghost output = { λ stop. Some (read_stop_text stop) };
+
     fn fmt<W: fmt::Write>(&self, f: &mut fmt::Formatter<W>) -> fmt::Result {
         f.write_str(match self {
             ReadStop::Failed => "a read failed",
