@@ -1,3 +1,4 @@
 pub mod Check
 pub mod Checking
 pub mod Names
+pub mod Messages

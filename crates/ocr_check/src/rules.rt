@@ -25,6 +25,11 @@ pub struct CheckFault {
 }
 
 impl fmt::Display for CheckFault {
+    ghost use Rattle.std.specs.Prelude.{Some};
+    ghost use Rattle.ocr_check.specs.Messages.{fault_text};
+
+    ghost output = { λ fault. Some (fault_text fault) };
+
     fn fmt<W: fmt::Write>(&self, f: &mut fmt::Formatter<W>) -> fmt::Result {
         write!(
             f,
@@ -46,6 +51,10 @@ pub enum CheckStop {
 }
 
 impl fmt::Display for CheckStop {
+    ghost use Rattle.ocr_check.specs.Messages.{stop_text};
+
+    ghost output = { stop_text };
+
     fn fmt<W: fmt::Write>(&self, f: &mut fmt::Formatter<W>) -> fmt::Result {
         match self {
             CheckStop::Fault(fault) => fault.fmt(f),
