@@ -1,4 +1,4 @@
--- What `{}` prints of the rule that a program breaks. What it prints for want of memory is not told.
+-- What `{}` prints of a broken rule. What it prints for want of memory is not told.
 use Rattle.std.specs.Prelude.{ℕ, List, ◌++◌, Option, Some, None, codes, decimal}
 use Rattle.ocr_check.specs.declared.rules.CheckFault.{CheckFault}
 use Rattle.ocr_check.specs.declared.rules.CheckStop.{CheckStop}
