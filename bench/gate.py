@@ -2,8 +2,9 @@
 """Runs the merge gate, `rt ci`, and tells what it cost: processor minutes of each crate's proofs, edits and tests.
 
 A sampler reads /proc twice a second. The processor time of a process is what it had when it was last seen, so at most
-half a second of each is missed. A check that tries an edit is told from the others by the folder that its kept work
-stands in, and one of tests by its flag. What is not a check (linking, the programs, the tests themselves) is 'other'.
+half a second of each is missed. A check that tries an edit is told from the others by the folder that it, or what it
+kept, stands in, and one of tests by its flag. What is not a check (linking, the programs, the tests themselves) is
+'other'.
 
 In any folder:  bench/gate.sh [FILE]     FILE keeps the gate's own output (default: gate.log in the current folder).
 Ends with the gate's status.
@@ -24,14 +25,23 @@ def kind_of(words):
     if "--crate-name" not in words or not {"check", "build"} & set(words[:3]):
         return None
     crate = words[words.index("--crate-name") + 1]
-    if any("rt-edits-" in word for word in words):
+    if any("rt-edits-" in word or "/rt-edit-" in word for word in words):
         return crate, "edits"
     return crate, "tests" if "--test" in words else "proof"
 
 
+def words_of(pid):
+    """The words of a process, and its folder behind them."""
+    try:
+        with open(f"/proc/{pid}/cmdline", "rb") as it:
+            return [*it.read().decode(errors="replace").split("\0"), os.readlink(f"/proc/{pid}/cwd")]
+    except OSError:
+        return None
+
+
 def descendants(of):
     """The processes below one, each by its number and its start, since numbers come again in a long run, with its words
-    and its processor time in seconds."""
+    and its processor time in seconds. One without words (a check's kernel) has those of the process that began it."""
     parent, born, seconds = {}, {}, {}
     for pid in filter(str.isdigit, os.listdir("/proc")):
         try:
@@ -46,12 +56,10 @@ def descendants(of):
         above = pid
         while above in parent and above != of:
             above = parent[above]
-        if above == of and pid != of:
-            try:
-                with open(f"/proc/{pid}/cmdline", "rb") as it:
-                    words = it.read().decode(errors="replace").split("\0")
-            except OSError:
-                continue
+        words = words_of(pid) if above == of and pid != of else None
+        if words and not words[0]:
+            words = words_of(parent[pid])
+        if words:
             yield (pid, born[pid]), words, seconds[pid]
 
 

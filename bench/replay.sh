@@ -1,9 +1,10 @@
 #!/usr/bin/env bash
 # Replays journals that a program may be handed by somebody who means ill, each of a run, and prints for each how many
-# entries it has, the processor's seconds of one replay, those at half the size, the one by the other (2 where time rises
-# with the length), those of a journal of prints of the same length with the same limit of objects, how many times as long
-# the replay takes, and the most memory. Fails where a replay does not end with Ok, takes more than 1 s, or takes more than
-# 2.6 times as long as at half the size, and where journals of blocks, events and scopes take more than 3 times as long as
+# entries it has, the processor's seconds of one replay, those of a journal of prints of the same length with the same limit
+# of objects, how many times as long the replay takes, the most memory, and the instructions of making and replaying the
+# journal by those at half the size (2 where they rise with the length; counted by valgrind, since the time of so short
+# replays rises and falls with the caches). Fails where a replay does not end with Ok, takes more than 1 s, or more than 2.3
+# times the instructions of half the size, and where journals of blocks, events and scopes take more than 3 times as long as
 # prints.
 #
 #   prints      mainEdt prints
@@ -58,26 +59,31 @@ quotient() {
     awk -v a="$1" -v b="$2" 'BEGIN { printf "%.2f", a / (b > 0 ? b : 1) }'
 }
 
+# the instructions of making a case of this size and replaying it once
+instructions() {
+    valgrind --tool=callgrind --callgrind-out-file=/dev/null "$program" "$1" "$2" 1 2 2>&1 >/dev/null |
+        awk '/Collected/ { print $4 }'
+}
+
 # a case of this size: enough replays to be told from the clock's own steps
 measure() {
-    local length limit rounds whole half kept
+    local length limit rounds whole kept growth
     replay "$1" "$2" 1
     length=$entries limit=$objects
     rounds=$((1 + 4000000 / length))
     replay "$1" "$2" "$rounds"
     whole=$seconds kept=$kilobytes
     [ "$outcome" = "Ok(())" ] || complain "$1 $2: not Ok"
-    replay "$1" $(($2 / 2)) $((2 * rounds))
-    half=$seconds
     replay prints $((length - 5)) "$rounds" "$limit"
-    printf '%-10s %7d %8d %8.3f %8.3f %6s %8.3f %6s %6d\n' "$1" "$2" "$length" "$whole" "$half" \
-        "$(quotient "$whole" "$half")" "$seconds" "$(quotient "$whole" "$seconds")" $((kept / 1024))
+    growth=$(quotient "$(instructions "$1" "$2")" "$(instructions "$1" $(($2 / 2)))")
+    printf '%-10s %7d %8d %8.3f %8.3f %6s %6d %6s\n' "$1" "$2" "$length" "$whole" "$seconds" \
+        "$(quotient "$whole" "$seconds")" $((kept / 1024)) "$growth"
     ! passes "$whole" 1 1 || complain "more than 1 s"
-    ! passes "$whole" "$half" 2.6 || complain "longer than its length"
+    ! passes "$growth" 1 2.3 || complain "longer than its length"
     [ "$1" != groups ] || ! passes "$whole" "$seconds" 3 || complain "more than 3 times as long as prints"
 }
 
-printf '%-10s %7s %8s %8s %8s %6s %8s %6s %6s\n' case size entries seconds half growth prints times MB
+printf '%-10s %7s %8s %8s %8s %6s %6s %6s\n' case size entries seconds prints times MB growth
 measure prints 200000
 measure turns 25000
 measure fan 4000
