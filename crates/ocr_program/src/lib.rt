@@ -2,6 +2,7 @@
 #![tactic(auto)]
 
 mod expressions;
+mod limits;
 mod lists;
 mod parsing;
 mod steps;

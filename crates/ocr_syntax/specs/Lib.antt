@@ -2,5 +2,4 @@ pub mod Joined
 pub mod Machine
 pub mod Fitting
 pub mod View
-pub mod Counting
 pub mod Marks

@@ -5,7 +5,6 @@
 mod calls;
 mod folding;
 mod invoking;
-mod limits;
 mod statements;
 mod states;
 mod wanted;
@@ -15,7 +14,6 @@ pub use calls::{
     with_name, with_value,
 };
 pub use folding::fold;
-pub use limits::{Tally, is_over, tally_after};
 pub use statements::{
     after_call, at_brace, at_expression_end, at_statement, first_operand, may_else,
 };

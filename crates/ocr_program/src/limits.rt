@@ -1,7 +1,7 @@
 // Counts the tokens of an outermost expression, and the blocks that are open.
 ghost use Rattle.std.specs.Prelude.{◌≡◌, ◌<◌, false};
 ghost use Rattle.ocr_grammar.specs.Limits as limits;
-ghost use Rattle.ocr_syntax.specs.Counting.{tally_of};
+ghost use Rattle.ocr_program.specs.Counting.{tally_of};
 
 use ocr_grammar::{Lexeme, MOST_BLOCKS, MOST_TOKENS, Word};
 
