@@ -1,2 +1,2 @@
 pub mod Numbering
-mod Ordering
+mod Taking

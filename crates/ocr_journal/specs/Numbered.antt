@@ -1,5 +1,5 @@
 -- Entries that stand in several logs, each with its number.
-use Rattle.std.specs.Prelude.{◌≡◌, ℕ, ◌<◌, List, length, Option, Some}
+use Rattle.std.specs.Prelude.{◌≡◌, ℕ, ◌-◌, List, length}
 use mathlib.Core.Option.{some}
 use lib.ListN.{get_elem?}
 use Rattle.ocr_rule.specs.Rule.{LogsOf}
@@ -11,19 +11,11 @@ module _ {E : Type 0} where
     pub of : LogsOf list logs
     pub once : (f : ℕ → ℕ) → weigh_all f logs ≡ below f (length list)
 
-  -- each entry of the log stands at its number
-  abbrev pub IsInOrder : List (ℕ × E) → Type 0
-  IsInOrder log = (k n : ℕ) (e : E) → get_elem? log k ≡ some (n, e) → n ≡ k
+  -- the log's last entry has this number
+  abbrev pub EndsAt : ℕ → List (ℕ × E) → Type 0
+  EndsAt number log = (e : E) × (get_elem? log (length log - 1) ≡ some (number, e))
 
-  -- the numbers of the log are below this one
-  abbrev pub IsBelow : ℕ → List (ℕ × E) → Type 0
-  IsBelow count log = (k n : ℕ) (e : E) → get_elem? log k ≡ some (n, e) → n < count
-
-  -- something stands in each slot
-  abbrev pub AreFull : List (Option E) → Type 0
-  AreFull slots = (k : ℕ) (slot : Option E) → get_elem? slots k ≡ some slot
-      → (e : E) × (slot ≡ Some e)
-
-  abbrev pub AllBelow : ℕ → List (List (ℕ × E)) → Type 0
-  AllBelow count logs = (j : ℕ) (log : List (ℕ × E)) → get_elem? logs j ≡ some log
-      → IsBelow count log
+  -- one of the logs ends with this number
+  abbrev pub HasEnd : ℕ → List (List (ℕ × E)) → Type 0
+  HasEnd number logs = (j : ℕ) × (log : List (ℕ × E)) × (get_elem? logs j ≡ some log)
+      × EndsAt number log

@@ -5,7 +5,6 @@ mod calls;
 mod entries;
 mod merged;
 mod numbered;
-mod ordered;
 mod text;
 mod words;
 
