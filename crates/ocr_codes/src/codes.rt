@@ -370,10 +370,10 @@ fn satisfy_code(faces: &Faces, event: u64, slot: u64, payload: Guid) -> Code
 {
     match faces.face(event) {
         Some(Part::Event(event)) => {
-            if slot > most_slot(event) {
+            if slot > most_slot(event.get()) {
                 Code::Einval
             } else {
-                code_or(event.refusal(payload))
+                code_or(event.get().refusal(payload))
             }
         }
         None | Some(Part::Vacant) | Some(Part::Core(_)) | Some(Part::Scope(_)) => Code::Einval,
@@ -388,7 +388,7 @@ fn dependence_code(faces: &Faces, source: u64, target: u64, slot: u64, mode: u64
 {
     if let Some(Part::Event(event)) = faces.face(target) {
         let brings_block = source != 0 && faces.is_block(source);
-        return event_link_code(event, slot, brings_block);
+        return event_link_code(event.get(), slot, brings_block);
     }
     if mode > 4 {
         return Code::Einval;

@@ -96,9 +96,9 @@ impl Faces<'_> {
         ensures { result ≡ is_destroyed (faces_of self.now object) }
     {
         match self.face(object) {
-            Some(Part::Block(state)) => state.is_destroyed(),
+            Some(Part::Block(state)) => state.get().is_destroyed(),
             Some(Part::Template(template)) => template.destroyed,
-            Some(Part::Event(event)) => event.is_destroyed(),
+            Some(Part::Event(event)) => event.get().is_destroyed(),
             None | Some(Part::Vacant) | Some(Part::Core(_)) => false,
             Some(Part::Edt(_)) | Some(Part::Scope(_)) => false,
         }
@@ -109,7 +109,7 @@ impl Faces<'_> {
         ensures { result ≡ delivery_code (faces_of self.now event) payload }
     {
         match self.face(event) {
-            Some(Part::Event(event)) => code_or(event.refusal(payload)),
+            Some(Part::Event(event)) => code_or(event.get().refusal(payload)),
             None | Some(Part::Vacant) | Some(Part::Core(_)) | Some(Part::Scope(_)) => Code::Done,
             Some(Part::Edt(_)) | Some(Part::Block(_)) | Some(Part::Template(_)) => Code::Done,
         }
@@ -120,7 +120,7 @@ impl Faces<'_> {
         ensures { (result ≡ true) ↔ IsSatisfiable slot (faces_of self.now event) }
     {
         match self.face(event) {
-            Some(Part::Event(event)) => slot <= most_slot(event),
+            Some(Part::Event(event)) => slot <= most_slot(event.get()),
             None | Some(Part::Vacant) | Some(Part::Core(_)) | Some(Part::Scope(_)) => false,
             Some(Part::Edt(_)) | Some(Part::Block(_)) | Some(Part::Template(_)) => false,
         }
@@ -152,7 +152,7 @@ impl Faces<'_> {
         ensures { result ≡ is_held_by (faces_of self.now object) edt }
     {
         match self.face(object) {
-            Some(Part::Block(state)) => state.mode_of(edt).is_some(),
+            Some(Part::Block(state)) => state.get().mode_of(edt).is_some(),
             None | Some(Part::Vacant) | Some(Part::Core(_)) | Some(Part::Scope(_)) => false,
             Some(Part::Edt(_)) | Some(Part::Template(_)) | Some(Part::Event(_)) => false,
         }

@@ -13,11 +13,11 @@ ghost use Rattle.ocr_hand.specs.AtHand.{state, Becomes, IsReturning, IsDoomable}
 use crate::scopes::sent_by_end;
 use crate::taken::Taken;
 use ocr_base::NoMemory;
-use ocr_datablock::{Block, Lent};
+use ocr_datablock::Lent;
 use ocr_edt::{Edt, Identity};
 use ocr_guid::Guid;
 use ocr_history::{What, Writes};
-use ocr_parts::{Kept, Part};
+use ocr_parts::{BoxedBlock, Kept, Part};
 use std::alloc::Global;
 
 /// The EDT's hold of the block ends; gives who is resumed.
@@ -85,7 +85,7 @@ fn release_at(
 }
 
 /// A loan comes back with the private writes of an entry, where there is one.
-fn give_back(state: &mut Block, edt: u64, lent: Option<Lent>, writes: &Writes)
+fn give_back(state: &mut BoxedBlock, edt: u64, lent: Option<Lent>, writes: &Writes)
     requires { IsLoanBack edt lent state.old }
     ensures state { state.new ≡ returned writes.now lent state.old }
     ensures none { is_number edt state.new.borrower ≡ false }

@@ -57,7 +57,7 @@ pub fn satisfy_at(
         ≡ satisfied ((state parts.old).face event) slot payload) }
 {
     let mut state = parts.take_event(event);
-    let carried = carried_by(&state, payload);
+    let carried = carried_by(state.get(), payload);
     let answer = state.satisfy(alloc, slot as u32, Guid(payload))?;
     parts.put_face(event, Part::Event(state));
     set_off(alloc, carried, answer)

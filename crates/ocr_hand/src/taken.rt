@@ -5,11 +5,9 @@ ghost use Rattle.ocr_parts.specs.Taken.{look, put};
 ghost use Rattle.ocr_parts.specs.declared.part.Part.TheVariants as part;
 ghost use Rattle.ocr_hand.specs.AtHand.{state, with_part, is_core, items_of, is_whole, numbered, listed, all_of};
 
-use ocr_any_event::AnyEvent;
 use ocr_codes::find;
-use ocr_datablock::Block;
 use ocr_finish::Scope;
-use ocr_parts::{BoxedCore, Part};
+use ocr_parts::{BoxedBlock, BoxedCore, BoxedEvent, Part};
 use ocr_slots::Slots;
 use ocr_template::Template;
 use std::marker::Model;
@@ -133,7 +131,7 @@ impl Taken {
 
     /// Takes a block out.
     #[inline(always)]
-    pub fn take_block(&mut self, block: u64) -> Block
+    pub fn take_block(&mut self, block: u64) -> BoxedBlock
         requires { is_block ((state self.old).face block) ≡ true }
         ensures was { (state self.old).face block ≡ part.Block result }
         ensures left { self.new ≡ with_part self.old block part.Vacant }
@@ -199,7 +197,7 @@ impl Taken {
 
     /// Takes an event out.
     #[inline(always)]
-    pub fn take_event(&mut self, event: u64) -> AnyEvent
+    pub fn take_event(&mut self, event: u64) -> BoxedEvent
         requires { is_event ((state self.old).face event) ≡ true }
         ensures was { (state self.old).face event ≡ part.Event result }
         ensures left { self.new ≡ with_part self.old event part.Vacant }

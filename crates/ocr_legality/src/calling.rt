@@ -52,6 +52,7 @@ pub(crate) fn is_shared(table: &Table, edt: Guid, block: u64, word: u64) -> bool
     let mode = mode_at(table, edt, block);
     match table.face(block) {
         Some(Part::Block(state)) => {
+            let state = state.get();
             word < u64::from(state.words())
                 && same_mode(mode, state.mode_of(edt))
                 && state.borrower().is_none()
@@ -74,6 +75,7 @@ fn is_loaded(table: &Table, edt: Guid, block: u64, word: u64, value: u64) -> boo
     let mode = mode_at(table, edt, block);
     match table.face(block) {
         Some(Part::Block(state)) => {
+            let state = state.get();
             word < u64::from(state.words())
                 && same_mode(mode, state.mode_of(edt))
                 && state.borrower().is_none()

@@ -97,7 +97,7 @@ fn opens(table: &Table, block: u64, mode: Mode) -> bool
     ensures { result ≡ opens (face_on table.now block) mode }
 {
     match table.face(block) {
-        Some(Part::Block(state)) => !is_null(mode) && state.grantable(mode),
+        Some(Part::Block(state)) => !is_null(mode) && state.get().grantable(mode),
         Some(Part::Vacant) => false,
         Some(Part::Core(_)) => false,
         Some(Part::Edt(_)) => false,
@@ -113,7 +113,10 @@ pub(crate) fn shuts(table: &Table, block: u64, mode: Mode) -> bool
     ensures { result ≡ shuts (face_on table.now block) mode }
 {
     match table.face(block) {
-        Some(Part::Block(state)) => { !is_null(mode) && !state.grantable(mode) && !state.is_gone() }
+        Some(Part::Block(state)) => {
+            let state = state.get();
+            !is_null(mode) && !state.grantable(mode) && !state.is_gone()
+        }
         Some(Part::Vacant) => false,
         Some(Part::Core(_)) => false,
         Some(Part::Edt(_)) => false,
@@ -129,7 +132,7 @@ pub(crate) fn is_gone(table: &Table, block: u64) -> bool
     ensures { result ≡ is_gone_on (face_on table.now block) }
 {
     match table.face(block) {
-        Some(Part::Block(state)) => state.is_gone(),
+        Some(Part::Block(state)) => state.get().is_gone(),
         Some(Part::Vacant) => false,
         Some(Part::Core(_)) => false,
         Some(Part::Edt(_)) => false,
@@ -145,7 +148,7 @@ pub(crate) fn is_held(table: &Table, block: u64, edt: Guid) -> bool
     ensures { result ≡ is_held_by (face_on table.now block) edt }
 {
     match table.face(block) {
-        Some(Part::Block(state)) => state.mode_of(edt).is_some(),
+        Some(Part::Block(state)) => state.get().mode_of(edt).is_some(),
         Some(Part::Vacant) => false,
         Some(Part::Core(_)) => false,
         Some(Part::Edt(_)) => false,

@@ -14,7 +14,7 @@ use ocr_datablock::Block;
 use ocr_edt::{Edt, Filling};
 use ocr_guid::Guid;
 use ocr_history::{ARGUMENTS, MAIN_EDT};
-use ocr_parts::{BoxedCore, Core, Loans, Part};
+use ocr_parts::{BoxedBlock, BoxedCore, Core, Loans, Part};
 use ocr_slots::Slots;
 use std::alloc::Global;
 
@@ -35,7 +35,8 @@ pub fn opening(
     ensures placed { IfOk result (λ parts. ArePlaced limit parts.items) }
     ensures keys { IfOk result (λ parts. keys parts.items ≡ 1 ∷ 2 ∷ (limit + 2) ∷ []) }
 {
-    let words = argument_block(alloc, args)?;
+    let block = argument_block(alloc, args)?;
+    let words = BoxedBlock::new(alloc, block)?;
     let slots = main_slots(alloc)?;
     let core = Core {
         function: main,

@@ -126,7 +126,7 @@ fn call_step(
             Ok(only_sent(alloc, messages))
         }
         Call::EventCreate { kind, flags } => {
-            create_event(alloc, parts, *kind, *flags, 0, answer.value);
+            create_event(alloc, parts, *kind, *flags, 0, answer.value)?;
             Ok(nothing(alloc))
         }
         Call::EventCreateParams {
@@ -136,7 +136,7 @@ fn call_step(
             nb_sat: _,
             nb_deps: _,
         } => {
-            create_event(alloc, parts, *kind, *flags, *max_gen, answer.value);
+            create_event(alloc, parts, *kind, *flags, *max_gen, answer.value)?;
             Ok(nothing(alloc))
         }
         Call::EventDestroy { event } => {
@@ -194,7 +194,7 @@ fn store_at(parts: &mut Taken, block: u64, word: u64, value: u64)
         (with_block ((state parts.old).face block) (λ st. after_store st word value))) }
 {
     let mut state = parts.take_block(block);
-    let _words = state.words();
+    let _words = state.get().words();
     state.store(word as u32, value);
     parts.put_face(block, Part::Block(state));
 }

@@ -26,7 +26,7 @@ use ocr_guid::Guid;
 use ocr_hand::{Taken, depend_all};
 use ocr_history::{OUTPUT_FLAGS, OUTPUT_KIND, What};
 use ocr_meaning::Answer;
-use ocr_parts::{BoxedCore, Core, Loans, Part};
+use ocr_parts::{BoxedBlock, BoxedCore, BoxedEvent, Core, Loans, Part};
 use ocr_slots::Slots;
 use ocr_template::{EDT_PARAM_DEF, Template};
 use std::alloc::Global;
@@ -51,7 +51,8 @@ pub(crate) fn create_block(
         edt (on_core ((state parts.old).core edt) (creating_core flags block (length / 8))))) }
 {
     let size = (length / 8) as u32;
-    let state = Block::new(alloc, size, creator(edt, flags))?;
+    let made = Block::new(alloc, size, creator(edt, flags))?;
+    let state = BoxedBlock::new(alloc, made)?;
     let mut core = parts.take_core(edt);
     hold_made(alloc, &mut core, block, flags, size)?;
     parts.put_core(edt, core);
@@ -117,15 +118,17 @@ pub(crate) fn create_event(
     flags: u64,
     most: u64,
     event: u64,
-)
+) -> Result<(), NoMemory>
     requires least { kind ≡ CHANNEL → 1 ≤ most }
     requires most { most ≤ 1024 }
     requires face { HasFace parts.old event }
-    ensures { Becomes parts.old parts.new
-        (with_face (state parts.old) event (part.Event (event_state kind flags most []))) }
+    ensures { IfOk result (λ _. Becomes parts.old parts.new
+        (with_face (state parts.old) event (part.Event (event_state kind flags most [])))) }
 {
-    let made = event_of(alloc, kind, flags, most as u32);
+    let state = event_of(alloc, kind, flags, most as u32);
+    let made = BoxedEvent::new(alloc, state)?;
     parts.put_face(event, Part::Event(made));
+    Ok(())
 }
 
 /// Makes an EDT from a template, with its scope and its output event, by one with this home. Its
@@ -156,29 +159,38 @@ pub(crate) fn make_edt(
         ≡ dep_sends answer.now.value 0 deps.now (state parts.old)) }
 {
     let template = parts.template(template);
-    create_beside(alloc, parts, home, answer);
+    create_beside(alloc, parts, home, answer)?;
     let identity = new_identity(flags, answer, home);
     create_edt(alloc, parts, template, params, depc, deps, identity)?;
     depend_all(alloc, parts, answer.value, deps.as_slice())
 }
 
 /// The output event and the scope of a new EDT, where it has them.
-fn create_beside(alloc: Global, parts: &mut Taken, home: u64, answer: &Answer)
+fn create_beside(
+    alloc: Global,
+    parts: &mut Taken,
+    home: u64,
+    answer: &Answer,
+) -> Result<(), NoMemory>
     requires output { HasNamed parts.old answer.now.output }
     requires scope { HasNamed parts.old answer.now.scope }
-    ensures { Becomes parts.old parts.new (with_beside (state parts.old) home answer.now) }
+    ensures { IfOk result (λ _. Becomes parts.old parts.new
+        (with_beside (state parts.old) home answer.now)) }
 {
-    create_output(alloc, parts, answer.output.0);
+    create_output(alloc, parts, answer.output.0)?;
     create_scope(parts, home, answer);
+    Ok(())
 }
 
-fn create_output(alloc: Global, parts: &mut Taken, output: u64)
+fn create_output(alloc: Global, parts: &mut Taken, output: u64) -> Result<(), NoMemory>
     requires { HasNamed parts.old output }
-    ensures { Becomes parts.old parts.new (with_named (state parts.old) output new_output) }
+    ensures { IfOk result (λ _. Becomes parts.old parts.new
+        (with_named (state parts.old) output new_output)) }
 {
     if output != 0 {
-        create_event(alloc, parts, OUTPUT_KIND, OUTPUT_FLAGS, 0, output);
+        create_event(alloc, parts, OUTPUT_KIND, OUTPUT_FLAGS, 0, output)?;
     }
+    Ok(())
 }
 
 fn create_scope(parts: &mut Taken, home: u64, answer: &Answer)

@@ -12,11 +12,11 @@ ghost use Rattle.ocr_hand.specs.AtHand.{state, Becomes};
 
 use ocr_acquire::Mode;
 use ocr_base::NoMemory;
-use ocr_datablock::{Block, Lent};
+use ocr_datablock::Lent;
 use ocr_edt::{Acquiring, Edt};
 use ocr_guid::Guid;
 use ocr_hand::Taken;
-use ocr_parts::{Kept, Part};
+use ocr_parts::{BoxedBlock, Kept, Part};
 use std::alloc::Global;
 
 /// The EDT acquires the block.
@@ -74,7 +74,7 @@ fn grant_at(
         (words_on ((state parts.old).face block))) }
 {
     let mut state = parts.take_block(block);
-    let size = state.words();
+    let size = state.get().words();
     hold_block(alloc, &mut state, edt, mode)?;
     let loan = lend_block(alloc, &mut state, edt, mode)?;
     parts.put_face(block, Part::Block(state));
@@ -82,14 +82,14 @@ fn grant_at(
 }
 
 /// The EDT holds the block, if it does not already.
-fn hold_block(alloc: Global, state: &mut Block, edt: u64, mode: Mode) -> Result<(), NoMemory>
+fn hold_block(alloc: Global, state: &mut BoxedBlock, edt: u64, mode: Mode) -> Result<(), NoMemory>
     requires { IsTaken edt mode state.old }
     ensures state { IfOk result (λ _. state.new ≡ asked_if edt mode state.old) }
     ensures held { IfOk result (λ _. mode_in edt state.new.holders ≡ Some mode) }
     ensures free { IfOk result (λ _. state.new.borrower ≡ None) }
     ensures words { IfOk result (λ _. state.new.words ≡ state.old.words) }
 {
-    if state.mode_of(Guid(edt)).is_none() {
+    if state.get().mode_of(Guid(edt)).is_none() {
         state.ask(alloc, Guid(edt), mode)?;
     }
     Ok(())
@@ -98,7 +98,7 @@ fn hold_block(alloc: Global, state: &mut Block, edt: u64, mode: Mode) -> Result<
 /// What the EDT has of a block on loan.
 fn lend_block(
     alloc: Global,
-    state: &mut Block,
+    state: &mut BoxedBlock,
     edt: u64,
     mode: Mode,
 ) -> Result<Option<Lent>, NoMemory>

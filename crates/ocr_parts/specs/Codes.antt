@@ -163,8 +163,8 @@ dependence_code brings (part.Event st) i m =
     if nat_lt (slot_most st) i || is_unfit brings st then code.Einval else code.Done
 dependence_code brings target i m = if nat_lt 4 m then code.Einval else link_code target i
 
--- the code of a call that wants objects which are there, of their kinds and not destroyed. Calls
--- that are not built are refused
+-- the code of a call that wants objects which are there, of their kinds and not destroyed. Shutdown
+-- and Abort end the run by a Stop: no entry has them
 abbrev pub number_code : ℕ → (ℕ → Part) → body.Call → Code
 number_code t f (call.Print v) = code.Done
 number_code t f (call.Load d k) = code.Done

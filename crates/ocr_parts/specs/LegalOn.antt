@@ -137,7 +137,7 @@ IsAnswered limit f t (call.EventCreate k fl) a = IsNamed limit f a
 IsAnswered limit f t (call.EventCreateParams k fl most sats deps) a = IsNamed limit f a
 IsAnswered limit f t (call.EventDestroy e) a = a.value ≡ number_of a.code
 IsAnswered limit f t (call.Satisfy e p slot) a = a.value ≡ number_of a.code
--- no other call is built
+-- Shutdown and Abort end the run by a Stop, and are answered nothing
 IsAnswered limit f t other a = ⊥
 
 pub record IsCallOn (limit : ℕ) (f : Parts) (t home : ℕ) (c : body.Call) (a : Answer)

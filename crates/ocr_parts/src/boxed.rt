@@ -1,14 +1,23 @@
-// Cores in boxes of their own.
-ghost use Rattle.std.specs.Prelude.{◌≡◌, OnOk, OnErr, IfOk};
+// Cores, blocks and events in boxes of their own.
+ghost use Rattle.std.specs.Prelude.{◌≡◌, ◌≢◌, ◌≤◌, ◌<◌, ◌-◌, ◌^◌, length, Some, None, is_some, true, false, OnOk, OnErr, IfOk};
+ghost use Rattle.ocr_acquire.specs.Mode.{is_null, mode_in};
+ghost use Rattle.ocr_acquire.specs.declared.Mode.TheVariants.{Const, Ew};
+ghost use Rattle.ocr_any_event.specs.AnyEvent as event;
+ghost use Rattle.ocr_datablock.specs.Steps as block;
+ghost use Rattle.ocr_guid.specs.Target.{on_destroy};
 ghost use Rattle.ocr_parts.specs.Effects.{core_with, dropped_edt, dropping_core, holding_core, holding_edt};
 ghost use Rattle.ocr_parts.specs.Loans.{IsStorable, kept_in, loan_in, settled_loans, with_kept, with_loan};
 ghost use Rattle.ocr_datablock.specs.Lent.{after_list_writes, after_store};
 
 use crate::loans::Kept;
 use crate::part::Core;
+use ocr_acquire::Mode;
+use ocr_any_event::AnyEvent;
 use ocr_base::NoMemory;
+use ocr_datablock::{Asked, Block, Lent};
 use ocr_edt::{Edt, Filling};
-use ocr_guid::Guid;
+use ocr_guid::target::{Linked, Satisfied, Target};
+use ocr_guid::{Code, Guid};
 use std::alloc::Global;
 use std::boxed::Box;
 use std::marker::Model;
@@ -133,5 +142,177 @@ fn drop_hold(edt: &mut Edt, block: Guid)
 {
     if let Edt::Running(running) = edt {
         running.drop_hold(block);
+    }
+}
+
+/// A block in a box of its own, so that a part that is moved is small. Contracts see the block.
+#[derive(Drop)]
+pub struct BoxedBlock {
+    inner: Box<Block>,
+}
+
+impl Model for BoxedBlock {
+    ghost use Rattle.ocr_datablock.specs.Block.{State};
+
+    ghost Value = { State };
+
+    ghost view = { λ b. b.inner.value };
+}
+
+// What a block changes by is told at `Block`.
+impl BoxedBlock {
+    /// The block in a box.
+    pub fn new(alloc: Global, block: Block) -> Result<BoxedBlock, NoMemory>
+        ensures { IfOk result (λ boxed. boxed ≡ block) }
+    {
+        Ok(BoxedBlock {
+            inner: Box::new(alloc, block)?,
+        })
+    }
+
+    /// The block.
+    pub fn get(&self) -> &Block
+        ensures { result.now ≡ self.now }
+    {
+        &self.inner
+    }
+
+    /// Lets an EDT hold the block, or wait for it. After an error the block is as before.
+    pub fn ask(&mut self, alloc: Global, edt: Guid, mode: Mode) -> Result<Asked, NoMemory>
+        requires no_holder { mode_in edt self.old.holders ≡ None }
+        requires not_waiting { mode_in edt self.old.queue ≡ None }
+        requires some_mode { is_null mode ≡ false }
+        ensures answer { IfOk result (λ answer. answer ≡ block.on_ask self.old mode) }
+        ensures state { IfOk result (λ _. self.new ≡ block.after_ask self.old edt mode) }
+        ensures err { OnErr result (self.new ≡ self.old) }
+    {
+        self.inner.ask(alloc, edt, mode)
+    }
+
+    /// Ends a hold. Answers who goes on by that. After an error the block is as before.
+    pub fn release(&mut self, alloc: Global, edt: Guid) -> Result<Vec<Guid>, NoMemory>
+        requires holder { is_some (mode_in edt self.old.holders) ≡ true }
+        requires nothing_lent { self.old.borrower ≢ Some edt }
+        ensures answer { IfOk result (λ resumed. resumed.items ≡ block.on_release self.old edt) }
+        ensures state { IfOk result (λ _. self.new ≡ block.after_release self.old edt) }
+        ensures err { OnErr result (self.new ≡ self.old) }
+    {
+        self.inner.release(alloc, edt)
+    }
+
+    /// Destroys the block, and ends the hold of this EDT, if it has one. Answers who goes on by
+    /// that. After an error the block is as before.
+    pub fn doom(&mut self, alloc: Global, edt: Guid) -> Result<Vec<Guid>, NoMemory>
+        requires not_destroyed { self.old.destroyed ≡ false }
+        requires nothing_lent { self.old.borrower ≢ Some edt }
+        ensures answer { IfOk result (λ resumed. resumed.items ≡ block.on_doom self.old edt) }
+        ensures state { IfOk result (λ _. self.new ≡ block.after_doom self.old edt) }
+        ensures err { OnErr result (self.new ≡ self.old) }
+    {
+        self.inner.doom(alloc, edt)
+    }
+
+    /// Sets a word of the block.
+    pub fn store(&mut self, word: u32, value: u64)
+        requires exists { word < self.old.size }
+        requires nothing_lent { self.old.borrower ≡ None }
+        ensures { self.new ≡ block.after_store self.old word value }
+    {
+        self.inner.store(word, value);
+    }
+
+    /// Lends the words themselves to an EDT that holds the block in `Ew`.
+    pub fn lend(&mut self, edt: Guid) -> Lent
+        requires writer { mode_in edt self.old.holders ≡ Some Ew }
+        requires nothing_lent { self.old.borrower ≡ None }
+        ensures loan { result ≡ block.loan_from self.old Ew }
+        ensures state { self.new ≡ block.after_lend self.old edt }
+    {
+        self.inner.lend(edt)
+    }
+
+    /// Lends a copy of the words to an EDT that holds the block in `Const`.
+    pub fn lend_const(&mut self, alloc: Global, edt: Guid) -> Result<Lent, NoMemory>
+        requires reader { mode_in edt self.old.holders ≡ Some Const }
+        requires nothing_lent { self.old.borrower ≡ None }
+        ensures loan { IfOk result (λ loan. loan ≡ block.loan_from self.old Const) }
+        ensures state { self.new ≡ self.old }
+    {
+        self.inner.lend_const(alloc, edt)
+    }
+
+    /// Takes a loan back, with these writes in place of those that it keeps.
+    pub fn take_back_with(&mut self, edt: Guid, lent: Lent, writes: &[(u32, u64)])
+        requires lent_to { lent.mode ≡ Ew → self.old.borrower ≡ Some edt }
+        requires same_size { lent.mode ≡ Ew → length lent.began ≡ self.old.size }
+        ensures { self.new ≡ block.after_take_back_with self.old lent writes.now }
+    {
+        self.inner.take_back_with(edt, lent, writes);
+    }
+}
+
+/// An event in a box of its own, so that a part that is moved is small. Contracts see the event.
+#[derive(Drop)]
+pub struct BoxedEvent {
+    inner: Box<AnyEvent>,
+}
+
+impl Model for BoxedEvent {
+    ghost use Rattle.ocr_any_event.specs.declared.AnyEvent.{AnyEvent};
+
+    ghost Value = { AnyEvent };
+
+    ghost view = { λ b. b.inner.value };
+}
+
+// What an event changes by is told at `AnyEvent`.
+impl BoxedEvent {
+    /// The event in a box.
+    pub fn new(alloc: Global, event: AnyEvent) -> Result<BoxedEvent, NoMemory>
+        ensures { IfOk result (λ boxed. boxed ≡ event) }
+    {
+        Ok(BoxedEvent {
+            inner: Box::new(alloc, event)?,
+        })
+    }
+
+    /// The event.
+    pub fn get(&self) -> &AnyEvent
+        ensures { result.now ≡ self.now }
+    {
+        &self.inner
+    }
+
+    /// Satisfies the event on this slot. After an error it is as before.
+    pub fn satisfy(
+        &mut self,
+        alloc: Global,
+        slot: u32,
+        payload: Guid,
+    ) -> Result<Satisfied, NoMemory>
+        requires slot { slot ≤ 1 }
+        requires count { event.counted self.old < 2 ^ 64 - 1 }
+        ensures answer { IfOk result (λ r. r ≡ event.on_satisfy self.old slot payload) }
+        ensures state { IfOk result (λ _. self.new ≡ event.after_satisfy self.old slot payload) }
+        ensures err { OnErr result (self.new ≡ self.old) }
+    {
+        self.inner.satisfy(alloc, slot, payload)
+    }
+
+    /// Links a target to the event. After an error it is as before.
+    pub fn link(&mut self, alloc: Global, target: Target) -> Result<Linked, NoMemory>
+        ensures answer { IfOk result (λ r. r ≡ event.on_link self.old) }
+        ensures state { IfOk result (λ _. self.new ≡ event.after_link self.old target) }
+        ensures err { OnErr result (self.new ≡ self.old) }
+    {
+        self.inner.link(alloc, target)
+    }
+
+    /// Destroys the event: what waits gets nothing. A destroyed event is Stale.
+    pub fn destroy(&mut self) -> Code
+        ensures answer { result ≡ on_destroy (event.is_destroyed self.old) }
+        ensures state { self.new ≡ event.after_destroy self.old }
+    {
+        self.inner.destroy()
     }
 }

@@ -8,7 +8,7 @@ mod loans;
 mod many;
 mod part;
 
-pub use boxed::BoxedCore;
+pub use boxed::{BoxedBlock, BoxedCore, BoxedEvent};
 pub use laws::{block_laws, event_laws, machine_laws, run_laws, settled_laws};
 pub use loans::{Kept, Loans};
 pub use part::{Core, Part, Stepped};

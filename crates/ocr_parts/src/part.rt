@@ -1,9 +1,7 @@
 // The parts of the machine's state.
-use crate::boxed::BoxedCore;
+use crate::boxed::{BoxedBlock, BoxedCore, BoxedEvent};
 use crate::loans::Loans;
-use ocr_any_event::AnyEvent;
 use ocr_base::Seq;
-use ocr_datablock::Block;
 use ocr_edt::Edt;
 use ocr_finish::Scope;
 use ocr_guid::Guid;
@@ -28,9 +26,9 @@ pub enum Part {
     Vacant,
     /// The face of an EDT.
     Edt(Slots),
-    Block(Block),
+    Block(BoxedBlock),
     Template(Template),
-    Event(AnyEvent),
+    Event(BoxedEvent),
     Scope(Scope),
     /// The core of an EDT.
     Core(BoxedCore),

@@ -99,6 +99,7 @@ fn shared_word(parts: &[(u64, Part)], word: u64) -> u64
 {
     match &parts[1].1 {
         Part::Block(block) => {
+            let block = block.get();
             let _words = block.words();
             block.load(word as u32)
         }

@@ -13,14 +13,13 @@ ghost use Rattle.ocr_running.specs.Loans.{core_after};
 ghost use Rattle.ocr_running.specs.Running.{IsNewest, IsPushed, held_at, holds_at};
 ghost use Rattle.ocr_serving.specs.Serving.{HasCore, HasReturned, StepsCore};
 
-use crate::given::core_at;
 use ocr_base::NoMemory;
 use ocr_clerks::{Gate, Job, Ocr, Over, close_memory, enter_kept, take_part};
 use ocr_edt::Edt;
 use ocr_guid::Guid;
 use ocr_history::{Entry, Writes};
 use ocr_parts::Part;
-use ocr_running::{end, listed_writes, settle};
+use ocr_running::{core_at, end, listed_writes, settle};
 use ocr_steal::Hand;
 use ocr_turns::Clerk;
 use std::alloc::Global;

@@ -17,7 +17,7 @@ use ocr_clerks::{Gate, Job, Ocr, Over, close_memory};
 use ocr_edt::{Edt, Running};
 use ocr_guid::Guid;
 use ocr_parts::{Core, Part};
-use ocr_running::start;
+use ocr_running::{core_at, start};
 use ocr_slots::Slots;
 use ocr_turns::Clerk;
 use std::alloc::Global;
@@ -91,17 +91,6 @@ fn uses_slot(slots: &Slots, slot: u32) -> bool
     ensures { result ≡ is_used (slot_at slots.now slot) }
 {
     slots.is_linked(slot) && slots.mode(slot) != Mode::Null
-}
-
-/// The core at hand of a clerk that keeps it alone.
-pub(crate) fn core_at(clerk: &Clerk<Ocr>, place: u64) -> &Core
-    requires { (core : Core) × HasCore place core clerk.now }
-    ensures { HasCore place result.now clerk.now }
-{
-    match clerk.part(place) {
-        Part::Core(core) => core.get(),
-        _ => unreachable!(),
-    }
 }
 
 // Forgets what was stored in the loans of the core at hand: the body of its EDT begins.

@@ -13,7 +13,7 @@ use ocr_guid::Guid;
 use ocr_history::Entry;
 use ocr_machine::{home_of, opening};
 use ocr_meaning::Call;
-use ocr_parts::Part;
+use ocr_parts::{BoxedEvent, Part};
 use ocr_table::Table;
 use ocr_template::Template;
 use std::alloc::Global;
@@ -99,7 +99,10 @@ fn parts_at_hand(alloc: Global) -> Result<Vec<(u64, Part)>, Fail> {
 fn more_parts(alloc: Global) -> Result<Vec<(u64, Part)>, Fail> {
     let mut parts = parts_at_hand(alloc)?;
     parts.reserve(2)?;
-    parts.push_reserved((3, Part::Event(event_of(alloc, LATCH, 0, 0))));
+    parts.push_reserved((
+        3,
+        Part::Event(BoxedEvent::new(alloc, event_of(alloc, LATCH, 0, 0))?),
+    ));
     parts.push_reserved((
         4,
         Part::Template(Template {
@@ -159,7 +162,7 @@ fn calls_are_decided(rt: HostRuntime) -> Result<(), Fail> {
 // The number of a part, and the words of a block.
 fn number_and_words((number, part): &(u64, Part)) -> (u64, u32) {
     match part {
-        Part::Block(block) => (*number, block.words()),
+        Part::Block(block) => (*number, block.get().words()),
         _ => (*number, 0),
     }
 }
@@ -178,7 +181,7 @@ fn the_opening_has_three_parts(rt: HostRuntime) -> Result<(), Fail> {
 // A table of the latch, and of a scope whose output event is 4.
 fn table_at_hand(alloc: Global) -> Result<Table, Fail> {
     let mut table = Table::new(alloc, 10)?;
-    let latch = event_of(alloc, LATCH, 0, 0);
+    let latch = BoxedEvent::new(alloc, event_of(alloc, LATCH, 0, 0))?;
     table.give(vec![in alloc; (3, Part::Event(latch))]?);
     let scope = Scope::new(Guid::NULL, Guid(4));
     table.give(vec![in alloc; (5, Part::Scope(scope))]?);

@@ -81,7 +81,7 @@ pub(crate) fn act_at(
     let Part::Block(state) = other else {
         unreachable!()
     };
-    Ok(Some(act_on(state, edt, mode)))
+    Ok(Some(act_on(state.get(), edt, mode)))
 }
 
 // The mode in which the block is wanted, where it comes next.

@@ -19,4 +19,4 @@ returns c =
     (face_then h c.put_core.new.self c.put_face.new.self after c.args.block (part.Block c.in_ok-state.state)
     (core_step h c.take_core-core.new.self c.put_core.new.self t c.take_core-core.result c.hold_made.new.core (creating_core c.args.flags c.args.block size) c.take_core-core.ensures.left c.put_core.ensures c.take_core-core.ensures.was c.in_ok-hold_made.ensures)
     c.put_face.ensures c.requires.face refl)
-    (ap (λ (st : State). with_face after c.args.block (part.Block st)) (rw (c.in_ok-state.ensures, c.creator.ensures) refl))
+    (ap (λ (st : State). with_face after c.args.block (part.Block st)) (rw (c.in_ok-state.ensures, c.in_ok-made.ensures, c.creator.ensures) refl))

@@ -4,7 +4,7 @@ use Rattle.ocr_parts.specs.Effects.{new_output}
 use Rattle.ocr_hand.proofs.Places.{named_made}
 use Rattle.ocr_machine.proofs.making.create_output.Goals as goal
 
-pub returns-then-output-ne0 : goal.returns-then-output-ne0
-returns-then-output-ne0 c =
+pub returns-in_ok-create_event : goal.returns-in_ok-create_event
+returns-in_ok-create_event c =
     let some : (c.args.output == 0) ≡ false = grind (arith, common_steps, c.if-output-ne0.true) in
-    named_made c.args.parts.now c.create_event.new.parts c.args.output new_output some c.create_event.ensures
+    named_made c.args.parts.now c.create_event.new.parts c.args.output new_output some c.in_ok-create_event.ensures

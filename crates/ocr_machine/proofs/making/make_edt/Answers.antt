@@ -12,10 +12,10 @@ use Rattle.ocr_machine.proofs.making.make_edt.Goals as goal
 use Rattle.ocr_machine.proofs.making.make_edt.Goals.{After-depend_all}
 
 pub create_edt-requires-clause-face : goal.create_edt-requires-clause-face
-create_edt-requires-clause-face c = rw c.new_identity-identity.ensures (still_face c.args.parts.now c.create_beside.new.parts _ c.args.answer.now.value c.create_beside.ensures c.requires.room.face)
+create_edt-requires-clause-face c = rw c.new_identity-identity.ensures (still_face c.args.parts.now c.create_beside.new.parts _ c.args.answer.now.value c.in_ok-create_beside.ensures c.requires.room.face)
 
 pub create_edt-requires-clause-core : goal.create_edt-requires-clause-core
-create_edt-requires-clause-core c = rw c.new_identity-identity.ensures (still_core c.args.parts.now c.create_beside.new.parts _ c.args.answer.now.value c.create_beside.ensures c.requires.room.core)
+create_edt-requires-clause-core c = rw c.new_identity-identity.ensures (still_core c.args.parts.now c.create_beside.new.parts _ c.args.answer.now.value c.in_ok-create_beside.ensures c.requires.room.core)
 
 -- the parts of an EDT with this identity, from what stands at the template's number
 abbrev edt_parts : After-depend_all → Part → Identity → Parts → Parts
@@ -29,7 +29,7 @@ made : (c : After-depend_all) → Becomes c.args.parts.now c.create_edt.new.part
 made c =
     let beside : Parts = with_beside (state c.args.parts.now) c.args.home c.args.answer.now in
     into c.args.parts.now c.create_edt.new.parts _ (made_parts c)
-    (follow c.args.parts.now c.create_beside.new.parts c.create_edt.new.parts beside (edt_parts c (part.Template c.template-template.result) c.new_identity-identity.result) c.create_beside.ensures c.in_ok-create_edt.ensures)
+    (follow c.args.parts.now c.create_beside.new.parts c.create_edt.new.parts beside (edt_parts c (part.Template c.template-template.result) c.new_identity-identity.result) c.in_ok-create_beside.ensures c.in_ok-create_edt.ensures)
     (ap (λ (i : Identity). edt_parts c (part.Template c.template-template.result) i beside) c.new_identity-identity.ensures
     ∙ ap (λ (x : Part). edt_parts c x (new_identity c.args.answer.now.value c.args.flags c.args.answer.now c.args.home) beside) (sym c.template-template.ensures))
 

@@ -1,5 +1,6 @@
 use Rattle.std.proofs.Common.{◌∙◌, ap, sym}
 use Rattle.ocr_parts.specs.declared.part.Core.{Core}
+use Rattle.ocr_parts.specs.declared.part.Part.TheVariants as part
 use Rattle.ocr_clerks.specs.Work.{ready_with}
 use Rattle.ocr_waking.specs.Meeting.{next_by}
 use Rattle.ocr_waking.proofs.Letting.{able_of, block_of, lets_next, lets_state, mode_none, mode_there}
@@ -30,7 +31,8 @@ act_on-requires c =
     let a = c.args in let e = c.in-Core-Edt in
     let known = c.in_ok-next.ensures ∙ ap (λ (k : Core). next_by k e.slots a.payloads.now) c.get.ensures in
     let next = sym known ∙ mode_there c.in_ok-next.next a.block c.in-Some.mode (sym c.mode_at.ensures ∙ c.in-Some.is) in
-    let some = lets_state a.core.now a.face.now a.other.now a.edt a.block a.payloads.now c.requires e.core e.slots c.in-Some.mode c.in-Block.state e.is-0 e.is-1 c.in-Block.is next in
+    let there = c.in-Block.is ∙ ap part.Block (sym c.get-2.ensures) in
+    let some = lets_state a.core.now a.face.now a.other.now a.edt a.block a.payloads.now c.requires e.core e.slots c.in-Some.mode c.get-2.result.now e.is-0 e.is-1 there next in
     (some.act, some.lets)
 
 pub returns-clause-act : goal.returns-clause-act
@@ -38,16 +40,17 @@ returns-clause-act c =
     let a = c.args in let e = c.in-Core-Edt in
     let known = c.in_ok-next.ensures ∙ ap (λ (k : Core). next_by k e.slots a.payloads.now) c.get.ensures in
     let next = sym known ∙ mode_there c.in_ok-next.next a.block c.in-Some.mode (sym c.mode_at.ensures ∙ c.in-Some.is) in
-    let some = lets_state a.core.now a.face.now a.other.now a.edt a.block a.payloads.now c.requires e.core e.slots c.in-Some.mode c.in-Block.state e.is-0 e.is-1 c.in-Block.is next in
+    let there = c.in-Block.is ∙ ap part.Block (sym c.get-2.ensures) in
+    let some = lets_state a.core.now a.face.now a.other.now a.edt a.block a.payloads.now c.requires e.core e.slots c.in-Some.mode c.get-2.result.now e.is-0 e.is-1 there next in
     record {
       item = e.core;
       slots = e.slots;
-      state = c.in-Block.state;
+      state = c.get-2.result.now;
       mode = c.in-Some.mode;
       core_is = e.is-0;
       face_is = e.is-1;
-      other_is = c.in-Block.is;
+      other_is = there;
       next = next;
       lets = c.act_on.ensures;
-      able = able_of a.edt c.in-Some.mode (ready_with e.slots a.payloads.now e.core) c.in-Block.state c.act_on.result some c.act_on.ensures;
+      able = able_of a.edt c.in-Some.mode (ready_with e.slots a.payloads.now e.core) c.get-2.result.now c.act_on.result some c.act_on.ensures;
     }
