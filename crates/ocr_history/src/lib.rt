@@ -5,13 +5,11 @@
 mod entry;
 mod journal;
 mod laws;
-mod limits;
 mod objects;
 mod writes;
 
 pub use entry::{Entry, Fault, Message, Stop, What};
 pub use journal::Journal;
 pub use laws::left_law;
-pub use limits::{MOST_OBJECTS, SHARE};
 pub use objects::{ARGUMENTS, MAIN_EDT, OUTPUT_FLAGS, OUTPUT_KIND};
 pub use writes::Writes;

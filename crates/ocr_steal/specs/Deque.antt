@@ -49,8 +49,8 @@ pub record IsFound (port : ℕ) (items : List ℕ) (v : Account) : Type 0 where
   pub state : IsState gone items passes
   pub knows : get_elem? passes port ≡ some v
 
--- xs were the first items of the deque at that step, and left it: the pass keeps them, each with its
--- place among all that was pushed
+-- xs were the first items of the deque at that step, and left it: the pass keeps them, each with
+-- its place among all that was pushed
 pub record TakesFirst (port : ℕ) (v : Account) (xs : List ℕ) (w : Account) : Type 0 where
   pub rest : List ℕ
   pub found : IsFound port (xs ++ rest) v
