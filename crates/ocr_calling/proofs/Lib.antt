@@ -3,3 +3,4 @@ pub mod Carried
 pub mod Coded
 pub mod Drawn
 pub mod Makes
+pub mod Printed

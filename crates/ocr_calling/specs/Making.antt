@@ -1,11 +1,16 @@
 -- The parts at hand while a call of the body is made.
-use Rattle.std.specs.Prelude.{◌≡◌, ◌≤◌, ℕ, List, ◌∷◌, ◌++◌, Bool, true, false, Option, Some, None, Ok}
+use Rattle.std.specs.Prelude.{◌≡◌, ◌≤◌, ℕ, List, [], ◌∷◌, ◌++◌}
+use Rattle.std.specs.Prelude.{Bool, true, false, Option, Some, None, Ok}
 use Rattle.std.specs.List.{All}
+use Rattle.ocr_guid.specs.Code.{number_of}
 use Rattle.ocr_guid.specs.declared.Code.{Code}
+use Rattle.ocr_guid.specs.declared.Code.TheVariants as code
 use Rattle.ocr_meaning.specs.Holds.{is_done}
 use Rattle.ocr_meaning.specs.declared.call.Answer.{Answer}
 use Rattle.ocr_meaning.specs.declared.call.Call as body
 use Rattle.ocr_meaning.specs.declared.call.Call.TheVariants as call
+use Rattle.ocr_history.specs.declared.entry.Entry.{Entry}
+use Rattle.ocr_history.specs.declared.entry.Entry.TheVariants as an
 use Rattle.ocr_parts.specs.declared.part.Core.{Core}
 use Rattle.ocr_parts.specs.declared.part.Part.{Part}
 use Rattle.ocr_parts.specs.declared.part.Part.TheVariants as part
@@ -74,3 +79,10 @@ abbrev pub ended_in : body.Call → Option ℕ
 ended_in (call.DbRelease d) = Some d
 ended_in (call.DbDestroy d) = Some d
 ended_in other = None
+
+-- A PRINT is always accepted, and changes nothing
+abbrev pub print_answer : Answer
+print_answer = record { code = code.Done; value = number_of code.Done; scope = 0; output = 0 }
+
+abbrev pub print_entry : (edt value : ℕ) → Entry
+print_entry edt value = an.Call edt 0 (call.Print value) print_answer []

@@ -8,5 +8,6 @@ mod carrying;
 mod copying;
 mod counting;
 mod making;
+mod printing;
 
 pub use making::make_call;

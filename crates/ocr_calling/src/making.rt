@@ -19,6 +19,7 @@ use crate::asking::{Asked, ask};
 use crate::calling::enter_call;
 use crate::carrying::carried_writes;
 use crate::counting::edt_made;
+use crate::printing::print;
 use ocr_base::NoMemory;
 use ocr_clerks::{Gate, Job, Ocr, Over, close_memory};
 use ocr_guid::{Code, Guid};
@@ -57,7 +58,10 @@ pub fn make_call<R: Wait, G: Gate>(
     ensures hand { IsPushed hand.old hand.new }
     ensures gone { OnErr result (IsGone job.now.turns.now worker clerk.new) }
 {
-    make_from(alloc, job, worker, clerk, hand, edt, call)
+    match call {
+        Call::Print { value } => print(alloc, job, worker, clerk, edt, *value),
+        _ => make_from(alloc, job, worker, clerk, hand, edt, call),
+    }
 }
 
 // The call, with a name for the clerk as it is before.

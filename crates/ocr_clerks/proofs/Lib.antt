@@ -1,3 +1,4 @@
+pub mod AsIs
 pub mod Counters
 pub mod Ending
 pub mod Entries

@@ -37,6 +37,7 @@ use Rattle.ocr_rule.specs.Contract.{IsOf}
 use Rattle.ocr_rule.specs.Rule.{RunsIn}
 use Rattle.ocr_rule.specs.Steps.{Sees, deed, logged}
 use Rattle.ocr_rule.specs.Sums.{as_some, entries, is_among, keys, load_of, replace_all}
+pub use Rattle.ocr_turns.specs.Hand.{at_hand as in_hand}
 use Rattle.ocr_clerks.specs.Drawing.{object_count}
 use Rattle.ocr_clerks.specs.Entering.{Hand, OcrKnown}
 
@@ -151,16 +152,7 @@ pub record HasTakenOn (t : OcrTerms) (edt : ℕ) (c : OcrKnown) : Type 0 where
   pub owes : OwesNoCount c.view
   pub only : RunsOnly c.view edt
 
--- PARTS. Those that stand at hand, of a clerk's list
-abbrev pub with_item : ℕ → Option Part → List (ℕ × Part) → List (ℕ × Part)
-with_item p None ps = ps
-with_item p (Some x) ps = (p, x) ∷ ps
-
-abbrev pub in_hand : List (ℕ × Option Part) → List (ℕ × Part)
-in_hand [] = []
-in_hand (x ∷ rest) = with_item x.0 x.1 (in_hand rest)
-
--- the places of a list whose parts are all lifted
+-- PARTS: the places of a list, all lifted
 abbrev pub lifted : List (ℕ × Option Part) → List (ℕ × Option Part)
 lifted [] = []
 lifted (x ∷ rest) = (x.0, None) ∷ lifted rest

@@ -20,6 +20,9 @@ use ocr_turns::Clerk;
 use std::alloc::Global;
 use std::sync::Wait;
 
+// For how many parts more a vector of lifted parts has room: for those of what a call makes.
+const MADE: usize = 4;
+
 /// Hands out all parts of the clerk, which are those of these places. For want of memory none is
 /// lifted.
 pub fn lift_parts(
@@ -35,7 +38,7 @@ pub fn lift_parts(
     ensures left { OnOk result (clerk.new.parts ≡ lifted clerk.old.parts) }
     ensures err { OnErr result (clerk.new.parts ≡ clerk.old.parts) }
 {
-    let mut parts = Vec::with_capacity(alloc, places.len())?;
+    let mut parts = Vec::with_capacity(alloc, places.len() + MADE)?;
     for place in places {
         parts.push_reserved((*place, clerk.lift(*place)));
     }

@@ -5,6 +5,7 @@
 mod closing;
 mod drawing;
 mod entering;
+mod entering_as_is;
 mod gate;
 mod giving;
 mod job;
@@ -17,6 +18,7 @@ mod taking;
 pub use closing::{close, close_heavy, close_memory};
 pub use drawing::draw_number;
 pub use entering::{enter, enter_at_work};
+pub use entering_as_is::enter_as_is;
 pub use gate::{Gate, NoGate};
 pub use giving::{give_all, give_faces};
 pub use job::Job;

@@ -15,6 +15,10 @@ use ocr_rule::{Change, Committed, Machine, View};
 use std::alloc::Global;
 use std::marker::Brand;
 
+/// For how many entries a log has room, at least, once it takes one. A log that is large from the
+/// start on grows where it stands, since its memory is mapped by itself.
+const LOG_STEP: usize = 1024;
+
 impl<M: Machine> Turns<M> {
     /// Room for one more entry, besides that for an entry that ends the run, and for so many
     /// messages.
@@ -29,7 +33,7 @@ impl<M: Machine> Turns<M> {
         ensures grows { (clerk.old.room ≤ clerk.new.room) × (clerk.old.space ≤ clerk.new.space) }
         ensures room { IfOk result (λ _. (2 ≤ clerk.new.room) × (messages ≤ clerk.new.space)) }
     {
-        clerk.log.reserve(2)?;
+        clerk.log.reserve(LOG_STEP)?;
         clerk.owed.reserve(messages)?;
         Ok(())
     }
@@ -105,8 +109,8 @@ fn put_all<P: Drop>(hand: &mut Hand<P>, parts: Vec<(u64, P)>)
     }
 }
 
-// Owes a message no more.
-fn forget<N: Drop>(owed: &mut Vec<(u64, u32, N)>, delivered: Option<(u64, u32)>)
+/// Owes a message no more.
+pub(crate) fn forget<N: Drop>(owed: &mut Vec<(u64, u32, N)>, delivered: Option<(u64, u32)>)
     requires { mail.Has delivered owed.old.items }
     ensures owed { owed.new.items ≡ mail.without delivered owed.old.items }
     ensures room { (vec_capacity owed.new ≡ vec_capacity owed.old)

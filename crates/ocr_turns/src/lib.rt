@@ -6,6 +6,7 @@ mod clerk;
 mod closing;
 mod ending;
 mod entering;
+mod entering_as_is;
 mod giving;
 mod opening;
 mod seats;

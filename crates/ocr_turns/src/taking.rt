@@ -22,11 +22,15 @@ impl<M: Machine> Turns<M> {
         requires room { 0 < clerk.old.spare }
         ensures { TakeTells M.meaning result clerk.old clerk.new place }
     {
+        // Most turns are free at once, and a loop that may go on for ever costs more to begin.
+        if let Some(answer) = self.attempt(clerk, place) {
+            return answer;
+        }
         for _ in rt.forever() {
+            thread::yield_now();
             if let Some(answer) = self.attempt(clerk, place) {
                 return answer;
             }
-            thread::yield_now();
         }
         unreachable!()
     }
