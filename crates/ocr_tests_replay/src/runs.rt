@@ -4,10 +4,9 @@ ghost use Rattle.std.specs.Prelude.{◌<◌, ◌+◌, ◌^◌, length};
 use crate::edits::add;
 use ocr_code::Checked;
 use ocr_history::Entry;
-use ocr_io::{MemorySink, MemorySource};
 use ocr_replay::{ReplayStop, replay};
-use ocr_run::{Merged, NoGate, ocr_main};
 use ocr_tests_journals::program_of;
+use ocr_tests_run::run_by;
 use std::alloc::Global;
 use std::sync::Wait;
 use std::test::Fail;
@@ -18,24 +17,6 @@ use std::thread::Threads;
 pub struct Recording {
     pub program: Checked,
     pub entries: Vec<Entry>,
-}
-
-// The journal of the program's run by so many workers.
-fn journal_of<R: Threads + Wait + Sync>(
-    rt: &R,
-    alloc: Global,
-    workers: &str,
-    text: &[u8],
-) -> Result<Merged, Fail> {
-    let mut words = Vec::new(alloc);
-    for word in ["run", "--workers", workers] {
-        words.push(word.to_string(alloc)?)?;
-    }
-    let mut source = MemorySource::new(text.to_vec(alloc)?, 4096, Vec::new(alloc));
-    let mut out = MemorySink::new(Vec::with_capacity(alloc, 1000)?, 1000, Vec::new(alloc));
-    let mut err = MemorySink::new(Vec::with_capacity(alloc, 100)?, 100, Vec::new(alloc));
-    let ended = ocr_main(rt, alloc, &words, &mut source, &mut out, &mut err, &NoGate);
-    Ok(ended.journal.ok_or("a journal")?)
 }
 
 /// The program that a text is, with the entries of its run by one worker.
@@ -55,7 +36,8 @@ pub fn recording_by<R: Threads + Wait + Sync>(
     text: &[u8],
 ) -> Result<Recording, Fail> {
     let program = program_of(alloc, text)?;
-    let journal = journal_of(rt, alloc, workers, text)?;
+    let done = run_by(rt, alloc, workers, text)?;
+    let journal = done.ended.journal.ok_or("a journal")?;
     let mut entries = Vec::new(alloc);
     for entry in journal.journal().entries() {
         add(alloc, &mut entries, entry, None)?;

@@ -1,9 +1,13 @@
-// Journals of runs by two and four workers.
+// Journals of runs by one, two and four workers.
 use crate::journals::TREE;
 use crate::outputs::{ADDERS, DESTROYED as FORGOTTEN, GIVEN, TAKEN};
 use crate::runs::{recording_by, verdict};
 use crate::scopes::{FAMILY, INNER, MEMBER, NESTED, SILENT};
+use ocr_tests_run::{CREWS, EXAMPLES, MORE_EXAMPLES};
+use std::alloc::Global;
+use std::sync::Wait;
 use std::test::Fail;
+use std::thread::Threads;
 
 // Two EDTs want the same two blocks in EW, in either order of their slots.
 const BOTH: &[u8] = b"fn both { store(depv[0], 0, load(depv[0], 0) + 1); }
@@ -35,11 +39,44 @@ fn mainEdt {
   ocrDbDestroy(d);
 }";
 
+// Whether the journals of the examples' runs by so many workers are runs.
+fn examples_are_replayed<R: Threads + Wait + Sync>(
+    rt: &R,
+    alloc: Global,
+    workers: &str,
+) -> Result<bool, Fail> {
+    for (text, _, _) in EXAMPLES.into_iter().chain(MORE_EXAMPLES) {
+        let recording = recording_by(rt, alloc, workers, text)?;
+        if verdict(alloc, &recording, &recording.entries).is_err() {
+            return Ok(false);
+        }
+    }
+    Ok(true)
+}
+
+#[test]
+fn runs_of_the_examples_by_one_worker_are_replayed(rt: HostRuntime) -> Result<(), Fail> {
+    assert!(rt; examples_are_replayed(&rt, rt.alloc(), "1")?);
+    Ok(())
+}
+
+#[test]
+fn runs_of_the_examples_by_two_workers_are_replayed(rt: HostRuntime) -> Result<(), Fail> {
+    assert!(rt; examples_are_replayed(&rt, rt.alloc(), "2")?);
+    Ok(())
+}
+
+#[test]
+fn runs_of_the_examples_by_four_workers_are_replayed(rt: HostRuntime) -> Result<(), Fail> {
+    assert!(rt; examples_are_replayed(&rt, rt.alloc(), "4")?);
+    Ok(())
+}
+
 #[test]
 fn runs_by_several_workers_are_replayed(rt: HostRuntime) -> Result<(), Fail> {
     let alloc = rt.alloc();
     for text in [TREE, BOTH, SHARED, DESTROYED] {
-        for workers in ["2", "4"] {
+        for workers in CREWS {
             let recording = recording_by(&rt, alloc, workers, text)?;
             assert_eq!(rt; verdict(alloc, &recording, &recording.entries), Ok(()));
         }
@@ -198,7 +235,7 @@ fn mainEdt {
 fn runs_with_events_are_replayed(rt: HostRuntime) -> Result<(), Fail> {
     let alloc = rt.alloc();
     for text in [FED, COUNTED, PIPELINE, FIBONACCI, STENCIL] {
-        for workers in ["1", "2", "4"] {
+        for workers in CREWS {
             let recording = recording_by(&rt, alloc, workers, text)?;
             assert_eq!(rt; verdict(alloc, &recording, &recording.entries), Ok(()));
         }
@@ -226,7 +263,7 @@ fn mainEdt {
 fn runs_with_output_events_are_replayed(rt: HostRuntime) -> Result<(), Fail> {
     let alloc = rt.alloc();
     for table in [ADDERS, GIVEN, FORGOTTEN, TAKEN] {
-        for workers in ["1", "2", "4"] {
+        for workers in CREWS {
             let recording = recording_by(&rt, alloc, workers, table.text)?;
             assert_eq!(rt; verdict(alloc, &recording, &recording.entries), Ok(()));
         }
@@ -246,7 +283,7 @@ fn runs_with_scopes_are_replayed(rt: HostRuntime) -> Result<(), Fail> {
         FOREST,
     ];
     for text in texts {
-        for workers in ["1", "2", "4"] {
+        for workers in CREWS {
             let recording = recording_by(&rt, alloc, workers, text)?;
             assert_eq!(rt; verdict(alloc, &recording, &recording.entries), Ok(()));
         }

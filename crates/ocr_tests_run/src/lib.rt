@@ -1,11 +1,11 @@
 //! Tests of the top call, which cross crates: words, texts, inputs and outputs.
 #![tactic(auto)]
 
+mod examples;
 mod outcomes;
 
-pub use outcomes::{Faults, NO_FAULTS, Outcome, outcome_at, outcome_of, run};
+pub use examples::{EXAMPLES, Example, MORE_EXAMPLES};
+pub use outcomes::{CREWS, Faults, NO_FAULTS, Outcome, outcome_at, outcome_of, run, run_by};
 
-#[cfg(test)]
-mod examples;
 #[cfg(test)]
 mod runs;

@@ -32,6 +32,9 @@ pub const NO_FAULTS: Faults<'static> = Faults {
     write_most: 1000,
 };
 
+/// The numbers of workers that the tests run programs by.
+pub const CREWS: [&str; 3] = ["1", "2", "4"];
+
 fn words(alloc: Global, texts: &[&str]) -> Result<Vec<String>, Fail> {
     let mut words = Vec::new(alloc);
     for text in texts {
@@ -84,4 +87,15 @@ pub fn run<R: Threads + Wait + Sync>(
     faults: Faults,
 ) -> Result<Outcome, Fail> {
     outcome_of(rt, alloc, &["run"], text.to_vec(alloc)?, 1000, faults)
+}
+
+/// The run of a text by so many workers.
+pub fn run_by<R: Threads + Wait + Sync>(
+    rt: &R,
+    alloc: Global,
+    workers: &str,
+    text: &[u8],
+) -> Result<Outcome, Fail> {
+    let words = ["run", "--workers", workers];
+    outcome_of(rt, alloc, &words, text.to_vec(alloc)?, 1000, NO_FAULTS)
 }

@@ -2,7 +2,7 @@
 ghost use Rattle.std.specs.Prelude.{◌<◌};
 
 use crate::examples::{EXAMPLES, MORE_EXAMPLES};
-use crate::outcomes::{Faults, NO_FAULTS, outcome_of, run};
+use crate::outcomes::{CREWS, Faults, NO_FAULTS, outcome_of, run, run_by};
 use std::alloc::Global;
 use std::sync::Wait;
 use std::test::Fail;
@@ -93,11 +93,13 @@ fn runs_have_their_statuses_and_lines(rt: HostRuntime) -> Result<(), Fail> {
         (TWELVE_BLOCKS, 0, b"11\n0\n1\n", b""),
     ];
     for (text, status, out, err) in rows {
-        let done = run(&rt, rt.alloc(), text, NO_FAULTS)?;
-        assert_eq!(rt; done.ended.status, status);
-        assert_eq!(rt; done.out.bytes(), out);
-        assert_eq!(rt; done.err.bytes(), err);
-        assert!(rt; done.ended.journal.is_some());
+        for workers in CREWS {
+            let done = run_by(&rt, rt.alloc(), workers, text)?;
+            assert_eq!(rt; done.ended.status, status);
+            assert_eq!(rt; done.out.bytes(), out);
+            assert_eq!(rt; done.err.bytes(), err);
+            assert!(rt; done.ended.journal.is_some());
+        }
     }
     Ok(())
 }
@@ -587,11 +589,13 @@ fn texts_that_are_no_program_are_told(rt: HostRuntime) -> Result<(), Fail> {
         ),
     ];
     for (text, err) in rows {
-        let done = run(&rt, rt.alloc(), text, NO_FAULTS)?;
-        assert_eq!(rt; done.ended.status, 3);
-        assert_eq!(rt; done.out.bytes(), b"".as_slice());
-        assert_eq!(rt; done.err.bytes(), err);
-        assert!(rt; done.ended.journal.is_none());
+        for workers in CREWS {
+            let done = run_by(&rt, rt.alloc(), workers, text)?;
+            assert_eq!(rt; done.ended.status, 3);
+            assert_eq!(rt; done.out.bytes(), b"".as_slice());
+            assert_eq!(rt; done.err.bytes(), err);
+            assert!(rt; done.ended.journal.is_none());
+        }
     }
     Ok(())
 }

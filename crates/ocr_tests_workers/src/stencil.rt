@@ -1,7 +1,7 @@
 // A stencil of 64 by 64 cells in 16 tiles: tile i is row i / 4 and column i % 4, and both borders
 // wrap. In each of 10 rounds a cell becomes the sum of itself and its four neighbours.
 use crate::workers::{Row, first_wrong};
-use ocr_tests_run::{Faults, NO_FAULTS, outcome_of};
+use ocr_tests_run::{CREWS, Faults, NO_FAULTS, outcome_of};
 use std::test::Fail;
 
 const STENCIL: &[u8] = b"fn tile {
@@ -77,9 +77,12 @@ fn second_write_of_the_stencil_fails(rt: HostRuntime) -> Result<(), Fail> {
         write_most: 4,
         ..NO_FAULTS
     };
-    let done = outcome_of(&rt, alloc, &["run"], STENCIL.to_vec(alloc)?, 1000, faults)?;
-    assert_eq!(rt; done.ended.status, 8);
-    assert_eq!(rt; done.out.bytes(), b"8190".as_slice());
-    assert_eq!(rt; done.err.bytes(), b"write fault\n".as_slice());
+    for workers in CREWS {
+        let words = ["run", "--workers", workers];
+        let done = outcome_of(&rt, alloc, &words, STENCIL.to_vec(alloc)?, 1000, faults)?;
+        assert_eq!(rt; done.ended.status, 8);
+        assert_eq!(rt; done.out.bytes(), b"8190".as_slice());
+        assert_eq!(rt; done.err.bytes(), b"write fault\n".as_slice());
+    }
     Ok(())
 }

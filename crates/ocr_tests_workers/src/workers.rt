@@ -1,13 +1,10 @@
 // Runs by one, two and four workers.
-use ocr_tests_run::{NO_FAULTS, Outcome, outcome_of};
+use ocr_tests_run::{CREWS, NO_FAULTS, Outcome, outcome_of};
 use std::alloc::Global;
 use std::str;
 use std::sync::Wait;
 use std::test::Fail;
 use std::thread::Threads;
-
-/// How many workers a row is run by.
-const CREWS: [&str; 3] = ["1", "2", "4"];
 
 /// Words after `run --workers N`, and a text, and what comes of them.
 pub struct Row {
