@@ -1,0 +1,52 @@
+#!/usr/bin/env bash
+# How many times faster 4 workers are than one where EDTs do much and share nothing: 200 EDTs of about 900,000 units of fuel
+# each, by the clock, the best of three runs. Fails where they are less than 3.4 times as fast; so it tells something only on
+# an idle machine of at least 4 cores.
+#
+# Build the program first: cd crates/ocr && rt run -- run < stdin, which leaves it as crates/ocr/out/ocr.
+# Then, in any folder: bench/coarse.sh [PROGRAM]
+
+set -euo pipefail
+
+least=3.4
+
+here=$(cd "$(dirname "$0")" && pwd)
+program=${1:-$here/../crates/ocr/out/ocr}
+work=$(mktemp -d)
+trap 'rm -rf "$work"' EXIT
+
+# A turn is 8 units.
+cat >"$work/text" <<END
+fn counts { let i = 0; while i < 112499 { i = i + 1; } }
+fn mainEdt {
+  let t = ocrEdtTemplateCreate(counts, 0, 0);
+  let k = 0;
+  while k < 200 { ocrEdtCreate(t, 0, [], 0, [], 0); k = k + 1; }
+}
+END
+
+# the time of the fastest of three runs by so many workers, in nanoseconds
+best() {
+    local start taken best=0
+    for _ in 1 2 3; do
+        start=$(date +%s%N)
+        "$program" run --workers "$1" <"$work/text" || exit # ends the script where the run does not end well
+        taken=$(($(date +%s%N) - start))
+        if ((best == 0 || taken < best)); then
+            best=$taken
+        fi
+    done
+    echo "$best"
+}
+
+one=$(best 1)
+four=$(best 4)
+times=$(awk -v a="$one" -v b="$four" 'BEGIN { printf "%.2f", a / b }')
+printf '%7s %8s\n' workers seconds
+printf '%7d %8s\n' 1 "$(awk -v n="$one" 'BEGIN { printf "%.3f", n / 1e9 }')" \
+    4 "$(awk -v n="$four" 'BEGIN { printf "%.3f", n / 1e9 }')"
+echo "4 workers are $times times as fast"
+if awk -v t="$times" -v least="$least" 'BEGIN { exit !(t < least) }'; then
+    echo "  less than $least times, on $(nproc) cores"
+    exit 1
+fi
