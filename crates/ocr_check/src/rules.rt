@@ -51,9 +51,10 @@ pub enum CheckStop {
 }
 
 impl fmt::Display for CheckStop {
+    ghost use Rattle.std.specs.Prelude.{Some};
     ghost use Rattle.ocr_check.specs.Messages.{stop_text};
 
-    ghost output = { stop_text };
+    ghost output = { λ stop. Some (stop_text stop) };
 
     fn fmt<W: fmt::Write>(&self, f: &mut fmt::Formatter<W>) -> fmt::Result {
         match self {

@@ -73,6 +73,11 @@ pub enum Code {
 }
 
 impl fmt::Display for Code {
+    ghost use Rattle.std.specs.Prelude.{Some};
+    ghost use Rattle.ocr_guid.specs.Code.{text_of};
+
+    ghost output = { λ code. Some (text_of code) };
+
     fn fmt<W: fmt::Write>(&self, f: &mut fmt::Formatter<W>) -> fmt::Result {
         f.write_str(match self {
             Code::Done => "done",

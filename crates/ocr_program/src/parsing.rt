@@ -10,6 +10,7 @@ ghost use Rattle.ocr_syntax.specs.View.{state_of};
 
 use crate::limits::{Tally, is_over, tally_after};
 use crate::steps::step;
+use ocr_base::NoMemory;
 use ocr_grammar::read_token;
 use ocr_syntax::State;
 use ocr_text::Token;
@@ -27,6 +28,11 @@ pub struct SyntaxFault {
 }
 
 impl fmt::Display for SyntaxFault {
+    ghost use Rattle.std.specs.Prelude.{Some};
+    ghost use Rattle.ocr_program.specs.Messages.{fault_text};
+
+    ghost output = { λ fault. Some (fault_text fault) };
+
     fn fmt<W: fmt::Write>(&self, f: &mut fmt::Formatter<W>) -> fmt::Result {
         write!(f, "no program goes on at byte {}", self.place)
     }
@@ -44,10 +50,15 @@ pub enum ParseStop {
 }
 
 impl fmt::Display for ParseStop {
+    ghost use Rattle.std.specs.Prelude.{Some};
+    ghost use Rattle.ocr_program.specs.Messages.{stop_text};
+
+    ghost output = { λ stop. Some (stop_text stop) };
+
     fn fmt<W: fmt::Write>(&self, f: &mut fmt::Formatter<W>) -> fmt::Result {
         match self {
-            ParseStop::Fault(fault) => write!(f, "{fault}"),
-            ParseStop::NoMemory => write!(f, "out of memory"),
+            ParseStop::Fault(fault) => fault.fmt(f),
+            ParseStop::NoMemory => NoMemory.fmt(f),
         }
     }
 }

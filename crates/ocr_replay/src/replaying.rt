@@ -15,6 +15,8 @@ use ocr_parts::machine_laws;
 use ocr_quiet::standing_laws;
 use ocr_stopping::may_stop;
 use std::alloc::Global;
+use std::error::Error;
+use std::fmt;
 
 /// Where a replay ends before the journal's end.
 #[derive(Clone, Copy, PartialEq, Eq, Debug)]
@@ -24,6 +26,22 @@ pub enum ReplayStop {
     /// Memory was refused.
     NoMemory,
 }
+
+impl fmt::Display for ReplayStop {
+    ghost use Rattle.std.specs.Prelude.{Some};
+    ghost use Rattle.ocr_replay.specs.Messages.{stop_text};
+
+    ghost output = { λ stop. Some (stop_text stop) };
+
+    fn fmt<W: fmt::Write>(&self, f: &mut fmt::Formatter<W>) -> fmt::Result {
+        match self {
+            ReplayStop::Illegal(place) => write!(f, "entry {place} is not legal"),
+            ReplayStop::NoMemory => NoMemory.fmt(f),
+        }
+    }
+}
+
+impl Error for ReplayStop {}
 
 /// The place of the first Stop, or the number of the entries.
 fn first_stop(entries: &[Entry]) -> usize

@@ -2,3 +2,4 @@ pub mod Headline
 pub mod Lines
 pub mod ProgramText
 pub mod Wants
+pub mod Messages

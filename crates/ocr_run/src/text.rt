@@ -14,6 +14,8 @@ use ocr_program::{ParseStop, SyntaxFault, parse};
 use ocr_text::{LexFault, Token, TokensStop, tokens};
 use ocr_tree::Program;
 use std::alloc::Global;
+use std::error::Error;
+use std::fmt;
 
 /// The first thing that is wrong with a text that is no program (docs/SPECIFICATION.md, "The
 /// program").
@@ -26,6 +28,23 @@ pub enum TextFault {
     /// The program breaks a rule.
     Breach(CheckFault),
 }
+
+impl fmt::Display for TextFault {
+    ghost use Rattle.std.specs.Prelude.{Some};
+    ghost use Rattle.ocr_run.specs.Messages.{fault_text};
+
+    ghost output = { λ fault. Some (fault_text fault) };
+
+    fn fmt<W: fmt::Write>(&self, f: &mut fmt::Formatter<W>) -> fmt::Result {
+        match self {
+            TextFault::Lexical(place) => write!(f, "no token begins at byte {place}"),
+            TextFault::Syntax(place) => write!(f, "no program goes on at byte {place}"),
+            TextFault::Breach(fault) => fault.fmt(f),
+        }
+    }
+}
+
+impl Error for TextFault {}
 
 /// Why a text gave no program.
 #[derive(Clone, Copy, PartialEq, Eq, Debug)]

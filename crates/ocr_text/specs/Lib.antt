@@ -3,3 +3,4 @@ pub mod Tokens
 pub mod Laws
 pub mod Scan
 pub mod Texts
+pub mod Messages

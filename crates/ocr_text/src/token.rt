@@ -34,6 +34,11 @@ pub struct LexFault {
 }
 
 impl fmt::Display for LexFault {
+    ghost use Rattle.std.specs.Prelude.{Some};
+    ghost use Rattle.ocr_text.specs.Messages.{fault_text};
+
+    ghost output = { λ fault. Some (fault_text fault) };
+
     fn fmt<W: fmt::Write>(&self, f: &mut fmt::Formatter<W>) -> fmt::Result {
         write!(f, "lex fault at {}", self.place)
     }
@@ -51,6 +56,11 @@ pub enum TokensStop {
 }
 
 impl fmt::Display for TokensStop {
+    ghost use Rattle.std.specs.Prelude.{Some};
+    ghost use Rattle.ocr_text.specs.Messages.{stop_text};
+
+    ghost output = { λ stop. Some (stop_text stop) };
+
     fn fmt<W: fmt::Write>(&self, f: &mut fmt::Formatter<W>) -> fmt::Result {
         match self {
             TokensStop::Fault(fault) => fault.fmt(f),

@@ -3,3 +3,4 @@ pub mod Numerals
 pub mod Wanted
 pub mod Given
 pub mod Reader
+pub mod Messages

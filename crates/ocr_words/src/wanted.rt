@@ -1,6 +1,8 @@
 // What the words of a command line ask for.
 use ocr_base::Seq;
 use std::alloc::{AllocError, AllocFailed};
+use std::error::Error;
+use std::fmt;
 
 /// Which reports are written after a run, in the order of these fields.
 #[derive(Clone, Copy, PartialEq, Eq, Debug)]
@@ -53,6 +55,22 @@ pub enum WordsStop {
     /// Memory was refused.
     NoMemory,
 }
+
+impl fmt::Display for WordsStop {
+    ghost use Rattle.std.specs.Prelude.{Some};
+    ghost use Rattle.ocr_words.specs.Messages.{stop_text};
+
+    ghost output = { λ stop. Some (stop_text stop) };
+
+    fn fmt<W: fmt::Write>(&self, f: &mut fmt::Formatter<W>) -> fmt::Result {
+        f.write_str(match self {
+            WordsStop::Refused => "words refused",
+            WordsStop::NoMemory => "no memory",
+        })
+    }
+}
+
+impl Error for WordsStop {}
 
 impl From<AllocError> for WordsStop {
     ghost use Rattle.std.specs.Prelude.{◌≡◌};
