@@ -69,8 +69,8 @@ abbrev pub are_stmts_in : walker.Frame → List StmtCode → Bool
 are_stmts_in f ss = are_placed (numbers_of f) f.names.now ss
 
 -- the parts of the body, from this state on: an expression, an expression after a unit of fuel, a
--- call, arguments, a call once its arguments are found and once it is known what it comes to, a
--- call that has codes, a load, a store, a statement, statements, and a loop
+-- call, arguments, a list among them, a call once its arguments are found and once it is known what
+-- it comes to, a call that has codes, a load, a store, a statement, statements, and a loop
 abbrev pub expr_part : walker.Frame → ExprCode → Holds → Local → (Value → Behaviour)
 expr_part f e holds l =
     meaning.eval (frame_of f) (expression_at f.names.now e) (state_in f holds l)
@@ -95,6 +95,15 @@ abbrev pub args_part : walker.Frame → ArgCode → found.Given → Holds → Lo
     → ((Given → State → Behaviour) → Behaviour)
 args_part f args g holds l =
     meaning.eval_all (frame_of f) (arguments_at f.names.now args) (given_of g) (state_in f holds l)
+
+abbrev pub list_part : walker.Frame → ArgCode → Holds → Local
+    → ((Given → State → Behaviour) → Behaviour)
+list_part f list holds l =
+    meaning.eval_all
+    (frame_of f)
+    (arguments_at f.names.now list)
+    meaning.nothing_given
+    (state_in f holds l)
 
 abbrev pub made_part : walker.Frame → CallName → ArgCode → found.Given → Holds → Local
     → (Value → Behaviour)

@@ -16,12 +16,12 @@ ghost use Rattle.ocr_plain.specs.Given.{given_of};
 ghost use Rattle.ocr_plain.specs.Local.{Fits, Keeps, state_in};
 ghost use Rattle.ocr_plain.specs.Plain.{is_expr_in};
 ghost use Rattle.ocr_body.specs.Serving.{Begins, BeginsValue, BeginsGiven, IsDone, IsGiven};
-ghost use Rattle.ocr_body.specs.Serving.{StoppedBy};
+ghost use Rattle.ocr_body.specs.Serving.{IsListed, StoppedBy};
 ghost use Rattle.ocr_body.specs.Walker.{next_of, next_after, GoesOn, IsCause, Yields, Leads};
 ghost use Rattle.ocr_body.specs.Walker.{StillFits, is_call_in, are_args_in, is_stmt_in};
 ghost use Rattle.ocr_body.specs.Walker.{are_stmts_in, expr_part, call_part, coded_part, args_part};
 ghost use Rattle.ocr_body.specs.Walker.{paid_part, made_part, way_part, ask_part, load_part};
-ghost use Rattle.ocr_body.specs.Walker.{store_part, stmt_part, stmts_part, loop_part};
+ghost use Rattle.ocr_body.specs.Walker.{list_part, store_part, stmt_part, stmts_part, loop_part};
 
 use crate::api::Api;
 use ocr_base::{NoMemory, Seq};
@@ -314,14 +314,78 @@ fn eval_all<A: Api>(
             eval_all(frame, rest, given, local, api)
         }
         ArgCode::List(list, rest) => {
-            let mut inner = Given::new(frame.alloc);
-            eval_all(frame, list, &mut inner, local, api)?;
-            let Ok(()) = given.add_list(Seq::from_vec(inner.values)) else {
-                return Err(stopped(BodyStop::NoMemory, local))
-            };
+            eval_list(frame, list, given, local, api)?;
             eval_all(frame, rest, given, local, api)
         }
     }
+}
+
+// A list among the arguments. The commonest has no item, and is done in place.
+#[cycle(eval)]
+#[inline(always)]
+fn eval_list<A: Api>(
+    frame: &Frame,
+    list: &ArgCode,
+    given: &mut Given,
+    local: &mut Local,
+    api: &mut A,
+) -> Result<(), Halt>
+    requires ready { A.is_ready api.old }
+    requires fits { Fits frame.now local.old }
+    requires placed { are_args_in frame.now list.now ≡ true }
+    requires begins { BeginsGiven (next_of A.Api api.old)
+        (list_part frame.now list.now (A.holds api.old) local.old) }
+    ensures goes_on { GoesOn A.Api api.old api.new }
+    ensures still_fits { StillFits frame.now local.old local.new }
+    ensures ok { OnOk result (IsListed (next_of A.Api api.old)
+        (list_part frame.now list.now (A.holds api.old) local.old)
+        (given_of given.old) (given_of given.new)
+        (state_in frame.now (A.holds api.new) local.new) (next_after A.Api api.old api.new)) }
+    ensures err { OnErr result (IsCause A.Api api.old api.new local.new.stop) }
+{
+    match list {
+        ArgCode::End => {
+            let Ok(()) = given.add_list(Seq::new(frame.alloc)) else {
+                return Err(stopped(BodyStop::NoMemory, local))
+            };
+            Ok(())
+        }
+        _ => eval_items(frame, list, given, local, api),
+    }
+}
+
+// The items of a list. What they are is kept apart here, so that `eval_all` needs no room for it.
+#[cycle(eval)]
+#[inline(never)]
+fn eval_items<A: Api>(
+    frame: &Frame,
+    list: &ArgCode,
+    given: &mut Given,
+    local: &mut Local,
+    api: &mut A,
+) -> Result<(), Halt>
+    requires ready { A.is_ready api.old }
+    requires fits { Fits frame.now local.old }
+    requires placed { are_args_in frame.now list.now ≡ true }
+    requires begins { BeginsGiven (next_of A.Api api.old)
+        (list_part frame.now list.now (A.holds api.old) local.old) }
+    ensures goes_on { GoesOn A.Api api.old api.new }
+    ensures still_fits { StillFits frame.now local.old local.new }
+    ensures ok { OnOk result (IsListed (next_of A.Api api.old)
+        (list_part frame.now list.now (A.holds api.old) local.old)
+        (given_of given.old) (given_of given.new)
+        (state_in frame.now (A.holds api.new) local.new) (next_after A.Api api.old api.new)) }
+    ensures err { OnErr result (IsCause A.Api api.old api.new local.new.stop) }
+{
+    let mut inner = Given::new(frame.alloc);
+    eval_all(frame, list, &mut inner, local, api)?;
+    let Ok(items) = inner.as_list(frame.alloc) else {
+        return Err(stopped(BodyStop::NoMemory, local))
+    };
+    let Ok(()) = given.add_list(items) else {
+        return Err(stopped(BodyStop::NoMemory, local))
+    };
+    Ok(())
 }
 
 // The value of an expression. The commonest form is done in place.

@@ -59,8 +59,6 @@ pub struct Named {
 
 impl ArgCode {
     /// The first name among the arguments, where one stands.
-    #[cycle(name)]
-    #[tactic(auto, using(crate::proofs::Sides::second_of))]
     pub fn name(&self) -> Option<Named>
         ensures none { IfNone result ((names : List (List ℕ))
             → names_in (arguments_at names self.now) ≡ []) }
@@ -68,10 +66,14 @@ impl ArgCode {
             → are_args_placed numbers names self.now ≡ true
             → IsFirstName numbers names named (names_in (arguments_at names self.now))) }
     {
-        match self {
-            ArgCode::End => None,
-            ArgCode::Value(_, rest) | ArgCode::List(_, rest) => rest.name(),
-            ArgCode::Name(named, _) => Some(*named),
+        let mut args = self;
+        loop {
+            match args {
+                ArgCode::End => return None,
+                ArgCode::Value(_, rest) => args = rest,
+                ArgCode::List(_, rest) => args = rest,
+                ArgCode::Name(named, _) => return Some(*named),
+            }
         }
     }
 }

@@ -1,5 +1,5 @@
 -- What the arguments of a call were found to be, and what the call comes to.
-use Rattle.std.specs.Prelude.{ℕ, List, [], ◌∷◌, Option, None, Some}
+use Rattle.std.specs.Prelude.{ℕ, List, [], ◌∷◌, vec_items, map, Option, None, Some}
 use Rattle.ocr_tree.specs.declared.tree.CallName.{CallName}
 use Rattle.ocr_tree.specs.declared.tree.CallName.TheVariants as name
 use Rattle.ocr_meaning.specs.Behaviour.{Behaviour, Stops}
@@ -13,7 +13,7 @@ use Rattle.ocr_plain.specs.declared.given.Way.TheVariants as way
 
 -- what the walker found the arguments of a call to be
 abbrev pub given_of : found.Given → Given
-given_of g = record { values = g.values.items; lists = g.lists.items }
+given_of g = record { values = g.values.items; lists = map vec_items g.lists.items }
 
 -- the variable that a call sets to its output event, by its place
 abbrev pub output_at : List (List ℕ) → Option ℕ → List (List ℕ)
