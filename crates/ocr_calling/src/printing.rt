@@ -10,7 +10,7 @@ ghost use Rattle.ocr_running.specs.Running.{IsCalled, Runs, holds_at};
 ghost use Rattle.ocr_running.specs.Serving.{own_log};
 
 use crate::copying::answer_of;
-use ocr_clerks::{Gate, Job, Ocr, Over, enter_as_is};
+use ocr_clerks::{Gate, Job, Ocr, Over, enter_at_hand};
 use ocr_guid::{Code, Guid};
 use ocr_history::{Entry, Writes};
 use ocr_meaning::{Answer, Call};
@@ -41,7 +41,8 @@ pub(crate) fn print<R: Wait, G: Gate>(
     ensures called { IfOk result (λ a. IsCalled edt (call.Print value) a clerk.old clerk.new) }
     ensures gone { OnErr result (IsGone job.now.turns.now worker clerk.new) }
 {
-    enter_as_is(alloc, job, worker, clerk, print_entry(alloc, edt, value))?;
+    let entry = print_entry(alloc, edt, value);
+    enter_at_hand(alloc, job, worker, clerk, entry, Vec::new(alloc))?;
     Ok(print_answer())
 }
 

@@ -1,6 +1,5 @@
 -- An entry of a worker.
 use Rattle.std.proofs.Common.{◌≡◌, ℕ, ◌+◌, ◌-◌, ◌≤◌, true, false, if◌then◌else◌, List, [], ◌∷◌, Option, refl, ap, sym, ◌∙◌, subst, arith}
-use Rattle.std.specs.Prelude.{MatchOption}
 use Rattle.std.proofs.lemmas.Grind.{common_steps}
 use Rattle.ocr_history.specs.declared.entry.Entry.{Entry}
 use Rattle.ocr_history.specs.declared.entry.Entry.TheVariants.{Acquire, Wait, StaleAcquire, Start}
@@ -23,12 +22,11 @@ use Rattle.ocr_parts.proofs.Local.{effect_law}
 use Rattle.ocr_acquire.specs.declared.Mode.{Mode}
 use Rattle.ocr_rule.proofs.Numbered.{weigh_keys}
 use Rattle.ocr_rule.specs.Contract.{CommitTells, MayCommit}
-use Rattle.ocr_rule.specs.Steps.{SeesEnd, deed, logged, shut_by}
+use Rattle.ocr_rule.specs.Steps.{deed, logged}
 use Rattle.ocr_rule.specs.Sums.{as_some, one_at, replace_all}
 use Rattle.ocr_rule.specs.Sums as sums
-use Rattle.ocr_rule.specs.declared.answers.Committed.{Committed}
 use Rattle.ocr_rule.specs.declared.answers.Committed.TheVariants as committed
-use Rattle.ocr_clerks.specs.Entering.{CanMake, Entered, Hand, Logged, OcrKnown}
+use Rattle.ocr_clerks.specs.Entering.{CanMake, Hand, OcrKnown}
 use Rattle.ocr_clerks.specs.Work.{EntersAs}
 
 -- both ways to list the numbers
@@ -68,30 +66,6 @@ may_commit t v w e h ps later sent same can light step =
       keeps = λ p. let w = weigh_keys (one_at p) later h.parts (turns_keys later h.parts step.same_keys) in let r = can.places p in let a = r.0 in let b = r.1 in (w ∙ a, omega (arith, w, b));
       claims = record { starts = can.claims.starts; waits = can.claims.waits; resumes = can.claims.resumes };
       legal = entry_law t v e h.members h.parts later sent can.goes can.may step;
-    })
-
-logged_as : (t : OcrTerms) (r : Committed) (old old1 new : OcrKnown) (e : Entry) (later : List (ℕ × Part)) (sent : List What) → old1.view ≡ old.view → old1.parts ≡ old.parts
-    → CommitTells meaning r old1 new (deed meaning t.limit old1.view e later sent) → Logged r old new (deed meaning t.limit old.view e later sent)
-logged_as t (committed.At n) old old1 new e later sent view parts tells = (
-  tells.1,
-  tells.3 ∙ ap (λ (x : OcrView). logged x n (deed meaning t.limit x e later sent)) view,
-  tells.4 ∙ ap (λ (ps : List (ℕ × Option Part)). replace_all (as_some later) ps) parts,
-  tells.7,
-)
-logged_as t (committed.Closed n) old old1 new e later sent view parts tells = (
-  tells.0,
-  tells.1.1 ∙ parts,
-  subst (λ (x : OcrView). MatchOption x.closed ((new.view ≡ shut_by x n) × SeesEnd meaning new.view) (λ w. (w ≡ n) × (new.view ≡ x))) view tells.2,
-)
-
-pub entered_as : (t : OcrTerms) (limit : ℕ) (r : Committed) (old old1 new : OcrKnown) (e : Entry) (h : Hand) (later : List (ℕ × Part)) (sent : List What) → limit ≡ t.limit → old1.view ≡ old.view → old1.parts ≡ old.parts
-    → IsStep t.limit e h.members h.parts later sent → CommitTells meaning r old1 new (deed meaning t.limit old1.view e later sent) → Entered limit r old new e h
-entered_as t limit r old old1 new e h later sent lim view parts step tells =
-    subst (λ (n : ℕ). Entered n r old new e h) (sym lim) (record {
-      later = later;
-      sent = sent;
-      step = step;
-      told = logged_as t r old old1 new e later sent view parts tells;
     })
 
 pub enters_as : (t : OcrTerms) (n : ℕ) (old old1 new : OcrKnown) (e : Entry) (h : Hand) (later : List (ℕ × Part)) (sent : List What) → old1.view ≡ old.view → old1.parts ≡ old.parts

@@ -1,4 +1,4 @@
-pub mod AsIs
+pub mod AtHand
 pub mod Counters
 pub mod Ending
 pub mod Entries

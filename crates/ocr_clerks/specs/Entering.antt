@@ -1,5 +1,5 @@
 -- What an entry of a worker asks, and what it leaves.
-use Rattle.std.specs.Prelude.{◌≡◌, ◌+◌, ◌-◌, ◌<◌, ◌≤◌, ◌^◌, ℕ, List, [], false, length, MatchOption}
+use Rattle.std.specs.Prelude.{◌≡◌, ◌-◌, ◌<◌, ◌≤◌, ◌^◌, ℕ, List, [], false, length}
 use Rattle.ocr_acquire.specs.declared.Mode.{Mode}
 use Rattle.ocr_facts.specs.Clerks.{IsStep, MayEnter, OcrTerms, OcrView}
 use Rattle.ocr_facts.specs.Ocr.{makes, meaning, touches}
@@ -7,7 +7,6 @@ use Rattle.ocr_facts.specs.declared.fact.Fact.{Fact}
 use Rattle.ocr_facts.specs.declared.setting.Setting.{Setting}
 use Rattle.ocr_history.specs.declared.entry.Entry.{Entry}
 use Rattle.ocr_history.specs.declared.entry.What.{What}
-use Rattle.ocr_history.specs.Weight.{weight_of}
 use Rattle.ocr_mail.specs.Mail.{Has}
 use Rattle.ocr_parts.specs.declared.part.Part.{Part}
 use Rattle.ocr_parts.specs.Kinds.{counted_on}
@@ -16,11 +15,8 @@ use Rattle.ocr_parts.specs.Messages.{delivered}
 use Rattle.ocr_parts.specs.Taken.{face_in, keys, parts_in}
 use Rattle.ocr_standing.specs.Kept.{kept_ready}
 use Rattle.ocr_rule.specs.Contract.{Claims, Known}
-use Rattle.ocr_rule.specs.Rule.{OPEN}
-use Rattle.ocr_rule.specs.Steps.{Deed, Sees, SeesEnd, deed, logged, shut_by}
-use Rattle.ocr_rule.specs.Sums.{HasAll, as_some, one_at, replace_all, weigh}
-use Rattle.ocr_rule.specs.declared.answers.Committed.{Committed}
-use Rattle.ocr_rule.specs.declared.answers.Committed.TheVariants as committed
+use Rattle.ocr_rule.specs.Steps.{Deed, deed}
+use Rattle.ocr_rule.specs.Sums.{HasAll, one_at, weigh}
 
 abbrev pub OcrKnown : Type 0
 OcrKnown = Known Setting Entry Part What Fact
@@ -48,28 +44,6 @@ pub record CanMake (t : OcrTerms) (v : OcrView) (e : Entry) (h : Hand) (ps : Lis
   pub places : (p : ℕ) → (weigh (one_at p) h.parts ≡ touches t.limit e p)
       × (weigh (one_at p) h.parts ≤ weigh (one_at p) v.parts)
   pub counters : (g : ℕ) → counted_on (face_in t.limit h.parts g) < 2 ^ 64 - 1
-
--- and the clerk's log may weigh so much more
-pub record CanEnter (t : OcrTerms) (v : OcrView) (e : Entry) (h : Hand) (ps : List (ℕ × Part))
-    : Type 0 where
-  pub can : CanMake t v e h ps
-  pub light : v.weight + weight_of e ≤ t.share
-
--- the entry is in the log, or the run has ended
-abbrev pub Logged : Committed → OcrKnown → OcrKnown → OcrDeed → Type 0
-Logged (committed.At n) old new d = (n < OPEN) × (new.view ≡ logged old.view n d)
-    × (new.parts ≡ replace_all (as_some d.parts) old.parts) × Sees meaning new.view
-Logged (committed.Closed n) old new d = (OPEN ≤ n) × (new.parts ≡ old.parts)
-    × MatchOption old.view.closed ((new.view ≡ shut_by old.view n) × SeesEnd meaning new.view)
-    (λ w. (w ≡ n) × (new.view ≡ old.view))
-
--- what an entered entry leaves: the parts and the messages are what the machine makes of the parts
-pub record Entered (limit : ℕ) (r : Committed) (old new : OcrKnown) (e : Entry) (h : Hand)
-    : Type 0 where
-  pub later : List (ℕ × Part)
-  pub sent : List What
-  pub step : IsStep limit e h.members h.parts later sent
-  pub told : Logged r old new (deed meaning limit old.view e later sent)
 
 -- what a change has to be for a commit of the entry, and the room that this needs
 pub record IsPrepared (t : OcrTerms) (c : OcrKnown) (e : Entry) (h : Hand) (later : List (ℕ × Part))

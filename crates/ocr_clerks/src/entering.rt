@@ -1,8 +1,7 @@
 // An entry that does not end the run.
-ghost use Rattle.std.specs.Prelude.{◌≡◌, ◌≤◌, IfOk, OnErr, OnOk};
-ghost use Rattle.ocr_rule.specs.Contract.{IsOf};
+ghost use Rattle.std.specs.Prelude.{◌≡◌, IfOk, OnErr, OnOk};
 ghost use Rattle.ocr_facts.specs.Ocr.{wakes};
-ghost use Rattle.ocr_clerks.specs.Entering.{CanEnter, CanMake, Entered, Hand};
+ghost use Rattle.ocr_clerks.specs.Entering.{CanMake, Hand};
 ghost use Rattle.ocr_clerks.specs.Work.{AtWork, EntersAs, IsGone, Stays};
 
 use crate::closing::{close_heavy, close_memory};
@@ -11,44 +10,18 @@ use crate::job::Job;
 use crate::ocr::Ocr;
 use crate::over::Over;
 use crate::preparing::prepare;
-use ocr_base::NoMemory;
 use ocr_codes::weight;
 use ocr_guid::Guid;
 use ocr_history::Entry;
 use ocr_parts::Part;
-use ocr_turns::{Clerk, Committed, Turns};
+use ocr_turns::{Clerk, Committed};
 use std::alloc::Global;
 use std::sync::Wait;
 
-/// Enters an entry that is no Stop and that is legal on these parts, which the clerk lifted. They
-/// come back changed once the entry is in the log. It passes no gate. For want of memory nothing is
-/// entered, and the parts are lost.
-pub fn enter(
-    alloc: Global,
-    turns: &Turns<Ocr>,
-    limit: u64,
-    clerk: &mut Clerk<Ocr>,
-    entry: Entry,
-    parts: Vec<(u64, Part)>,
-) -> Result<Committed, NoMemory>
-    ghost h: { Hand }
-    requires table { IsOf turns.now clerk.old }
-    requires limit { (limit ≡ turns.now.1.limit) × (limit ≤ 65536) }
-    requires can { CanEnter turns.now.1 clerk.old.view entry h parts.items }
-    ensures table { clerk.new.table ≡ clerk.old.table }
-    ensures room { OnErr result (clerk.old.room ≤ clerk.new.room) }
-    ensures spare { clerk.new.spare ≡ clerk.old.spare }
-    ensures entered { IfOk result (λ r. Entered limit r clerk.old clerk.new entry h) }
-    ensures same { OnErr result ((clerk.new.view ≡ clerk.old.view)
-        × (clerk.new.parts ≡ clerk.old.parts)) }
-{
-    let prepared = prepare(alloc, turns, limit, clerk, &entry, parts)?;
-    Ok(turns.commit(clerk, entry, prepared.change))
-}
-
-/// Enters an entry, as `enter` does, behind the gate. Where the clerk's log would weigh more than
-/// its share then, or memory is refused, the run is ended in its place. Gives the EDTs that the
-/// entry resumes.
+/// Enters an entry that is no Stop and that is legal on these parts, which the clerk lifted, behind
+/// the gate. They come back changed once the entry is in the log. Where the log would weigh more
+/// than its share then, or memory is refused, the run is ended in its place, and the parts are lost.
+/// Gives the EDTs that the entry resumes.
 pub fn enter_at_work<R: Wait, G: Gate>(
     alloc: Global,
     job: &Job<R, G>,

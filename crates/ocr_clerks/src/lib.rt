@@ -5,7 +5,7 @@
 mod closing;
 mod drawing;
 mod entering;
-mod entering_as_is;
+mod entering_at_hand;
 mod gate;
 mod giving;
 mod job;
@@ -17,8 +17,8 @@ mod taking;
 
 pub use closing::{close, close_heavy, close_memory};
 pub use drawing::draw_number;
-pub use entering::{enter, enter_at_work};
-pub use entering_as_is::enter_as_is;
+pub use entering::enter_at_work;
+pub use entering_at_hand::enter_at_hand;
 pub use gate::{Gate, NoGate};
 pub use giving::{give_all, give_faces};
 pub use job::Job;

@@ -81,11 +81,7 @@ fn sent_if_done(alloc: Global, leaving: Leaving, scope: &Scope) -> Result<Vec<Wh
 
 /// What goes out where an EDT ends: the payload to its output event, where no scope of its own
 /// satisfies it, and that it leaves its home.
-pub(crate) fn sent_by_end(
-    alloc: Global,
-    identity: Identity,
-    payload: Guid,
-) -> Result<Vec<What>, NoMemory>
+pub fn sent_by_end(alloc: Global, identity: Identity, payload: Guid) -> Result<Vec<What>, NoMemory>
     ensures { IfOk result (λ r. r.items ≡ sent_by_end identity payload) }
 {
     let Identity {

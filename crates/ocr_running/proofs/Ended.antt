@@ -1,41 +1,63 @@
 -- The End as a clerk makes it, and what it leaves.
-use Rattle.std.proofs.Common.{◌≡◌, ◌⊎◌, inl, inr, ⊎_elim, ℕ, ◌+◌, ◌≤◌, Bool, true, false, ◌==◌, ◌||◌, if◌then◌else◌, List, [], ◌∷◌, ◌++◌, Option, refl, ap, sym, ◌∙◌, subst, arith}
+use Rattle.std.proofs.Common.{◌≡◌, ◌⊎◌, inl, inr, ⊎_elim, ℕ, ◌+◌, ◌≤◌, Bool, true, false, ◌==◌, ◌||◌, if◌then◌else◌, List, [], ◌∷◌, ◌++◌, length, Option, Some, refl, ap, sym, ◌∙◌, subst, arith}
 use Rattle.std.specs.List.{All}
 use Rattle.std.proofs.lemmas.Bool.{eqb-true}
+use Rattle.std.proofs.lemmas.Grind.{common_steps}
 use Rattle.ocr_code.specs.declared.checked.Checked.{Checked}
 use Rattle.ocr_meaning.specs.Behaviour.{Ends}
 use Rattle.ocr_meaning.specs.Body.{Body, says}
 use Rattle.ocr_meaning.specs.Holds.{Holds}
 use Rattle.ocr_history.specs.declared.entry.Entry.{Entry}
 use Rattle.ocr_history.specs.declared.entry.Entry.TheVariants.{End}
+use Rattle.ocr_history.specs.declared.entry.What.{What}
+use Rattle.ocr_history.specs.declared.entry.What.TheVariants as what
+use Rattle.ocr_edt.specs.declared.Identity.{Identity}
 use Rattle.ocr_parts.specs.declared.part.Part.{Part}
 use Rattle.ocr_parts.specs.declared.part.Part.TheVariants as part
 use Rattle.ocr_parts.specs.Footprint.{Covers, and_core}
-use Rattle.ocr_parts.specs.Kinds.{holds_of, work_of}
-use Rattle.ocr_parts.specs.Taken.{is_within}
+use Rattle.ocr_parts.specs.Effects.{changed, ended_edt, with_phase}
+use Rattle.ocr_parts.specs.Kinds.{holds_of, identity_on, work_of}
+use Rattle.ocr_parts.specs.Messages.{leave_some, payload_of_end, satisfy_some, sent_by_end}
+use Rattle.ocr_parts.specs.Taken.{face_in, is_within, parts_in}
+use Rattle.ocr_parts.specs.Taken.{keys as parts_keys}
 use Rattle.ocr_rule.specs.Counting.{leaves}
 use Rattle.ocr_rule.specs.Owing.{without_all}
 use Rattle.ocr_rule.specs.Rule.{RunsIn}
-use Rattle.ocr_rule.specs.Sums.{as_some, entries, is_among, keys, one_at, sum_of, weigh}
+use Rattle.ocr_rule.specs.Sums.{as_some, entries, find, is_among, keys, one_at, sum_of, weigh}
 use Rattle.ocr_rule.proofs.Numbered.{weigh_keys}
 use Rattle.ocr_rule.proofs.Totals.{one_here}
-use Rattle.ocr_facts.specs.Clerks.{AreAtHand, OcrView}
+use Rattle.ocr_facts.specs.Clerks.{AreAtHand, IsStep, OcrView}
 use Rattle.ocr_facts.specs.Ocr.{ends, meaning, starts, touches}
 use Rattle.ocr_facts.proofs.Owed.{hand_counted}
 use Rattle.ocr_facts.proofs.Places.{named_place, places_good}
 use Rattle.ocr_facts.proofs.Slots.{number_same}
 use Rattle.ocr_clerks.specs.Entering.{CanMake, Hand, OcrKnown}
-use Rattle.ocr_clerks.specs.Work.{AtWork, EntersKept, HasAllAtHand, IsIdle, KeepsLoose, OcrTable, RunsNone, in_hand}
+use Rattle.ocr_clerks.specs.Work.{AtWork, EntersAs, EntersKept, HasAllAtHand, IsIdle, KeepsLoose, OcrTable, RunsNone, in_hand}
 use Rattle.ocr_clerks.proofs.Entries.{turns_keys}
-use Rattle.ocr_clerks.proofs.Hands.{in_hand_some}
-use Rattle.ocr_running.specs.Running.{HasTaken, IsNewest, Runs, first_in, held_at, returned_faces}
+use Rattle.ocr_clerks.proofs.Hands.{in_hand_some, some_keys}
+use Rattle.ocr_running.specs.Running.{HasTaken, IsNewest, Runs, StepsFirst, first_in, held_at, returned_faces}
 use Rattle.ocr_running.specs.Serving.{Serves, own_log}
 use Rattle.ocr_running.proofs.Asked.{all_from, once_in, taken_at_hand}
 use Rattle.ocr_running.proofs.Called.{hand_is, keys_at, runnable_in}
+use Rattle.ocr_running.proofs.Cores.{first_core}
+use Rattle.ocr_running.proofs.Phases.{core_steps, kept_from, stepped_work}
 use Rattle.ocr_running.proofs.Entering.{end_legal, end_may}
 use Rattle.ocr_running.proofs.Logs.{among_more, claim_ends, runs_back, serves_same}
 use Rattle.ocr_running.proofs.Places.{core_from, covers_at, face_from, same_places}
 use Rattle.ocr_running.proofs.Started.{both_on, core_back, core_out}
+
+-- few messages go out
+pub few_sent : (i : Identity) (p : ℕ) → length (sent_by_end i p) ≤ 2
+few_sent i p = elim i.finish as (λ b. length ((if b then [] else satisfy_some i.output p) ++ leave_some i.scope) ≤ 2) [
+  | true ↦ left_one i.scope
+  | false ↦ elim (i.output == 0) as (λ b. length ((if b then [] else what.Satisfy i.output 0 p ∷ []) ++ leave_some i.scope) ≤ 2) [
+    | true ↦ left_one i.scope
+    | false ↦ elim (i.scope == 0) as (λ b. length (what.Satisfy i.output 0 p ∷ (if b then [] else what.Leave i.scope ∷ [])) ≤ 2) [ true ↦ omega arith | false ↦ omega arith ]
+  ]
+]
+  where
+    left_one : (x : ℕ) → length (leave_some x) ≤ 2
+    left_one x = elim (x == 0) as (λ b. length (if b then [] else what.Leave x ∷ []) ≤ 2) [ true ↦ omega arith | false ↦ omega arith ]
 
 module _ (table : OcrTable) (program : Checked) (edt g : ℕ) (b : Body) (holds : Holds) (first c : OcrKnown) (work : AtWork table program c) (runs : Runs table.1 edt b first) (took : HasTaken table.1 edt first c (returned_faces table.1.limit g)) (says_end : says b (own_log first.view.log edt) ≡ Ends g holds) (free : held_at first ≡ []) where
   abbrev limit : ℕ
@@ -105,7 +127,7 @@ module _ (table : OcrTable) (program : Checked) (edt g : ℕ) (b : Body) (holds 
   says_now : says b (own_log c.view.log edt) ≡ Ends g holds
   says_now = ap (λ (l : List (ℕ × Entry)). says b (own_log l edt)) (ap (λ (v : OcrView). v.log) took.view) ∙ says_end
 
-  none_held : holds_of (work_of (part.Core took.core)) ≡ []
+  pub none_held : holds_of (work_of (part.Core took.core)) ≡ []
   none_held = sym (ap (λ (l : List (ℕ × Option Part)). holds_of (work_of (first_in l))) took.was) ∙ free
 
   can_so : CanMake table.1 c.view (End edt g) (record { members = []; parts = ps }) ps
@@ -132,6 +154,70 @@ module _ (table : OcrTable) (program : Checked) (edt g : ℕ) (b : Body) (holds 
 
   pub has_end : (places : List ℕ) → places ≡ (table.1.limit + edt) ∷ returned_faces table.1.limit g → HasAllAtHand c places
   has_end places is = taken_at_hand table.1 edt first c (returned_faces table.1.limit g) places took is
+
+  -- THE FACE that it names is at hand
+  pub face_found : is_within table.1.limit g ≡ true → (x : Part) × (find g c.parts ≡ Some (Some x))
+  face_found on =
+      let one : keys took.taken ≡ g ∷ [] = took.places_are ∙ faces_on table.1.limit g on in
+      let there = only_one took.taken one in
+      (there.0, ap (find g) (took.hand ∙ ap (λ (l : List (ℕ × Part)). as_some ((table.1.limit + edt, part.Core took.core) ∷ l)) there.1) ∙ past_core (some_else table.1.limit edt g within on))
+    where
+      faces_on : (most n : ℕ) → is_within most n ≡ true → returned_faces most n ≡ n ∷ []
+      faces_on most n on = rw on refl
+
+      only_one : (ps : List (ℕ × Part)) → keys ps ≡ g ∷ [] → (x : Part) × (ps ≡ (g, x) ∷ [])
+      only_one [] is = cc is
+      only_one (p ∷ []) is = let same : p.0 ≡ g = cc is in (p.1, λ i. (same i, p.1) ∷ [])
+      only_one (p ∷ q ∷ rest) is = cc is
+
+      some_else : (most t n : ℕ) → is_within most t ≡ true → is_within most n ≡ true → (n == (most + t)) ≡ false
+      some_else most t n one two = grind (arith, common_steps)
+
+      past_core : {x : Part} → (g == (table.1.limit + edt)) ≡ false → find g (as_some ((table.1.limit + edt, part.Core took.core) ∷ (g, x) ∷ [])) ≡ Some (Some x)
+      past_core off = rw (off, number_same g) refl
+
+  pub core_first_at : (place : ℕ) → place ≡ table.1.limit + edt → c.parts ≡ (place, Some (part.Core took.core)) ∷ as_some took.taken
+  core_first_at place at = took.hand ∙ ap (λ (n : ℕ). (n, Some (part.Core took.core)) ∷ as_some took.taken) (sym at)
+
+  -- THE CORE AT HAND has ended, before the entry is made
+  module _ (mid : OcrKnown) (place : ℕ) (at : place ≡ table.1.limit + edt) (stepped : StepsFirst place (with_phase ended_edt) c mid) where
+    steps : StepsFirst (table.1.limit + edt) (with_phase ended_edt) c mid
+    steps = subst (λ (n : ℕ). StepsFirst n (with_phase ended_edt) c mid) at stepped
+
+    abbrev later : List (ℕ × Part)
+    later = (table.1.limit + edt, part.Core (with_phase ended_edt took.core)) ∷ took.taken
+
+    mid_hand : mid.parts ≡ as_some later
+    mid_hand = steps.core took.core (as_some took.taken) took.hand
+
+    in_mid : in_hand mid.parts ≡ later
+    in_mid = ap in_hand mid_hand ∙ in_hand_some later
+
+    pub ended_at_hand : mid.parts ≡ as_some (in_hand mid.parts)
+    ended_at_hand = mid_hand ∙ sym (ap as_some in_mid)
+
+    pub ended_work : AtWork table program mid
+    ended_work = stepped_work (table.1.limit + edt) (with_phase ended_edt) c mid steps table program took.core (as_some took.taken) work took.hand
+
+    pub ended_can : (was : List (ℕ × Part)) × CanMake table.1 mid.view (End edt g) hand was
+    ended_can = (in_hand c.parts, subst (λ (v : OcrView). CanMake table.1 v (End edt g) hand (in_hand c.parts)) (sym steps.view) can_end)
+
+    pub ended_step : (sent : List What) → sent ≡ sent_by_end (identity_on (part.Core took.core)) (payload_of_end (face_in table.1.limit (in_hand c.parts) g) g) → IsStep table.1.limit (End edt g) [] (in_hand c.parts) (in_hand mid.parts) sent
+    ended_step sent is = record {
+      parts = ap (parts_in table.1.limit) in_mid
+          ∙ (core_steps table.1.limit edt within took.core took.taken (with_phase ended_edt)
+          ∙ ap (λ (l : List (ℕ × Part)). changed (End edt g) (parts_in table.1.limit l)) (sym hand_parts));
+      same_keys = ap parts_keys in_mid ∙ sym (ap parts_keys hand_parts);
+      sends_are = is ∙ ap (λ (x : Part). sent_by_end (identity_on x) (payload_of_end (face_in table.1.limit (in_hand c.parts) g) g))
+          (sym (ap (λ (l : List (ℕ × Part)). (parts_in table.1.limit l).core edt) hand_parts ∙ first_core table.1.limit edt took.core took.taken within));
+    }
+
+    pub ended_kept : (new : OcrKnown) → EntersAs table.1 mid new (End edt g) hand → EntersKept table.1 c new (End edt g) hand
+    ended_kept new enters =
+        kept_from table.1 c mid new (End edt g) hand steps.view
+        (ap keys mid_hand ∙ (some_keys later ∙ sym (ap keys hand_parts)))
+        (ap keys view_parts ∙ sym (ap keys hand_parts))
+        (let may = can_end.may in may.at_hand.once) enters
 
   -- AFTER IT
   module _ (new : OcrKnown) (done : EntersKept table.1 c new (End edt g) hand) where

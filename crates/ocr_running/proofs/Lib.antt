@@ -14,6 +14,7 @@ pub mod Loaned
 pub mod Logs
 pub mod Own
 pub mod Parts
+pub mod Phases
 pub mod Places
 pub mod Served
 pub mod Settled

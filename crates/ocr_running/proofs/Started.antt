@@ -1,5 +1,5 @@
 -- The Start as a clerk makes it, and what it has then.
-use Rattle.std.proofs.Common.{◌≡◌, ◌≢◌, ◌⊎◌, inl, inr, ⊎_elim, ℕ, ◌+◌, ◌-◌, ◌≤◌, Bool, true, false, ◌==◌, ◌&&◌, if◌then◌else◌, List, [], ◌∷◌, ◌++◌, length, take, Option, refl, ap, sym, ◌∙◌, subst, arith}
+use Rattle.std.proofs.Common.{◌≡◌, ◌≢◌, ◌⊎◌, inl, inr, ⊎_elim, ℕ, ◌+◌, ◌-◌, ◌≤◌, Bool, true, false, ◌==◌, ◌&&◌, if◌then◌else◌, List, [], ◌∷◌, ◌++◌, length, take, Option, Some, refl, ap, sym, ◌∙◌, subst, arith}
 use Rattle.std.specs.List.{All}
 use Rattle.std.proofs.lemmas.Bool.{eqb-true}
 use Rattle.std.proofs.lemmas.List.Elements.{All-cons, All-nil}
@@ -20,11 +20,12 @@ use Rattle.ocr_parts.specs.Effects.{changed, made_ready, ready_at, settled_core,
 use Rattle.ocr_parts.specs.Footprint.{and_core}
 use Rattle.ocr_parts.specs.Kinds.{is_acquiring_edt, is_running, on_core}
 use Rattle.ocr_parts.specs.Parts.{Parts}
-use Rattle.ocr_parts.specs.Taken.{as_face, is_within, look, parts_in}
+use Rattle.ocr_parts.specs.Taken.{is_within, look, parts_in}
+use Rattle.ocr_parts.specs.Taken.{keys as parts_keys}
 use Rattle.ocr_standing.specs.Kept.{plan_from}
 use Rattle.ocr_rule.specs.Rule.{RunsIn}
 use Rattle.ocr_rule.specs.Sums.{as_some, keys, one_at, sum_of, weigh}
-use Rattle.ocr_facts.specs.Clerks.{OcrView}
+use Rattle.ocr_facts.specs.Clerks.{IsStep, OcrView}
 use Rattle.ocr_facts.specs.Facts.{body_by}
 use Rattle.ocr_facts.specs.Ocr.{ends, starts, touches}
 use Rattle.ocr_facts.specs.declared.fact.Fact.{Fact}
@@ -32,48 +33,21 @@ use Rattle.ocr_facts.specs.declared.fact.Fact.TheVariants.{Count, IsSet, Began}
 use Rattle.ocr_facts.proofs.Places.{named_place, within_is}
 use Rattle.ocr_facts.proofs.Slots.{number_same}
 use Rattle.ocr_clerks.specs.Entering.{CanMake, Hand, OcrKnown}
-use Rattle.ocr_clerks.specs.Work.{AtWork, CanRun, EntersKept, HasAllAtHand, OcrTable, RunsOnly, in_hand, ready_with}
+use Rattle.ocr_clerks.specs.Work.{AtWork, CanRun, EntersAs, EntersKept, HasAllAtHand, OcrTable, RunsOnly, in_hand, ready_with}
 use Rattle.ocr_clerks.proofs.Counters.{none_counted}
-use Rattle.ocr_running.specs.Running.{HasEntered, IsBegun, first_in, hand_at, slots_in}
+use Rattle.ocr_running.specs.Running.{HasEntered, IsBegun, StepsFirst, first_in, hand_at, slots_in}
 use Rattle.ocr_running.specs.Serving.{IsKnown, Serves, own_log}
 use Rattle.ocr_running.proofs.Called.{runnable_in}
 use Rattle.ocr_running.proofs.Cores.{core_first, first_core}
 use Rattle.ocr_running.proofs.Logs.{claims_stay, now_known, own_fresh, own_start, runs_back, starts_now, still_known}
 use Rattle.ocr_running.proofs.Places.{core_from, face_from, same_places}
 use Rattle.ocr_running.proofs.Back.{runs_again}
+use Rattle.ocr_running.proofs.Phases.{core_steps, kept_from, stepped_work}
 use Rattle.ocr_running.proofs.Starting.{kept_pair, learnt, look_face, pair_once, ready_is, start_may}
 
 -- THE PARTS, the core made ready
-module _ (limit edt : ℕ) (within : is_within limit edt ≡ true) (core : Core) (slots : List Slot) (ms : List (ℕ × Mode)) where
-  abbrev readied_core : Core
-  readied_core = with_phase (made_ready ms) core
-
-  face_same : (n : ℕ) → (parts_in limit (kept_pair limit edt readied_core slots)).face n ≡ (parts_in limit (kept_pair limit edt core slots)).face n
-  face_same n = elim ((limit + edt) == n) as (λ b. (if is_within limit n then as_face (if b then part.Core readied_core else look ((edt, part.Edt slots) ∷ []) n) else part.Vacant) ≡ (if is_within limit n then as_face (if b then part.Core core else look ((edt, part.Edt slots) ∷ []) n) else part.Vacant)) [
-    | true ↦ refl
-    | false ↦ refl
-  ]
-
-  core_same : (u : ℕ) → (parts_in limit (kept_pair limit edt readied_core slots)).core u ≡ (ready_at edt ms (parts_in limit (kept_pair limit edt core slots))).core u
-  core_same u = elim (edt == u) as (λ b. (edt == u) ≡ b → (parts_in limit (kept_pair limit edt readied_core slots)).core u ≡ (ready_at edt ms (parts_in limit (kept_pair limit edt core slots))).core u) [
-    | true ↦ λ same. subst (λ (k : ℕ). (parts_in limit (kept_pair limit edt readied_core slots)).core k ≡ (ready_at edt ms (parts_in limit (kept_pair limit edt core slots))).core k) (eqb-true edt u same) here
-    | false ↦ λ other. else_where other (apart other)
-  ] refl
-    where
-      here : (parts_in limit (kept_pair limit edt readied_core slots)).core edt ≡ (ready_at edt ms (parts_in limit (kept_pair limit edt core slots))).core edt
-      here =
-          let a : (parts_in limit (kept_pair limit edt readied_core slots)).core edt ≡ part.Core readied_core = rw (within, number_same (limit + edt)) refl in
-          let b : (ready_at edt ms (parts_in limit (kept_pair limit edt core slots))).core edt ≡ part.Core readied_core = rw (number_same edt, within, number_same (limit + edt)) refl in
-          a ∙ sym b
-
-      apart : (edt == u) ≡ false → ((limit + edt) == (limit + u)) ≡ false
-      apart other = grind (arith, common_steps)
-
-      else_where : (edt == u) ≡ false → ((limit + edt) == (limit + u)) ≡ false → (parts_in limit (kept_pair limit edt readied_core slots)).core u ≡ (ready_at edt ms (parts_in limit (kept_pair limit edt core slots))).core u
-      else_where other far = rw (other, far) refl
-
-  ready_pair : parts_in limit (kept_pair limit edt readied_core slots) ≡ ready_at edt ms (parts_in limit (kept_pair limit edt core slots))
-  ready_pair = λ i. record { face = λ n. face_same n i; core = λ u. core_same u i }
+ready_pair : (limit edt : ℕ) → is_within limit edt ≡ true → (core : Core) (slots : List Slot) (ms : List (ℕ × Mode)) → parts_in limit (kept_pair limit edt (with_phase (made_ready ms) core) slots) ≡ ready_at edt ms (parts_in limit (kept_pair limit edt core slots))
+ready_pair limit edt within core slots ms = core_steps limit edt within core ((edt, part.Edt slots) ∷ []) (with_phase (made_ready ms))
 
 pub core_out : (limit t : ℕ) → is_within limit t ≡ true → is_within limit (limit + t) ≡ false
 core_out limit t is = grind (arith, common_steps)
@@ -238,6 +212,61 @@ hand_same table program edt payloads c work can =
 
 pub can_begin : (table : OcrTable) (program : Checked) (edt : ℕ) (payloads : List ℕ) (c : OcrKnown) (h : Hand) → AtWork table program c → CanRun table.1 edt payloads c → h ≡ hand_at c edt payloads → CanMake table.1 c.view (Start edt) h (in_hand c.parts)
 can_begin table program edt payloads c h work can is = subst (λ (k : Hand). CanMake table.1 c.view (Start edt) k (in_hand c.parts)) (sym (is ∙ hand_same table program edt payloads c work can)) (can_start table program edt payloads c work can)
+
+-- THE CORE AT HAND has started, before the entry is made
+module _ (table : OcrTable) (program : Checked) (edt : ℕ) (payloads : List ℕ) (old mid : OcrKnown) (h : Hand) (work : AtWork table program old) (can : CanRun table.1 edt payloads old) (is : h ≡ hand_at old edt payloads) (place : ℕ) (at : place ≡ table.1.limit + edt) (stepped : StepsFirst place (with_phase started_edt) old mid) where
+  steps : StepsFirst (table.1.limit + edt) (with_phase started_edt) old mid
+  steps = subst (λ (n : ℕ). StepsFirst n (with_phase started_edt) old mid) at stepped
+
+  abbrev ready : Core
+  ready = ready_with can.slots payloads can.core
+
+  abbrev started_pair : List (ℕ × Part)
+  started_pair = kept_pair table.1.limit edt (with_phase started_edt ready) can.slots
+
+  mid_hand : mid.parts ≡ as_some started_pair
+  mid_hand = steps.core ready ((edt, Some (part.Edt can.slots)) ∷ []) can.hand
+
+  in_mid : in_hand mid.parts ≡ started_pair
+  in_mid = ap in_hand mid_hand
+
+  pub started_at_hand : mid.parts ≡ as_some (in_hand mid.parts)
+  started_at_hand = mid_hand ∙ sym (ap as_some in_mid)
+
+  pub started_work : AtWork table program mid
+  started_work = stepped_work (table.1.limit + edt) (with_phase started_edt) old mid steps table program ready ((edt, Some (part.Edt can.slots)) ∷ []) work can.hand
+
+  can_old : CanMake table.1 old.view (Start edt) h (in_hand old.parts)
+  can_old = can_begin table program edt payloads old h work can is
+
+  pub started_can : (was : List (ℕ × Part)) × CanMake table.1 mid.view (Start edt) h was
+  started_can = (in_hand old.parts, subst (λ (v : OcrView). CanMake table.1 v (Start edt) h (in_hand old.parts)) (sym steps.view) can_old)
+
+  hand_now : h ≡ start_hand table program edt payloads old work can
+  hand_now = is ∙ hand_same table program edt payloads old work can
+
+  step_so : IsStep table.1.limit (Start edt) (plan_from can.slots payloads) (kept_pair table.1.limit edt can.core can.slots) (in_hand mid.parts) []
+  step_so = record {
+    parts = ap (parts_in table.1.limit) in_mid
+        ∙ (core_steps table.1.limit edt can.taken.number ready ((edt, part.Edt can.slots) ∷ []) (with_phase started_edt)
+        ∙ ap (changed (Start edt)) (ready_pair table.1.limit edt can.taken.number can.core can.slots (plan_from can.slots payloads)));
+    same_keys = ap parts_keys in_mid;
+    sends_are = refl;
+  }
+
+  pub started_step : IsStep table.1.limit (Start edt) h.members h.parts (in_hand mid.parts) []
+  started_step = subst (λ (k : Hand). IsStep table.1.limit (Start edt) k.members k.parts (in_hand mid.parts) []) (sym hand_now) step_so
+
+  keys_now : (ps : List (ℕ × Part)) → ps ≡ kept_pair table.1.limit edt can.core can.slots → keys ps ≡ (table.1.limit + edt) ∷ edt ∷ []
+  keys_now ps same = ap keys same
+
+  pub started_kept : (new : OcrKnown) → EntersAs table.1 mid new (Start edt) h → EntersKept table.1 old new (Start edt) h
+  started_kept new enters =
+      let hand_keyed = keys_now h.parts (ap (λ (k : Hand). k.parts) hand_now) in
+      kept_from table.1 old mid new (Start edt) h steps.view
+      (ap keys mid_hand ∙ sym hand_keyed)
+      (keys_now old.view.parts can.kept ∙ sym hand_keyed)
+      (let may = can_old.may in may.at_hand.once) enters
 
 module _ (table : OcrTable) (program : Checked) (edt : ℕ) (payloads : List ℕ) (old new : OcrKnown) (h : Hand) (work : AtWork table program old) (can : CanRun table.1 edt payloads old) (is : h ≡ hand_at old edt payloads) (done : EntersKept table.1 old new (Start edt) h) where
   pub done_so : EntersKept table.1 old new (Start edt) (start_hand table program edt payloads old work can)

@@ -20,6 +20,7 @@ use Rattle.ocr_slots.specs.declared.Slot.{Slot}
 use Rattle.ocr_standing.specs.Kept.{plan_from}
 use Rattle.ocr_code.specs.Checked.{checked_tree}
 use Rattle.ocr_facts.specs.Facts.{body_by}
+use Rattle.ocr_rule.specs.Contract.{SameRoom}
 use Rattle.ocr_rule.specs.Owing.{listed}
 use Rattle.ocr_rule.specs.Steps.{Sees}
 use Rattle.ocr_rule.specs.Sums.{as_some, keys}
@@ -163,6 +164,15 @@ pub record HasTaken (t : OcrTerms) (edt : ℕ) (old new : OcrKnown) (places : Li
   pub view : new.view ≡ record old.view { parts = (t.limit + edt, part.Core kept) ∷ taken }
   pub hand : new.parts ≡ as_some ((t.limit + edt, part.Core core) ∷ taken)
   pub sees : Sees meaning new.view
+
+-- THE CORE of this place, which stands first at hand, was changed so, and nothing else
+pub record StepsFirst (place : ℕ) (step : Core → Core) (old new : OcrKnown) : Type 0 where
+  pub table : new.table ≡ old.table
+  pub view : new.view ≡ old.view
+  pub room : SameRoom old new
+  pub core : (core : Core) (rest : List (ℕ × Option Part))
+      → old.parts ≡ (place, Some (part.Core core)) ∷ rest
+      → new.parts ≡ (place, Some (part.Core (step core))) ∷ rest
 
 -- THE END. The face that it names, where there is such a number, and what the EDT holds
 abbrev pub returned_faces : ℕ → ℕ → List ℕ

@@ -4,7 +4,8 @@ ghost use Rattle.ocr_clerks.specs.Entering.{Hand};
 ghost use Rattle.ocr_clerks.specs.Work.{AtWork, CanRun, IsGone, Stays};
 ghost use Rattle.ocr_running.specs.Running.{IsBegun, hand_at};
 
-use ocr_clerks::{Gate, Job, Ocr, Over, enter_kept, give_faces};
+use crate::stepping::start_core;
+use ocr_clerks::{Gate, Job, Ocr, Over, enter_at_hand, give_faces};
 use ocr_guid::Guid;
 use ocr_history::Entry;
 use ocr_turns::Clerk;
@@ -31,7 +32,15 @@ pub fn start<R: Wait, G: Gate>(
     ensures gone { OnErr result (IsGone job.now.turns.now worker clerk.new) }
 {
     let places = [job.turns.limit() + edt.0, edt.0];
-    enter_kept(alloc, job, worker, clerk, Entry::Start { edt }, &places)?;
+    start_core(clerk, places[0]);
+    enter_at_hand(
+        alloc,
+        job,
+        worker,
+        clerk,
+        Entry::Start { edt },
+        Vec::new(alloc),
+    )?;
     give_faces(job.turns, job.program, clerk, edt, &places[1..]);
     Ok(())
 }

@@ -8,6 +8,7 @@ mod listing;
 mod loading;
 mod settling;
 mod sharing;
+mod stepping;
 mod stopping;
 mod storing;
 

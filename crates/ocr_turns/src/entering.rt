@@ -16,8 +16,9 @@ use std::alloc::Global;
 use std::marker::Brand;
 
 /// For how many entries a log has room, at least, once it takes one. A log that is large from the
-/// start on grows where it stands, since its memory is mapped by itself.
-const LOG_STEP: usize = 1024;
+/// start on grows where it stands, since its memory is mapped by itself: it has to be larger than
+/// what was freed before, or the allocator puts it among the others and copies it as it grows.
+const LOG_STEP: usize = 16384;
 
 impl<M: Machine> Turns<M> {
     /// Room for one more entry, besides that for an entry that ends the run, and for so many
@@ -140,8 +141,8 @@ fn is_named<N>(message: &(u64, u32, N), number: u64, index: u32) -> bool
     number == message.0 && index == message.1
 }
 
-// Owes the messages of the entry of this number.
-fn owe_all<N: Drop>(owed: &mut Vec<(u64, u32, N)>, number: u64, messages: Vec<N>)
+/// Owes the messages of the entry of this number.
+pub(crate) fn owe_all<N: Drop>(owed: &mut Vec<(u64, u32, N)>, number: u64, messages: Vec<N>)
     requires { (length messages.items < 2 ^ 32)
         × (length owed.old.items + length messages.items ≤ vec_capacity owed.old) }
     ensures owed { owed.new.items ≡ owed.old.items ++ mail.named number 0 messages.items }

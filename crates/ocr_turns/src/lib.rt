@@ -6,7 +6,7 @@ mod clerk;
 mod closing;
 mod ending;
 mod entering;
-mod entering_as_is;
+mod entering_at_hand;
 mod giving;
 mod opening;
 mod seats;

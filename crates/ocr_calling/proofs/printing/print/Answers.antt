@@ -1,7 +1,8 @@
-use Rattle.std.proofs.Common.{[], sym, subst}
+use Rattle.std.proofs.Common.{[], List, length, ap, sym, subst, arith}
 use Rattle.ocr_meaning.specs.declared.call.Answer.{Answer}
 use Rattle.ocr_meaning.specs.declared.call.Call.TheVariants as call
 use Rattle.ocr_history.specs.declared.entry.Entry.{Entry}
+use Rattle.ocr_history.specs.declared.entry.What.{What}
 use Rattle.ocr_facts.specs.Clerks.{IsStep}
 use Rattle.ocr_clerks.specs.Entering.{CanMake}
 use Rattle.ocr_clerks.specs.Work.{EntersAs, in_hand}
@@ -9,10 +10,10 @@ use Rattle.ocr_running.specs.Running.{IsCalled}
 use Rattle.ocr_calling.proofs.Printed.{at_hand, can_print, leaves_all, plain_hand, print_done, print_runs}
 use Rattle.ocr_calling.proofs.printing.print.Goals as goal
 
-pub enter_as_is-requires : goal.enter_as_is-requires
-enter_as_is-requires g c = λ κs within.
+pub enter_at_hand-requires : goal.enter_at_hand-requires
+enter_at_hand-requires g c = λ κs within.
     let r = c.requires.1.1 in let table = c.args.job.now.turns.now in let program = c.args.job.now.program.now in let clerk = c.args.clerk.now in
-    let is = sym c.print_entry.ensures in (
+    let is = sym c.print_entry-entry.ensures in let none = c.new.ensures.items in (
       within.0,
       (
         within.1,
@@ -21,8 +22,12 @@ enter_as_is-requires g c = λ κs within.
           (
             at_hand table program c.args.edt g.b clerk c.args.value r.0 r.1.0 r.1.1,
             (
-              subst (λ (e : Entry). CanMake table.1 clerk.view e (plain_hand clerk) (in_hand clerk.parts)) is (can_print table program c.args.edt g.b clerk c.args.value r.0 r.1.0 r.1.1),
-              subst (λ (e : Entry). IsStep table.1.limit e [] (in_hand clerk.parts) (in_hand clerk.parts) []) is (leaves_all table.1.limit c.args.edt c.args.value (in_hand clerk.parts)),
+              (in_hand clerk.parts, subst (λ (e : Entry). CanMake table.1 clerk.view e (plain_hand clerk) (in_hand clerk.parts)) is (can_print table program c.args.edt g.b clerk c.args.value r.0 r.1.0 r.1.1)),
+              (
+                subst (λ (l : List What). IsStep table.1.limit c.print_entry-entry.result [] (in_hand clerk.parts) (in_hand clerk.parts) l) (sym none)
+                    (subst (λ (e : Entry). IsStep table.1.limit e [] (in_hand clerk.parts) (in_hand clerk.parts) []) is (leaves_all table.1.limit c.args.edt c.args.value (in_hand clerk.parts))),
+                (let l = ap (λ (l : List What). length l) none in omega (arith, l)),
+              ),
             ),
           ),
         ),
@@ -32,12 +37,12 @@ enter_as_is-requires g c = λ κs within.
 pub returns-clause-runs : goal.returns-clause-runs
 returns-clause-runs g c =
     let r = c.requires.1.1 in let table = c.args.job.now.turns.now in let clerk = c.args.clerk.now in
-    print_runs table c.args.job.now.program.now c.args.edt g.b clerk c.args.value r.0 r.1.0 r.1.1 c.enter_as_is.new.clerk
-    (subst (λ (e : Entry). EntersAs table.1 clerk c.enter_as_is.new.clerk e (plain_hand clerk)) c.print_entry.ensures c.in_ok-enter_as_is.ensures.entered)
+    print_runs table c.args.job.now.program.now c.args.edt g.b clerk c.args.value r.0 r.1.0 r.1.1 c.enter_at_hand.new.clerk
+    (subst (λ (e : Entry). EntersAs table.1 clerk c.enter_at_hand.new.clerk e (plain_hand clerk)) c.print_entry-entry.ensures c.in_ok-enter_at_hand.ensures.entered)
 
 pub returns-clause-called : goal.returns-clause-called
 returns-clause-called g c =
     let r = c.requires.1.1 in let table = c.args.job.now.turns.now in let clerk = c.args.clerk.now in
-    subst (λ (a : Answer). IsCalled c.args.edt (call.Print c.args.value) a clerk c.enter_as_is.new.clerk) (sym c.print_answer.ensures)
-    (print_done table c.args.job.now.program.now c.args.edt g.b clerk c.args.value r.0 r.1.0 r.1.1 c.enter_as_is.new.clerk
-    (subst (λ (e : Entry). EntersAs table.1 clerk c.enter_as_is.new.clerk e (plain_hand clerk)) c.print_entry.ensures c.in_ok-enter_as_is.ensures.entered))
+    subst (λ (a : Answer). IsCalled c.args.edt (call.Print c.args.value) a clerk c.enter_at_hand.new.clerk) (sym c.print_answer.ensures)
+    (print_done table c.args.job.now.program.now c.args.edt g.b clerk c.args.value r.0 r.1.0 r.1.1 c.enter_at_hand.new.clerk
+    (subst (λ (e : Entry). EntersAs table.1 clerk c.enter_at_hand.new.clerk e (plain_hand clerk)) c.print_entry-entry.ensures c.in_ok-enter_at_hand.ensures.entered))

@@ -1,4 +1,4 @@
-use Rattle.std.proofs.Common.{◌≡◌, ◌∙◌, ◌+◌, ◌∷◌, [], ℕ, List, true, false, ap, sym, subst}
+use Rattle.std.proofs.Common.{◌≡◌, ◌∙◌, ◌+◌, ◌∷◌, [], ℕ, List, true, false, refl, ap, sym, subst}
 use Rattle.ocr_parts.specs.Taken.{is_within}
 use Rattle.ocr_clerks.specs.Entering.{OcrKnown}
 use Rattle.ocr_clerks.specs.Work.{Took}
@@ -17,14 +17,17 @@ end-requires g c κs within =
       (
         within.1,
         (
-          e.work,
+          refl,
           (
-            ret.runs,
+            e.work,
             (
-              taken_one t a.edt a.returned b g.s.1 c.take_part.new.clerk ret.runs on took,
+              ret.runs,
               (
-                (λ i. (c.limit-limit.ensures i + c.edt.view_is i) ∷ c.returned.view_is i ∷ []) ∙ ap (λ (l : List ℕ). (t.limit + a.edt) ∷ l) (sym (faces_one t.limit a.returned on)),
-                (end_says t a.edt a.returned b g.s.1 ret, ap held_at r.0 ∙ r.1.1.1),
+                taken_one t a.edt a.returned b g.s.1 c.take_part.new.clerk ret.runs on took,
+                (
+                  (λ i. (c.limit-limit.ensures i + c.edt.view_is i) ∷ c.returned.view_is i ∷ []) ∙ ap (λ (l : List ℕ). (t.limit + a.edt) ∷ l) (sym (faces_one t.limit a.returned on)),
+                  (end_says t a.edt a.returned b g.s.1 ret, ap held_at r.0 ∙ r.1.1.1),
+                ),
               ),
             ),
           ),
@@ -41,14 +44,17 @@ end-requires-2 g c κs within =
       (
         within.1,
         (
-          r.1.0,
+          refl,
           (
-            ret.runs,
+            r.1.0,
             (
-              subst (λ (k : OcrKnown). HasTaken t a.edt g.s.1 k (returned_faces t.limit a.returned)) r.0 (taken_none t a.edt a.returned b g.s.1 ret.runs off),
+              ret.runs,
               (
-                (λ i. (c.limit-limit.ensures i + c.edt.view_is i) ∷ []) ∙ ap (λ (l : List ℕ). (t.limit + a.edt) ∷ l) (sym (faces_none t.limit a.returned off)),
-                (end_says t a.edt a.returned b g.s.1 ret, ap held_at r.0 ∙ r.1.1.1),
+                subst (λ (k : OcrKnown). HasTaken t a.edt g.s.1 k (returned_faces t.limit a.returned)) r.0 (taken_none t a.edt a.returned b g.s.1 ret.runs off),
+                (
+                  (λ i. (c.limit-limit.ensures i + c.edt.view_is i) ∷ []) ∙ ap (λ (l : List ℕ). (t.limit + a.edt) ∷ l) (sym (faces_none t.limit a.returned off)),
+                  (end_says t a.edt a.returned b g.s.1 ret, ap held_at r.0 ∙ r.1.1.1),
+                ),
               ),
             ),
           ),

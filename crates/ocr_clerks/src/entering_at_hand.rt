@@ -1,6 +1,7 @@
-// An entry that leaves all as it stands at hand.
-ghost use Rattle.std.specs.Prelude.{◌≡◌, [], OnOk, OnErr};
+// An entry whose step was made on the parts at hand.
+ghost use Rattle.std.specs.Prelude.{◌≡◌, ◌<◌, ◌^◌, List, ℕ, length, OnOk, OnErr};
 ghost use Rattle.ocr_facts.specs.Clerks.{IsStep};
+ghost use Rattle.ocr_parts.specs.declared.part.Part.{Part};
 ghost use Rattle.ocr_rule.specs.Sums.{as_some};
 ghost use Rattle.ocr_clerks.specs.Entering.{CanMake, Hand};
 ghost use Rattle.ocr_clerks.specs.Work.{AtWork, EntersAs, IsGone, Stays, in_hand};
@@ -11,26 +12,31 @@ use crate::job::Job;
 use crate::ocr::Ocr;
 use crate::over::Over;
 use ocr_codes::weight;
-use ocr_history::Entry;
+use ocr_history::{Entry, What};
 use ocr_turns::{Clerk, Committed};
 use std::alloc::Global;
 use std::sync::Wait;
 
-/// Enters an entry that names the parts at hand, leaves them as they stand and sends nothing, as
-/// `enter_at_work` enters one. No part is lifted for it, and none is made.
-pub fn enter_as_is<R: Wait, G: Gate>(
+/// Enters an entry that names the parts at hand, as `enter_at_work` enters one. Its step was made
+/// on them before, and sends these messages. No part is lifted for it.
+// Each caller knows the kind of its entry, and what hangs on it costs nothing there.
+#[inline(always)]
+pub fn enter_at_hand<R: Wait, G: Gate>(
     alloc: Global,
     job: &Job<R, G>,
     worker: u32,
     clerk: &mut Clerk<Ocr>,
     entry: Entry,
+    messages: Vec<What>,
 ) -> Result<(), Over>
     ghost h: { Hand }
     requires work { AtWork job.now.turns.now job.now.program.now clerk.old }
     requires hand { clerk.old.parts ≡ as_some (in_hand clerk.old.parts) }
-    requires can { CanMake job.now.turns.now.1 clerk.old.view entry h (in_hand clerk.old.parts) }
-    requires as_is { IsStep job.now.turns.now.1.limit entry h.members h.parts
-        (in_hand clerk.old.parts) [] }
+    requires can { (was : List (ℕ × Part))
+        × CanMake job.now.turns.now.1 clerk.old.view entry h was }
+    requires step { IsStep job.now.turns.now.1.limit entry h.members h.parts
+        (in_hand clerk.old.parts) messages.items }
+    requires few { length messages.items < 2 ^ 32 }
     ensures stays { Stays clerk.old clerk.new }
     ensures work { OnOk result (AtWork job.now.turns.now job.now.program.now clerk.new) }
     ensures entered { OnOk result (EntersAs job.now.turns.now.1 clerk.old clerk.new entry h) }
@@ -41,11 +47,11 @@ pub fn enter_as_is<R: Wait, G: Gate>(
     if weight > job.turns.share() - clerk.weight() {
         return Err(close_heavy(job, worker, clerk, &entry, weight));
     }
-    let Ok(()) = job.turns.reserve(alloc, clerk, 0) else {
+    let Ok(()) = job.turns.reserve(alloc, clerk, messages.len()) else {
         return Err(close_memory(job, worker, clerk));
     };
     job.gate.pass(job.rt, worker, clerk);
-    match job.turns.commit_as_is(clerk, entry) {
+    match job.turns.commit_at_hand(clerk, entry, messages) {
         Committed::At(_number) => Ok(()),
         Committed::Closed(word) => Err(Over(word)),
     }

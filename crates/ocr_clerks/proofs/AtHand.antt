@@ -1,6 +1,7 @@
--- An entry that leaves the parts as they stand at hand.
-use Rattle.std.proofs.Common.{◌≡◌, ℕ, ◌+◌, ◌≤◌, List, [], Option, ap, sym, ◌∙◌, subst, arith}
+-- An entry whose step was made on the parts at hand.
+use Rattle.std.proofs.Common.{◌≡◌, ℕ, ◌+◌, ◌≤◌, List, Option, ap, sym, ◌∙◌, subst, arith}
 use Rattle.ocr_history.specs.declared.entry.Entry.{Entry}
+use Rattle.ocr_history.specs.declared.entry.What.{What}
 use Rattle.ocr_history.specs.Weight.{weight_of}
 use Rattle.ocr_parts.specs.declared.part.Part.{Part}
 use Rattle.ocr_facts.specs.Clerks.{IsStep, OcrTerms}
@@ -14,17 +15,18 @@ use Rattle.ocr_clerks.specs.Work.{in_hand}
 use Rattle.ocr_clerks.proofs.Entries.{may_commit, turns_keys}
 use Rattle.ocr_clerks.proofs.Hands.{replace_whole, some_keys}
 
-module _ (t : OcrTerms) (old mid : OcrKnown) (e : Entry) (h : Hand) (hand : old.parts ≡ as_some (in_hand old.parts)) (can : CanMake t old.view e h (in_hand old.parts)) (as_is : IsStep t.limit e h.members h.parts (in_hand old.parts) []) (view : mid.view ≡ old.view) (parts : mid.parts ≡ old.parts) where
+module _ (t : OcrTerms) (old mid : OcrKnown) (e : Entry) (h : Hand) (sent : List What) (hand : old.parts ≡ as_some (in_hand old.parts)) (can : (was : List (ℕ × Part)) × CanMake t old.view e h was) (made : IsStep t.limit e h.members h.parts (in_hand old.parts) sent) (view : mid.view ≡ old.view) (parts : mid.parts ≡ old.parts) where
   listed : at_hand mid.parts ≡ in_hand old.parts
   listed = ap (λ (ps : List (ℕ × Option Part)). in_hand ps) parts
 
-  pub still_step : IsStep t.limit e h.members h.parts (at_hand mid.parts) []
-  still_step = subst (λ (l : List (ℕ × Part)). IsStep t.limit e h.members h.parts l []) (sym listed) as_is
+  pub still_step : IsStep t.limit e h.members h.parts (at_hand mid.parts) sent
+  still_step = subst (λ (l : List (ℕ × Part)). IsStep t.limit e h.members h.parts l sent) (sym listed) made
 
   once : (p : ℕ) → weigh (one_at p) (as_some (in_hand old.parts)) ≤ 1
   once p =
-      let w = weigh_keys (one_at p) (as_some (in_hand old.parts)) h.parts (some_keys (in_hand old.parts) ∙ turns_keys (in_hand old.parts) h.parts can.same_keys) in
-      let o = can.may.at_hand.once p in omega (arith, w, o)
+      let may = can.1.may in
+      let w = weigh_keys (one_at p) (as_some (in_hand old.parts)) h.parts (some_keys (in_hand old.parts) ∙ turns_keys (in_hand old.parts) h.parts made.same_keys) in
+      let o = may.at_hand.once p in omega (arith, w, o)
 
   -- each part is put where it stands
   pub same_hand : replace_all (as_some (at_hand mid.parts)) mid.parts ≡ mid.parts
@@ -33,5 +35,5 @@ module _ (t : OcrTerms) (old mid : OcrKnown) (e : Entry) (h : Hand) (hand : old.
       ∙ (ap (λ (ps : List (ℕ × Option Part)). replace_all (as_some (in_hand old.parts)) ps) parts
       ∙ (replace_whole (as_some (in_hand old.parts)) old.parts (ap keys (sym hand)) once ∙ (sym hand ∙ sym parts)))
 
-  pub may_stay : old.view.weight + weight_of e ≤ t.share → MayCommit meaning t mid.view e (at_hand mid.parts) []
-  may_stay light = may_commit t old.view mid.view e h (in_hand old.parts) (at_hand mid.parts) [] view can light still_step
+  pub may_stay : old.view.weight + weight_of e ≤ t.share → MayCommit meaning t mid.view e (at_hand mid.parts) sent
+  may_stay light = may_commit t old.view mid.view e h can.0 (at_hand mid.parts) sent view can.1 light still_step

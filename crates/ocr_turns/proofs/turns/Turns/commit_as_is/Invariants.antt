@@ -1,7 +1,0 @@
-use Rattle.std.specs.Prelude.{Some, []}
-use Rattle.ocr_rule.specs.Steps.{deed}
-use Rattle.ocr_turns.specs.Hand.{at_hand}
-use Rattle.ocr_turns.proofs.turns.Turns.commit_as_is.Given as goal
-
-abbrev pub ghosts-step_as_is : goal.ghosts-step_as_is
-ghosts-step_as_is g a = record { deed = Some (deed g.M.Machine.meaning a.self.now.1.limit a.seat.now.me.0 a.entry.now (at_hand a._hand.now.items) []) }
