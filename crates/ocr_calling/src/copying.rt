@@ -87,7 +87,7 @@ pub(crate) fn answer_of(code: Code, value: u64) -> Answer
     }
 }
 
-fn copied(call: &Call) -> Result<Call, NoMemory>
+pub(crate) fn copied(call: &Call) -> Result<Call, NoMemory>
     ensures { IfOk result (λ copy. copy ≡ call.now) }
 {
     Ok(call.clone()?)

@@ -7,6 +7,7 @@ mod calling;
 mod carrying;
 mod copying;
 mod counting;
+mod creating;
 mod making;
 mod printing;
 
