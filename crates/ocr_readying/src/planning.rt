@@ -8,8 +8,8 @@ ghost use Rattle.ocr_standing.specs.Kept.{plan_from};
 ghost use Rattle.ocr_rule.specs.Contract.{SameRoom};
 ghost use Rattle.ocr_readying.specs.Readying.{HasBoth, PutReady};
 
-use crate::readying::{asks, ready_core};
-use ocr_acquire::{Mode, plan};
+use crate::readying::{plan_with, ready_core};
+use ocr_acquire::Mode;
 use ocr_base::NoMemory;
 use ocr_clerks::Ocr;
 use ocr_edt::Edt;
@@ -33,8 +33,7 @@ pub fn next_with(
 {
     match edt {
         Edt::Filling(_) => {
-            let asks = asks(alloc, slots, payloads)?;
-            let plan = plan(alloc, &asks)?;
+            let plan = plan_with(alloc, slots, payloads)?;
             Ok(first(plan.as_slice()))
         }
         Edt::Acquiring(acquiring) => Ok(acquiring.next()),

@@ -1,17 +1,19 @@
 // An EDT is made ready.
 ghost use Rattle.std.specs.Prelude.{◌≡◌, ◌<◌, ◌++◌, length, Some, IfOk};
+ghost use Rattle.ocr_acquire.specs.Plan.{IsWellFormed};
 ghost use Rattle.ocr_parts.specs.Calls.{asks_in, asks_of};
 ghost use Rattle.ocr_parts.specs.Effects.{made_ready};
 ghost use Rattle.ocr_slots.specs.Slots.{slot_at};
 ghost use Rattle.ocr_standing.specs.Kept.{filled, plan_from};
 ghost use Rattle.ocr_clerks.specs.Work.{ready_with};
 
-use ocr_acquire::{Mode, plan};
+use ocr_acquire::{Mode, Plan, plan};
 use ocr_base::NoMemory;
 use ocr_edt::Edt;
 use ocr_guid::Guid;
 use ocr_parts::BoxedCore;
 use ocr_slots::Slots;
+use smallvec::SmallVec;
 use std::alloc::Global;
 
 /// Makes an EDT ready with the plan of its slots, set to these payloads, where it is not ready yet.
@@ -35,8 +37,7 @@ fn ready_edt(alloc: Global, edt: Edt, slots: &Slots, payloads: &[Guid]) -> Resul
 {
     match edt {
         Edt::Filling(filling) => {
-            let asks = asks(alloc, slots, payloads)?;
-            let plan = plan(alloc, &asks)?;
+            let plan = plan_with(alloc, slots, payloads)?;
             Ok(Edt::Acquiring(filling.ready(plan)))
         }
         Edt::Acquiring(acquiring) => Ok(Edt::Acquiring(acquiring)),
@@ -46,13 +47,23 @@ fn ready_edt(alloc: Global, edt: Edt, slots: &Slots, payloads: &[Guid]) -> Resul
     }
 }
 
+// The plan of the slots of an EDT, set to these payloads.
+pub(crate) fn plan_with(alloc: Global, slots: &Slots, payloads: &[Guid]) -> Result<Plan, NoMemory>
+    requires { length payloads.now ≡ length slots.now }
+    ensures plan { IfOk result (λ plan. plan.items ≡ plan_from slots.now payloads.now) }
+    ensures well_formed { IfOk result (λ plan. IsWellFormed plan.items) }
+{
+    // Many EDTs have no slots, and then there is nothing to ask for.
+    if slots.depc() == 0 {
+        return Ok(SmallVec::new(alloc));
+    }
+    let asks = asks(alloc, slots, payloads)?;
+    plan(alloc, &asks)
+}
+
 // What the slots of an EDT ask for, set to these payloads.
 #[tactic(auto, using(crate::proofs::Asked::asks_step))]
-pub(crate) fn asks(
-    alloc: Global,
-    slots: &Slots,
-    payloads: &[Guid],
-) -> Result<Vec<(Guid, Mode)>, NoMemory>
+fn asks(alloc: Global, slots: &Slots, payloads: &[Guid]) -> Result<Vec<(Guid, Mode)>, NoMemory>
     requires { length payloads.now ≡ length slots.now }
     ensures { IfOk result (λ v. v.items ≡ asks_in (filled slots.now payloads.now)) }
 {

@@ -32,6 +32,10 @@ pub(crate) fn deliver_all<R: Wait, G: Gate>(
     ensures rests { HasDelivered clerk.old → HasRested result clerk.old clerk.new }
     ensures left { OnErr result (IsGone job.now.turns.now worker clerk.new) }
 {
+    // Mostly nothing is owed, and a loop that may go on for ever costs more to begin.
+    if clerk.owed().is_empty() {
+        return Ok(false);
+    }
     let mut any = false;
     for _ in job.rt.forever() {
         if clerk.owed().is_empty() {
