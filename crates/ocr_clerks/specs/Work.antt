@@ -221,15 +221,14 @@ KnowsPayloads v edt payloads = (k : ℕ) → k < length payloads
 abbrev pub ready_with : List Slot → List ℕ → Core → Core
 ready_with slots payloads core = with_phase (made_ready (plan_from slots payloads)) core
 
--- The worker has taken on the EDT and keeps its core and its face, both at hand, the core made
--- ready with the payloads of its slots, which it knows; and the plan is done.
+-- The worker has taken on the EDT and keeps its core and its face, both at hand, and knows the
+-- payloads of its slots; once the core is made ready with them, its plan is done.
 pub record CanRun (t : OcrTerms) (edt : ℕ) (payloads : List ℕ) (c : OcrKnown) : Type 0 where
   pub taken : HasTakenOn t edt c
   pub core : Core
   pub slots : List Slot
   pub kept : c.view.parts ≡ (t.limit + edt, part.Core core) ∷ (edt, part.Edt slots) ∷ []
-  pub hand : c.parts ≡ (t.limit + edt, Some (part.Core (ready_with slots payloads core))) ∷
-      (edt, Some (part.Edt slots)) ∷ []
+  pub hand : c.parts ≡ (t.limit + edt, Some (part.Core core)) ∷ (edt, Some (part.Edt slots)) ∷ []
   -- no entry of it stands in the log
   pub unstarted : is_among (λ e. is_own e edt) (entries c.view.log) ≡ false
   pub count : length payloads ≡ length slots

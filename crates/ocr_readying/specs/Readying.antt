@@ -1,8 +1,10 @@
--- An EDT's core at hand, made ready with the plan of its face.
-use Rattle.std.specs.Prelude.{◌≡◌, ◌≢◌, ℕ, List, Option, Some, None, length}
+-- An EDT's core at hand, made ready with the plan of its face, and started.
+use Rattle.std.specs.Prelude.{◌≡◌, ◌≢◌, ℕ, List, Option, Some, None, length, true}
 use Rattle.ocr_parts.specs.declared.part.Core.{Core}
 use Rattle.ocr_parts.specs.declared.part.Part.{Part}
 use Rattle.ocr_parts.specs.declared.part.Part.TheVariants as part
+use Rattle.ocr_parts.specs.Effects.{started_edt, with_phase}
+use Rattle.ocr_parts.specs.Kinds.{is_acquiring_edt, next_in, progress_in}
 use Rattle.ocr_slots.specs.declared.Slot.{Slot}
 use Rattle.ocr_rule.specs.Sums.{find, replace}
 use Rattle.ocr_clerks.specs.Work.{ready_with}
@@ -16,12 +18,23 @@ pub record HasBoth (hands : List (ℕ × Option Part)) (place edt count : ℕ) :
   pub apart : edt ≢ place
   pub count_is : count ≡ length slots
 
--- the core was made ready with the plan that the face tells
-pub record PutReady (old new : List (ℕ × Option Part)) (place edt : ℕ) (payloads : List ℕ)
+-- made ready with the plan that the slots tell, set to these payloads, and started
+abbrev pub started_with : List Slot → List ℕ → Core → Core
+started_with slots payloads core = with_phase started_edt (ready_with slots payloads core)
+
+-- both stand at hand, and once the core is made ready its plan is done
+pub record CanStart (hands : List (ℕ × Option Part)) (place edt : ℕ) (payloads : List ℕ)
     : Type 0 where
+  pub both : HasBoth hands place edt (length payloads)
+  pub acquiring : is_acquiring_edt (ready_with both.slots payloads both.core).edt ≡ true
+  pub through : next_in (progress_in (ready_with both.slots payloads both.core).edt) ≡ None
+
+-- the core was changed so, by its face
+pub record PutAs (step : List Slot → List ℕ → Core → Core) (old new : List (ℕ × Option Part))
+    (place edt : ℕ) (payloads : List ℕ) : Type 0 where
   pub core : Core
   pub slots : List Slot
   pub core_there : find place old ≡ Some (Some (part.Core core))
   pub face_there : find edt old ≡ Some (Some (part.Edt slots))
-  pub ready : new ≡ replace place (Some (part.Core (ready_with slots payloads core)))
+  pub put : new ≡ replace place (Some (part.Core (step slots payloads core)))
       (replace place None old)

@@ -1,4 +1,4 @@
-// The block that an EDT acquires next, and its core made ready at hand.
+// The block that an EDT acquires next, and its core made ready at hand, and started.
 ghost use Rattle.std.specs.Prelude.{◌≡◌, ◌+◌, length, Some, None, IfOk, OnOk, OnErr};
 ghost use Rattle.ocr_edt.specs.Phases.{first_of};
 ghost use Rattle.ocr_parts.specs.Effects.{made_ready};
@@ -6,9 +6,10 @@ ghost use Rattle.ocr_parts.specs.Kinds.{next_in, progress_in};
 ghost use Rattle.ocr_parts.specs.declared.part.Part.TheVariants as part;
 ghost use Rattle.ocr_standing.specs.Kept.{plan_from};
 ghost use Rattle.ocr_rule.specs.Contract.{SameRoom};
-ghost use Rattle.ocr_readying.specs.Readying.{HasBoth, PutReady};
+ghost use Rattle.ocr_clerks.specs.Work.{ready_with};
+ghost use Rattle.ocr_readying.specs.Readying.{CanStart, HasBoth, PutAs, started_with};
 
-use crate::readying::{plan_with, ready_core};
+use crate::readying::{plan_with, ready_core, start_core};
 use ocr_acquire::Mode;
 use ocr_base::NoMemory;
 use ocr_clerks::Ocr;
@@ -32,6 +33,8 @@ pub fn next_with(
         ≡ next_in (progress_in (made_ready (plan_from slots.now payloads.now) edt.now))) }
 {
     match edt {
+        // Many EDTs have no slots, and then no block is acquired.
+        Edt::Filling(_) if slots.depc() == 0 => Ok(None),
         Edt::Filling(_) => {
             let plan = plan_with(alloc, slots, payloads)?;
             Ok(first(plan.as_slice()))
@@ -63,7 +66,8 @@ pub fn put_ready(
     requires both { HasBoth clerk.old.parts place edt (length payloads.now) }
     ensures same { (clerk.new.table ≡ clerk.old.table) × (clerk.new.view ≡ clerk.old.view)
         × SameRoom clerk.old clerk.new × (length clerk.new.parts ≡ length clerk.old.parts) }
-    ensures ready { OnOk result (PutReady clerk.old.parts clerk.new.parts place edt payloads.now) }
+    ensures ready { OnOk result (PutAs ready_with clerk.old.parts clerk.new.parts
+        place edt payloads.now) }
 {
     let Part::Core(mut core) = clerk.lift(place) else {
         unreachable!()
@@ -72,6 +76,32 @@ pub fn put_ready(
         unreachable!()
     };
     ready_core(alloc, &mut core, slots, payloads)?;
+    clerk.put(place, Part::Core(core));
+    Ok(())
+}
+
+/// Makes the core at hand ready with the plan of the face at hand, and starts it. For want of memory
+/// it is lost.
+pub fn put_started(
+    alloc: Global,
+    clerk: &mut Clerk<Ocr>,
+    place: u64,
+    edt: Guid,
+    payloads: &[Guid],
+) -> Result<(), NoMemory>
+    requires can { CanStart clerk.old.parts place edt payloads.now }
+    ensures same { (clerk.new.table ≡ clerk.old.table) × (clerk.new.view ≡ clerk.old.view)
+        × SameRoom clerk.old clerk.new × (length clerk.new.parts ≡ length clerk.old.parts) }
+    ensures started { OnOk result (PutAs started_with clerk.old.parts clerk.new.parts
+        place edt payloads.now) }
+{
+    let Part::Core(mut core) = clerk.lift(place) else {
+        unreachable!()
+    };
+    let Part::Edt(slots) = clerk.part(edt.0) else {
+        unreachable!()
+    };
+    start_core(alloc, &mut core, slots, payloads)?;
     clerk.put(place, Part::Core(core));
     Ok(())
 }

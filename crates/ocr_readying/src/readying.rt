@@ -1,11 +1,13 @@
-// An EDT is made ready.
-ghost use Rattle.std.specs.Prelude.{◌≡◌, ◌<◌, ◌++◌, length, Some, IfOk};
+// An EDT is made ready, and starts.
+ghost use Rattle.std.specs.Prelude.{◌≡◌, ◌<◌, ◌++◌, length, true, None, Some, IfOk};
 ghost use Rattle.ocr_acquire.specs.Plan.{IsWellFormed};
 ghost use Rattle.ocr_parts.specs.Calls.{asks_in, asks_of};
 ghost use Rattle.ocr_parts.specs.Effects.{made_ready};
+ghost use Rattle.ocr_parts.specs.Kinds.{is_acquiring_edt, next_in, progress_in};
 ghost use Rattle.ocr_slots.specs.Slots.{slot_at};
 ghost use Rattle.ocr_standing.specs.Kept.{filled, plan_from};
 ghost use Rattle.ocr_clerks.specs.Work.{ready_with};
+ghost use Rattle.ocr_readying.specs.Readying.{started_with};
 
 use ocr_acquire::{Mode, Plan, plan};
 use ocr_base::NoMemory;
@@ -28,6 +30,27 @@ pub fn ready_core(
 {
     let edt = core.take_edt();
     core.put_edt(ready_edt(alloc, edt, slots, payloads)?);
+    Ok(())
+}
+
+/// Makes an EDT ready with the plan of its slots, set to these payloads, and starts it.
+pub(crate) fn start_core(
+    alloc: Global,
+    core: &mut BoxedCore,
+    slots: &Slots,
+    payloads: &[Guid],
+) -> Result<(), NoMemory>
+    requires sizes { length payloads.now ≡ length slots.now }
+    requires acquiring { is_acquiring_edt (ready_with slots.now payloads.now core.old).edt ≡ true }
+    requires through { next_in (progress_in (ready_with slots.now payloads.now core.old).edt)
+        ≡ None }
+    ensures { IfOk result (λ _. core.new ≡ started_with slots.now payloads.now core.old) }
+{
+    let edt = core.take_edt();
+    let Edt::Acquiring(acquiring) = ready_edt(alloc, edt, slots, payloads)? else {
+        unreachable!()
+    };
+    core.put_edt(Edt::Running(acquiring.start()));
     Ok(())
 }
 

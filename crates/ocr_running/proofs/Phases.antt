@@ -28,10 +28,10 @@ abbrev Hands : Type 0
 Hands = List (ℕ × Option Part)
 
 -- THE PART that stands first
-found_first : (place : ℕ) (x : Option Part) (rest : Hands) → find place ((place, x) ∷ rest) ≡ Some x
+pub found_first : (place : ℕ) (x : Option Part) (rest : Hands) → find place ((place, x) ∷ rest) ≡ Some x
 found_first place x rest = rw (number_same place) refl
 
-replaced_first : (place : ℕ) (x y : Option Part) (rest : Hands) → replace place y ((place, x) ∷ rest) ≡ (place, y) ∷ rest
+pub replaced_first : (place : ℕ) (x y : Option Part) (rest : Hands) → replace place y ((place, x) ∷ rest) ≡ (place, y) ∷ rest
 replaced_first place x y rest = rw (number_same place) refl
 
 pub core_found : (place : ℕ) (ps : Hands) (core : Core) (rest : Hands) → ps ≡ (place, Some (part.Core core)) ∷ rest → find place ps ≡ Some (Some (part.Core core))

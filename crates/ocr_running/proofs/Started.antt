@@ -1,5 +1,5 @@
 -- The Start as a clerk makes it, and what it has then.
-use Rattle.std.proofs.Common.{◌≡◌, ◌≢◌, ◌⊎◌, inl, inr, ⊎_elim, ℕ, ◌+◌, ◌-◌, ◌≤◌, Bool, true, false, ◌==◌, ◌&&◌, if◌then◌else◌, List, [], ◌∷◌, ◌++◌, length, take, Option, Some, refl, ap, sym, ◌∙◌, subst, arith}
+use Rattle.std.proofs.Common.{◌≡◌, ◌≢◌, ◌⊎◌, inl, inr, ⊎_elim, ℕ, ◌+◌, ◌-◌, ◌≤◌, Bool, true, false, ◌==◌, ◌&&◌, if◌then◌else◌, List, [], ◌∷◌, ◌++◌, length, take, Option, Some, None, refl, ap, sym, ◌∙◌, subst, arith}
 use Rattle.std.specs.List.{All}
 use Rattle.std.proofs.lemmas.Bool.{eqb-true}
 use Rattle.std.proofs.lemmas.List.Elements.{All-cons, All-nil}
@@ -23,8 +23,9 @@ use Rattle.ocr_parts.specs.Parts.{Parts}
 use Rattle.ocr_parts.specs.Taken.{is_within, look, parts_in}
 use Rattle.ocr_parts.specs.Taken.{keys as parts_keys}
 use Rattle.ocr_standing.specs.Kept.{plan_from}
+use Rattle.ocr_rule.specs.Contract.{SameRoom}
 use Rattle.ocr_rule.specs.Rule.{RunsIn}
-use Rattle.ocr_rule.specs.Sums.{as_some, keys, one_at, sum_of, weigh}
+use Rattle.ocr_rule.specs.Sums.{as_some, find, keys, one_at, replace, sum_of, weigh}
 use Rattle.ocr_facts.specs.Clerks.{IsStep, OcrView}
 use Rattle.ocr_facts.specs.Facts.{body_by}
 use Rattle.ocr_facts.specs.Ocr.{ends, starts, touches}
@@ -33,16 +34,19 @@ use Rattle.ocr_facts.specs.declared.fact.Fact.TheVariants.{Count, IsSet, Began}
 use Rattle.ocr_facts.proofs.Places.{named_place, within_is}
 use Rattle.ocr_facts.proofs.Slots.{number_same}
 use Rattle.ocr_clerks.specs.Entering.{CanMake, Hand, OcrKnown}
-use Rattle.ocr_clerks.specs.Work.{AtWork, CanRun, EntersAs, EntersKept, HasAllAtHand, OcrTable, RunsOnly, in_hand, ready_with}
+use Rattle.ocr_clerks.specs.Work.{AtWork, CanRun, EntersAs, EntersKept, OcrTable, RunsOnly, in_hand, ready_with}
 use Rattle.ocr_clerks.proofs.Counters.{none_counted}
-use Rattle.ocr_running.specs.Running.{HasEntered, IsBegun, StepsFirst, first_in, hand_at, slots_in}
+use Rattle.ocr_clerks.proofs.Whole.{lifted_work}
+use Rattle.ocr_readying.specs.Readying.{CanStart, PutAs, started_with}
+use Rattle.ocr_readying.proofs.Putting.{core_same, edt_same, item_same}
+use Rattle.ocr_running.specs.Running.{HasEntered, IsBegun, first_in, hand_at, slots_in}
 use Rattle.ocr_running.specs.Serving.{IsKnown, Serves, own_log}
 use Rattle.ocr_running.proofs.Called.{runnable_in}
 use Rattle.ocr_running.proofs.Cores.{core_first, first_core}
 use Rattle.ocr_running.proofs.Logs.{claims_stay, now_known, own_fresh, own_start, runs_back, starts_now, still_known}
 use Rattle.ocr_running.proofs.Places.{core_from, face_from, same_places}
 use Rattle.ocr_running.proofs.Back.{runs_again}
-use Rattle.ocr_running.proofs.Phases.{core_steps, kept_from, stepped_work}
+use Rattle.ocr_running.proofs.Phases.{core_found, core_steps, kept_from, replaced_first}
 use Rattle.ocr_running.proofs.Starting.{kept_pair, learnt, look_face, pair_once, ready_is, start_may}
 
 -- THE PARTS, the core made ready
@@ -88,22 +92,51 @@ module _ (limit edt : ℕ) (within : is_within limit edt ≡ true) (core : Core)
       one_at_same : (n : ℕ) → one_at n n ≡ 1
       one_at_same n = rw (number_same n) refl
 
+face_else : (limit edt : ℕ) → 2 ≤ limit → (edt == (limit + edt)) ≡ false
+face_else limit edt enough = grind (arith, common_steps)
+
 -- WHAT IT ASKS of the clerk
 module _ (table : OcrTable) (program : Checked) (edt : ℕ) (payloads : List ℕ) (c : OcrKnown) (work : AtWork table program c) (can : CanRun table.1 edt payloads c) where
   abbrev start_hand : Hand
   start_hand = record { members = plan_from can.slots payloads; parts = kept_pair table.1.limit edt can.core can.slots }
 
-  hand_is : in_hand c.parts ≡ kept_pair table.1.limit edt (ready_with can.slots payloads can.core) can.slots
-  hand_is = ap in_hand can.hand
+  core_there : find (table.1.limit + edt) c.parts ≡ Some (Some (part.Core can.core))
+  core_there = core_found (table.1.limit + edt) c.parts can.core ((edt, Some (part.Edt can.slots)) ∷ []) can.hand
 
-  pub has_pair : (places : List ℕ) → places ≡ (table.1.limit + edt) ∷ edt ∷ [] → HasAllAtHand c places
-  has_pair places is = record {
-    at_hand = can.hand ∙ ap as_some (sym hand_is);
-    kept = ap keys can.kept ∙ sym is;
-    hand = ap keys can.hand ∙ sym is;
-  }
+  face_there : find edt c.parts ≡ Some (Some (part.Edt can.slots))
+  face_there = ap (find edt) can.hand ∙ rw (face_else table.1.limit edt work.limits.0, number_same edt) refl
 
-  pub can_start : CanMake table.1 c.view (Start edt) start_hand (in_hand c.parts)
+  -- the core can start where it stands
+  pub can_put : (place : ℕ) → place ≡ table.1.limit + edt → CanStart c.parts place edt payloads
+  can_put place at = subst (λ (n : ℕ). CanStart c.parts n edt payloads) (sym at) (record {
+    both = record {
+      core = can.core;
+      slots = can.slots;
+      core_there = core_there;
+      face_there = face_there;
+      apart = λ same. let enough = work.limits.0 in absurd (omega (arith, same, enough));
+      count_is = can.count;
+    };
+    acquiring = can.acquiring;
+    through = can.through;
+  })
+
+  pub put_hand : (new : List (ℕ × Option Part)) → PutAs started_with c.parts new (table.1.limit + edt) edt payloads → new ≡ as_some (kept_pair table.1.limit edt (started_with can.slots payloads can.core) can.slots)
+  put_hand new put =
+      let n = table.1.limit + edt in let rest : List (ℕ × Option Part) = (edt, Some (part.Edt can.slots)) ∷ [] in
+      let later = Some (part.Core (started_with put.slots payloads put.core)) in
+      let core : put.core ≡ can.core = core_same put.core can.core (item_same (part.Core put.core) (part.Core can.core) (sym put.core_there ∙ core_there)) in
+      let slots : put.slots ≡ can.slots = edt_same put.slots can.slots (item_same (part.Edt put.slots) (part.Edt can.slots) (sym put.face_there ∙ face_there)) in
+      put.put
+      ∙ (ap (λ (l : List (ℕ × Option Part)). replace n later (replace n None l)) can.hand
+      ∙ (ap (replace n later) (replaced_first n (Some (part.Core can.core)) None rest)
+      ∙ (replaced_first n None later rest
+      ∙ (λ i. (n, Some (part.Core (started_with (slots i) payloads (core i)))) ∷ rest))))
+
+  abbrev ready_hand : List (ℕ × Part)
+  ready_hand = kept_pair table.1.limit edt (ready_with can.slots payloads can.core) can.slots
+
+  pub can_start : CanMake table.1 c.view (Start edt) start_hand ready_hand
   can_start = record {
     goes = refl;
     owes = tt;
@@ -115,8 +148,8 @@ module _ (table : OcrTable) (program : Checked) (edt : ℕ) (payloads : List ℕ
     };
     counters = none_counted table.1.limit (kept_pair table.1.limit edt can.core can.slots) (refl, (refl, tt));
     may = start_may table.1 c.view edt can.core can.slots payloads can.taken.number can.kept can.count can.facts work.limits.0 (runnable_in table program c work) can.acquiring can.through;
-    ready = ap (parts_in table.1.limit) hand_is ∙ ready_pair table.1.limit edt can.taken.number can.core can.slots (plan_from can.slots payloads);
-    same_keys = ap keys hand_is;
+    ready = ready_pair table.1.limit edt can.taken.number can.core can.slots (plan_from can.slots payloads);
+    same_keys = refl;
     places = λ p. (
       same_places table.1.limit (Start edt) (kept_pair table.1.limit edt can.core can.slots) (pair_once table.1.limit edt work.limits.0 can.taken.number can.core can.slots) (pair_there table.1.limit edt can.taken.number can.core can.slots) (pair_back table.1.limit edt can.taken.number can.core can.slots) p,
       (let same = ap (λ (ps : List (ℕ × Part)). weigh (one_at p) ps) can.kept in omega (arith, same)),
@@ -210,14 +243,14 @@ hand_same table program edt payloads c work can =
     ap (λ (ps : List (ℕ × Part)). record { members = plan_from (slots_in (look ps edt)) payloads; parts = ps }) can.kept
     ∙ ap (λ (x : Part). record { members = plan_from (slots_in x) payloads; parts = kept_pair table.1.limit edt can.core can.slots }) (look_face table.1.limit edt work.limits.0 can.taken.number can.core can.slots)
 
-pub can_begin : (table : OcrTable) (program : Checked) (edt : ℕ) (payloads : List ℕ) (c : OcrKnown) (h : Hand) → AtWork table program c → CanRun table.1 edt payloads c → h ≡ hand_at c edt payloads → CanMake table.1 c.view (Start edt) h (in_hand c.parts)
-can_begin table program edt payloads c h work can is = subst (λ (k : Hand). CanMake table.1 c.view (Start edt) k (in_hand c.parts)) (sym (is ∙ hand_same table program edt payloads c work can)) (can_start table program edt payloads c work can)
+pub can_begin : (table : OcrTable) (program : Checked) (edt : ℕ) (payloads : List ℕ) (c : OcrKnown) (h : Hand) → AtWork table program c → CanRun table.1 edt payloads c → h ≡ hand_at c edt payloads → (was : List (ℕ × Part)) × CanMake table.1 c.view (Start edt) h was
+can_begin table program edt payloads c h work can is =
+    let was = ready_hand table program edt payloads c work can in
+    (was, subst (λ (k : Hand). CanMake table.1 c.view (Start edt) k was) (sym (is ∙ hand_same table program edt payloads c work can)) (can_start table program edt payloads c work can))
 
 -- THE CORE AT HAND has started, before the entry is made
-module _ (table : OcrTable) (program : Checked) (edt : ℕ) (payloads : List ℕ) (old mid : OcrKnown) (h : Hand) (work : AtWork table program old) (can : CanRun table.1 edt payloads old) (is : h ≡ hand_at old edt payloads) (place : ℕ) (at : place ≡ table.1.limit + edt) (stepped : StepsFirst place (with_phase started_edt) old mid) where
-  steps : StepsFirst (table.1.limit + edt) (with_phase started_edt) old mid
-  steps = subst (λ (n : ℕ). StepsFirst n (with_phase started_edt) old mid) at stepped
-
+module _ (table : OcrTable) (program : Checked) (edt : ℕ) (payloads : List ℕ) (old mid : OcrKnown) (h : Hand) (work : AtWork table program old) (can : CanRun table.1 edt payloads old) (is : h ≡ hand_at old edt payloads) (place : ℕ) (at : place ≡ table.1.limit + edt)
+    (same : (mid.table ≡ old.table) × (mid.view ≡ old.view) × SameRoom old mid × (length mid.parts ≡ length old.parts)) (put : PutAs started_with old.parts mid.parts place edt payloads) where
   abbrev ready : Core
   ready = ready_with can.slots payloads can.core
 
@@ -225,7 +258,7 @@ module _ (table : OcrTable) (program : Checked) (edt : ℕ) (payloads : List ℕ
   started_pair = kept_pair table.1.limit edt (with_phase started_edt ready) can.slots
 
   mid_hand : mid.parts ≡ as_some started_pair
-  mid_hand = steps.core ready ((edt, Some (part.Edt can.slots)) ∷ []) can.hand
+  mid_hand = put_hand table program edt payloads old work can mid.parts (subst (λ (n : ℕ). PutAs started_with old.parts mid.parts n edt payloads) at put)
 
   in_mid : in_hand mid.parts ≡ started_pair
   in_mid = ap in_hand mid_hand
@@ -234,13 +267,13 @@ module _ (table : OcrTable) (program : Checked) (edt : ℕ) (payloads : List ℕ
   started_at_hand = mid_hand ∙ sym (ap as_some in_mid)
 
   pub started_work : AtWork table program mid
-  started_work = stepped_work (table.1.limit + edt) (with_phase started_edt) old mid steps table program ready ((edt, Some (part.Edt can.slots)) ∷ []) work can.hand
+  started_work = lifted_work table program old mid work same.0 same.1 same.2 same.3
 
-  can_old : CanMake table.1 old.view (Start edt) h (in_hand old.parts)
+  can_old : (was : List (ℕ × Part)) × CanMake table.1 old.view (Start edt) h was
   can_old = can_begin table program edt payloads old h work can is
 
   pub started_can : (was : List (ℕ × Part)) × CanMake table.1 mid.view (Start edt) h was
-  started_can = (in_hand old.parts, subst (λ (v : OcrView). CanMake table.1 v (Start edt) h (in_hand old.parts)) (sym steps.view) can_old)
+  started_can = subst (λ (v : OcrView). (was : List (ℕ × Part)) × CanMake table.1 v (Start edt) h was) (sym same.1) can_old
 
   hand_now : h ≡ start_hand table program edt payloads old work can
   hand_now = is ∙ hand_same table program edt payloads old work can
@@ -263,10 +296,10 @@ module _ (table : OcrTable) (program : Checked) (edt : ℕ) (payloads : List ℕ
   pub started_kept : (new : OcrKnown) → EntersAs table.1 mid new (Start edt) h → EntersKept table.1 old new (Start edt) h
   started_kept new enters =
       let hand_keyed = keys_now h.parts (ap (λ (k : Hand). k.parts) hand_now) in
-      kept_from table.1 old mid new (Start edt) h steps.view
+      kept_from table.1 old mid new (Start edt) h same.1
       (ap keys mid_hand ∙ sym hand_keyed)
       (keys_now old.view.parts can.kept ∙ sym hand_keyed)
-      (let may = can_old.may in may.at_hand.once) enters
+      (let may = can_old.1.may in may.at_hand.once) enters
 
 module _ (table : OcrTable) (program : Checked) (edt : ℕ) (payloads : List ℕ) (old new : OcrKnown) (h : Hand) (work : AtWork table program old) (can : CanRun table.1 edt payloads old) (is : h ≡ hand_at old edt payloads) (done : EntersKept table.1 old new (Start edt) h) where
   pub done_so : EntersKept table.1 old new (Start edt) (start_hand table program edt payloads old work can)

@@ -4,15 +4,16 @@ ghost use Rattle.ocr_clerks.specs.Entering.{Hand};
 ghost use Rattle.ocr_clerks.specs.Work.{AtWork, CanRun, IsGone, Stays};
 ghost use Rattle.ocr_running.specs.Running.{IsBegun, hand_at};
 
-use crate::stepping::start_core;
-use ocr_clerks::{Gate, Job, Ocr, Over, enter_at_hand, give_faces};
+use ocr_clerks::{Gate, Job, Ocr, Over, close_memory, enter_at_hand, give_faces};
 use ocr_guid::Guid;
 use ocr_history::Entry;
+use ocr_readying::put_started;
 use ocr_turns::Clerk;
 use std::alloc::Global;
 use std::sync::Wait;
 
-/// Enters the Start of an EDT whose plan is done, and keeps its core alone.
+/// Enters the Start of an EDT whose plan is done, and keeps its core alone. Ends the run for want of
+/// memory.
 pub fn start<R: Wait, G: Gate>(
     alloc: Global,
     job: &Job<R, G>,
@@ -32,7 +33,9 @@ pub fn start<R: Wait, G: Gate>(
     ensures gone { OnErr result (IsGone job.now.turns.now worker clerk.new) }
 {
     let places = [job.turns.limit() + edt.0, edt.0];
-    start_core(clerk, places[0]);
+    let Ok(()) = put_started(alloc, clerk, places[0], edt, payloads) else {
+        return Err(close_memory(job, worker, clerk));
+    };
     enter_at_hand(
         alloc,
         job,

@@ -1,41 +1,16 @@
-// The core at hand goes on to the next phase of its EDT.
-ghost use Rattle.std.specs.Prelude.{◌≡◌, ◌∷◌, [], ℕ, List, Option, None, Some, true};
+// The core at hand goes on to the last phase of its EDT.
+ghost use Rattle.std.specs.Prelude.{◌≡◌, ◌∷◌, [], ℕ, List, Option, Some, true};
 ghost use Rattle.ocr_parts.specs.declared.part.Core.{Core};
 ghost use Rattle.ocr_parts.specs.declared.part.Part.{Part};
 ghost use Rattle.ocr_parts.specs.declared.part.Part.TheVariants as part;
-ghost use Rattle.ocr_parts.specs.Effects.{ended_edt, started_edt, with_phase};
-ghost use Rattle.ocr_parts.specs.Kinds.{holds_of, identity_on, is_acquiring_edt, is_running, next_in, progress_in, work_of};
+ghost use Rattle.ocr_parts.specs.Effects.{ended_edt, with_phase};
+ghost use Rattle.ocr_parts.specs.Kinds.{holds_of, identity_on, is_running, work_of};
 ghost use Rattle.ocr_running.specs.Running.{StepsFirst};
 
 use ocr_clerks::Ocr;
 use ocr_edt::{Edt, Identity};
 use ocr_parts::{BoxedCore, Part};
 use ocr_turns::Clerk;
-
-/// The core that stands first at hand starts.
-pub(crate) fn start_core(clerk: &mut Clerk<Ocr>, place: u64)
-    requires { (core : Core) × (rest : List (ℕ × Option Part))
-        × (clerk.old.parts ≡ (place, Some (part.Core core)) ∷ rest)
-        × (is_acquiring_edt core.edt ≡ true) × (next_in (progress_in core.edt) ≡ None) }
-    ensures { StepsFirst place (with_phase started_edt) clerk.old clerk.new }
-{
-    let Part::Core(mut core) = clerk.lift(place) else {
-        unreachable!()
-    };
-    started(&mut core);
-    clerk.put(place, Part::Core(core));
-}
-
-fn started(core: &mut BoxedCore)
-    requires acquiring { is_acquiring_edt core.old.edt ≡ true }
-    requires through { next_in (progress_in core.old.edt) ≡ None }
-    ensures { core.new ≡ with_phase started_edt core.old }
-{
-    let Edt::Acquiring(acquiring) = core.take_edt() else {
-        unreachable!()
-    };
-    core.put_edt(Edt::Running(acquiring.start()));
-}
 
 /// The core that stands first at hand ends; gives what it keeps through all its phases.
 pub(crate) fn end_core(clerk: &mut Clerk<Ocr>, place: u64) -> Identity

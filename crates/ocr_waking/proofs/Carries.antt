@@ -14,7 +14,7 @@ use Rattle.ocr_clerks.specs.Entering.{Hand, OcrKnown}
 use Rattle.ocr_clerks.specs.Work.{KnowsPayloads, ready_with}
 use Rattle.ocr_clerks.proofs.Hands.{number_same}
 use Rattle.ocr_waking.specs.Meeting.{CarriesOut, pair_of}
-use Rattle.ocr_readying.specs.Readying.{PutReady}
+use Rattle.ocr_readying.specs.Readying.{PutAs}
 use Rattle.ocr_waking.specs.Waking.{IsAble, Meets, two_faces}
 use Rattle.ocr_waking.specs.declared.acting.Act.{Act}
 use Rattle.ocr_readying.proofs.Putting.{core_same, edt_same}
@@ -35,7 +35,7 @@ put_at n i x rest = ap (replace n (Some x)) (put_first n i None rest) ∙ put_fi
     put_first n i a rest = rw (number_same n) refl
 
 pub meets_now : (t : OcrTerms) (edt d : ℕ) (first : Bool) (payloads : List ℕ) (a : Act) (h : Hand) (old new : OcrKnown) (places : List ℕ) → edt ≢ d → is_within t.limit d ≡ true → CarriesOut t edt d first payloads a h old → new.view ≡ old.view
-    → PutReady old.parts new.parts (t.limit + edt) edt payloads → (t.limit + edt) ∷ keys (pair_of first edt d part.Vacant part.Vacant) ≡ places → Meets t edt d a payloads places h new
+    → PutAs ready_with old.parts new.parts (t.limit + edt) edt payloads → (t.limit + edt) ∷ keys (pair_of first edt d part.Vacant part.Vacant) ≡ places → Meets t edt d a payloads places h new
 meets_now t edt d first payloads a h old new places off wd carries same ready named =
     let k = carries.can.knows in let m = k.three in let may = carries.can.may in
     let slots_are : may.slots ≡ k.slots = edt_same may.slots k.slots (sym may.face_is ∙ k.face_is) in
@@ -53,7 +53,7 @@ meets_now t edt d first payloads a h old new places off wd carries same ready na
       state = may.state;
       mode = may.mode;
       kept = kept;
-      hand = ready.ready
+      hand = ready.put
           ∙ (ap (λ (l : List (ℕ × Option Part)). replace (t.limit + edt) (Some (part.Core (ready_with ready.slots payloads ready.core))) (replace (t.limit + edt) None l)) m.hand
           ∙ (put_at (t.limit + edt) (Some (part.Core m.core)) (part.Core (ready_with ready.slots payloads ready.core)) (as_some (pair_of first edt d m.face m.other))
           ∙ (λ i. (t.limit + edt, Some (part.Core (put i))) ∷ as_some (faces i))));
@@ -68,5 +68,5 @@ meets_now t edt d first payloads a h old new places off wd carries same ready na
       able = subst (λ (c : Core). IsAble a c) made may.able;
     }
 
-pub ready_at_place : (old new : List (ℕ × Option Part)) (p q edt : ℕ) (payloads : List ℕ) → p ≡ q → PutReady old new p edt payloads → PutReady old new q edt payloads
-ready_at_place old new p q edt payloads is ready = subst (λ (n : ℕ). PutReady old new n edt payloads) is ready
+pub ready_at_place : (old new : List (ℕ × Option Part)) (p q edt : ℕ) (payloads : List ℕ) → p ≡ q → PutAs ready_with old new p edt payloads → PutAs ready_with old new q edt payloads
+ready_at_place old new p q edt payloads is ready = subst (λ (n : ℕ). PutAs ready_with old new n edt payloads) is ready

@@ -36,7 +36,6 @@ use Rattle.ocr_clerks.proofs.Seen.{core_apart, core_is}
 use Rattle.ocr_parking.proofs.Parked.{has_claim}
 use Rattle.ocr_waking.specs.Meeting.{HoldsCore, next_by}
 use Rattle.ocr_waking.specs.Rounds.{GaveFaces, HasFace, HoldsAwake, IsWanted, PlansNext, name_in}
-use Rattle.ocr_readying.specs.Readying.{PutReady}
 use Rattle.ocr_waking.specs.Waking.{KeepsFace, Learns}
 use Rattle.ocr_waking.proofs.Acts.{filled_known}
 use Rattle.ocr_waking.proofs.Awake.{IsReadyIn, early, edt_face, other_object, unstarted_is, none_own}
@@ -194,12 +193,6 @@ after_wants table program edt d payloads known old new work sees plans same tabl
     )
 
 -- WHERE NONE COMES NEXT it may start
-put_at : (n : ℕ) (i : Option Part) (x : Part) (rest : List (ℕ × Option Part)) → replace n (Some x) (replace n None ((n, i) ∷ rest)) ≡ (n, Some x) ∷ rest
-put_at n i x rest = ap (replace n (Some x)) (put_first n i None rest) ∙ put_first n None (Some x) rest
-  where
-    put_first : (n : ℕ) (i a : Option Part) (rest : List (ℕ × Option Part)) → replace n a ((n, i) ∷ rest) ≡ (n, a) ∷ rest
-    put_first n i a rest = rw (number_same n) refl
-
 now_acquiring : (e : Edt) (members : List (ℕ × Mode)) → nat_lt 1 (mark_in e).0 ≡ false → (mark_in e).1 ≡ false → awaits_in e ≡ None → is_acquiring_edt (made_ready members e) ≡ true
 now_acquiring (phase.Filling i) members below found awake = refl
 now_acquiring (phase.Acquiring s) members below found awake = refl
@@ -207,27 +200,21 @@ now_acquiring (phase.Waiting s) members below found awake = let lost : not (is_s
 now_acquiring (phase.Running s) members below found awake = cc below
 now_acquiring (phase.Ended i) members below found awake = cc below
 
-pub can_run : (table : OcrTable) (program : Checked) (edt : ℕ) (payloads : List ℕ) (old new : OcrKnown) → AtWork table program old → Sees meaning old.view → PlansNext table.1 edt payloads None old → new.view ≡ old.view
-    → PutReady old.parts new.parts (table.1.limit + edt) edt payloads → CanRun table.1 edt payloads new
-can_run table program edt payloads old new work sees plans same ready =
+pub can_run : (table : OcrTable) (program : Checked) (edt : ℕ) (payloads : List ℕ) (c : OcrKnown) → AtWork table program c → Sees meaning c.view → PlansNext table.1 edt payloads None c → CanRun table.1 edt payloads c
+can_run table program edt payloads c work sees plans =
     let t = table.1 in let k = plans.knows in let m = k.face in
-    let shown = shown_taken table program old edt work m.taken sees in let J = shown.history in
-    let off = unstarted_is t J old.view edt (shown.fits.claims edt (has_claim edt old.view.claims m.taken.claims)) (none_own old.view.log edt m.unstarted) m.unbegun in
-    let stage = early t J old.view edt shown.fits shown.set 0 m.core m.taken.number (ap (λ (l : List (ℕ × Part)). get_elem? l 0) m.kept) off in
-    let put_core : ready.core ≡ m.core = ap (λ (x : Part). core_on x ready.core) (item_same (part.Core ready.core) (part.Core m.core) (sym ready.core_there ∙ core_there t edt old m)) in
-    let put_slots : ready.slots ≡ m.slots = edt_same ready.slots m.slots (item_same (part.Edt ready.slots) (part.Edt m.slots) (sym ready.face_there ∙ face_there t edt old m)) in
+    let shown = shown_taken table program c edt work m.taken sees in let J = shown.history in
+    let off = unstarted_is t J c.view edt (shown.fits.claims edt (has_claim edt c.view.claims m.taken.claims)) (none_own c.view.log edt m.unstarted) m.unbegun in
+    let stage = early t J c.view edt shown.fits shown.set 0 m.core m.taken.number (ap (λ (l : List (ℕ × Part)). get_elem? l 0) m.kept) off in
     record {
-      taken = taken_on_still t edt old new old.view.parts m.taken same;
+      taken = m.taken;
       core = m.core;
       slots = m.slots;
-      kept = ap (λ (v : OcrView). v.parts) same ∙ m.kept;
-      hand = ready.ready
-          ∙ (ap (λ (l : List (ℕ × Option Part)). replace (t.limit + edt) (Some (part.Core (ready_with ready.slots payloads ready.core))) (replace (t.limit + edt) None l)) m.hand
-          ∙ (put_at (t.limit + edt) (Some (part.Core m.core)) (part.Core (ready_with ready.slots payloads ready.core)) ((edt, Some (part.Edt m.slots)) ∷ [])
-          ∙ (λ i. (t.limit + edt, Some (part.Core (ready_with (put_slots i) payloads (put_core i)))) ∷ (edt, Some (part.Edt m.slots)) ∷ [])));
-      unstarted = ap (λ (v : OcrView). is_among (λ e. is_own e edt) (entries v.log)) same ∙ m.unstarted;
+      kept = m.kept;
+      hand = m.hand;
+      unstarted = m.unstarted;
       count = k.count;
-      facts = subst (λ (v : OcrView). KnowsPayloads v edt payloads) (sym same) k.facts;
+      facts = k.facts;
       acquiring = now_acquiring m.core.edt (plan_from m.slots payloads) stage.0 stage.1 m.awake;
       through = name_none (next_by m.core m.slots payloads) plans.next_is;
     }

@@ -19,7 +19,7 @@ use ocr_clerks::{Gate, Job, Ocr, Over, close_memory, give_faces, take_part};
 use ocr_guid::Guid;
 use ocr_parking::park_edt;
 use ocr_parts::Part;
-use ocr_readying::{next_with, put_ready};
+use ocr_readying::next_with;
 use ocr_turns::Clerk;
 use std::alloc::Global;
 use std::sync::Wait;
@@ -216,10 +216,6 @@ pub(crate) fn face_round<R: Wait, G: Gate>(
         give_faces(job.turns, job.program, clerk, edt, &[edt.0]);
         return Ok(Step::Next(Some(block)));
     }
-    let place = job.turns.limit() + edt.0;
-    let Ok(()) = put_ready(alloc, clerk, place, edt, known) else {
-        return Err(close_memory(job, worker, clerk));
-    };
     Ok(Step::Ready(payloads))
 }
 

@@ -52,5 +52,5 @@ returns-clause-ready c =
       slots = b.slots;
       core_there = e.part ∙ ap (λ (x : Part). Some (Some x)) c.in-Core.is;
       face_there = b.face_there;
-      ready = q.parts ∙ (ap (λ (l : List (ℕ × Option Part)). replace c.args.place (Some (part.Core c.ready_core.new.core)) l) e.parts ∙ ap (λ k. replace c.args.place (Some (part.Core k)) (replace c.args.place None c.args.clerk.now.parts)) core);
+      put = q.parts ∙ (ap (λ (l : List (ℕ × Option Part)). replace c.args.place (Some (part.Core c.ready_core.new.core)) l) e.parts ∙ ap (λ k. replace c.args.place (Some (part.Core k)) (replace c.args.place None c.args.clerk.now.parts)) core);
     }

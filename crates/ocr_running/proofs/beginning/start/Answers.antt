@@ -5,37 +5,32 @@ use Rattle.ocr_facts.specs.Clerks.{IsStep}
 use Rattle.ocr_parts.specs.declared.part.Part.TheVariants as part
 use Rattle.ocr_clerks.specs.Work.{KeepsFaces, in_hand, ready_with}
 use Rattle.ocr_running.proofs.Back.{has_taken, keeps_faces}
-use Rattle.ocr_running.proofs.Started.{begun, begun_leaves, face_within, started_at_hand, started_can, started_kept, started_step, started_work}
+use Rattle.ocr_running.proofs.Started.{begun, begun_leaves, can_put, face_within, started_at_hand, started_can, started_kept, started_step, started_work}
 use Rattle.ocr_running.proofs.beginning.start.Goals as goal
 
-pub start_core-requires : goal.start_core-requires
-start_core-requires g c =
-    let r = c.requires.1.1 in let can = r.1.1 in let place : c.limit.result + c.edt.inside.0 ≡ c.args.job.now.turns.now.1.limit + c.args.edt = λ i. c.limit.ensures i + c.edt.view_is i in (
-      ready_with can.slots c.args.payloads.now can.core,
-      (c.args.edt, Some (part.Edt can.slots)) ∷ [],
-      subst (λ (n : ℕ). c.args.clerk.now.parts ≡ (n, Some (part.Core (ready_with can.slots c.args.payloads.now can.core))) ∷ (c.args.edt, Some (part.Edt can.slots)) ∷ []) (sym place) can.hand,
-      can.acquiring,
-      can.through,
-    )
+pub put_started-requires : goal.put_started-requires
+put_started-requires g c =
+    let r = c.requires.1.1 in let table = c.args.job.now.turns.now in
+    record { can = can_put table c.args.job.now.program.now c.args.edt c.args.payloads.now c.args.clerk.now r.1.0 r.1.1 (c.limit.result + c.edt.inside.0) (λ i. c.limit.ensures i + c.edt.view_is i) }
 
 pub enter_at_hand-requires : goal.enter_at_hand-requires
 enter_at_hand-requires g c κs within =
     let r = c.requires.1.1 in let table = c.args.job.now.turns.now in let program = c.args.job.now.program.now in let edt = c.args.edt in let paid = c.args.payloads.now in let old = c.args.clerk.now in
-    let mid = c.start_core.new.clerk in let place = c.limit.result + c.edt.inside.0 in
+    let mid = c.put_started.new.clerk in let place = c.limit.result + c.edt.inside.0 in
     let at : place ≡ table.1.limit + edt = λ i. c.limit.ensures i + c.edt.view_is i in
-    let steps = c.start_core.ensures in
+    let same = c.in-Ok.ensures.same in let put = c.in-Ok.ensures.started in
     let none = c.new.ensures.items in (
       within.0,
       (
         within.1,
         (
-          started_work table program edt paid old mid g.h r.1.0 r.1.1 r.0 place at steps,
+          started_work table program edt paid old mid g.h r.1.0 r.1.1 r.0 place at same put,
           (
-            started_at_hand table program edt paid old mid g.h r.1.0 r.1.1 r.0 place at steps,
+            started_at_hand table program edt paid old mid g.h r.1.0 r.1.1 r.0 place at same put,
             (
-              started_can table program edt paid old mid g.h r.1.0 r.1.1 r.0 place at steps,
+              started_can table program edt paid old mid g.h r.1.0 r.1.1 r.0 place at same put,
               (
-                subst (λ (l : List What). IsStep table.1.limit (Start edt) g.h.members g.h.parts (in_hand mid.parts) l) (sym none) (started_step table program edt paid old mid g.h r.1.0 r.1.1 r.0 place at steps),
+                subst (λ (l : List What). IsStep table.1.limit (Start edt) g.h.members g.h.parts (in_hand mid.parts) l) (sym none) (started_step table program edt paid old mid g.h r.1.0 r.1.1 r.0 place at same put),
                 (let l = ap (λ (l : List What). length l) none in omega (arith, l)),
               ),
             ),
@@ -48,14 +43,14 @@ pub give_faces-requires-clause-taken : goal.give_faces-requires-clause-taken
 give_faces-requires-clause-taken g c =
     let r = c.requires.1.1 in let table = c.args.job.now.turns.now in let program = c.args.job.now.program.now in let edt = c.args.edt in let paid = c.args.payloads.now in let old = c.args.clerk.now in let new = c.enter_at_hand.new.clerk in
     let at : c.limit.result + c.edt.inside.0 ≡ table.1.limit + edt = λ i. c.limit.ensures i + c.edt.view_is i in
-    let kept = started_kept table program edt paid old c.start_core.new.clerk g.h r.1.0 r.1.1 r.0 (c.limit.result + c.edt.inside.0) at c.start_core.ensures new c.in_ok-enter_at_hand.ensures.entered in
+    let kept = started_kept table program edt paid old c.put_started.new.clerk g.h r.1.0 r.1.1 r.0 (c.limit.result + c.edt.inside.0) at c.in-Ok.ensures.same c.in-Ok.ensures.started new c.in_ok-enter_at_hand.ensures.entered in
     has_taken table.1 edt _ new (edt ∷ []) (begun_leaves table program edt paid old new g.h r.1.0 r.1.1 r.0 kept)
 
 pub give_faces-requires-clause-keeps : goal.give_faces-requires-clause-keeps
 give_faces-requires-clause-keeps g c =
     let r = c.requires.1.1 in let table = c.args.job.now.turns.now in let program = c.args.job.now.program.now in let edt = c.args.edt in let paid = c.args.payloads.now in let old = c.args.clerk.now in let new = c.enter_at_hand.new.clerk in
     let at : c.limit.result + c.edt.inside.0 ≡ table.1.limit + edt = λ i. c.limit.ensures i + c.edt.view_is i in
-    let kept = started_kept table program edt paid old c.start_core.new.clerk g.h r.1.0 r.1.1 r.0 (c.limit.result + c.edt.inside.0) at c.start_core.ensures new c.in_ok-enter_at_hand.ensures.entered in
+    let kept = started_kept table program edt paid old c.put_started.new.clerk g.h r.1.0 r.1.1 r.0 (c.limit.result + c.edt.inside.0) at c.in-Ok.ensures.same c.in-Ok.ensures.started new c.in_ok-enter_at_hand.ensures.entered in
     subst (λ (ns : List ℕ). KeepsFaces table.1 edt ns new) (sym (ap (λ (n : ℕ). n ∷ []) c.edt.view_is))
     (keeps_faces table.1 edt _ new (edt ∷ []) (begun_leaves table program edt paid old new g.h r.1.0 r.1.1 r.0 kept) (face_within table program edt paid old new g.h r.1.0 r.1.1 r.0 kept))
 
@@ -63,5 +58,5 @@ pub returns-clause-begun : goal.returns-clause-begun
 returns-clause-begun g c =
     let r = c.requires.1.1 in let table = c.args.job.now.turns.now in let program = c.args.job.now.program.now in let edt = c.args.edt in let paid = c.args.payloads.now in let old = c.args.clerk.now in let new = c.enter_at_hand.new.clerk in
     let at : c.limit.result + c.edt.inside.0 ≡ table.1.limit + edt = λ i. c.limit.ensures i + c.edt.view_is i in
-    let kept = started_kept table program edt paid old c.start_core.new.clerk g.h r.1.0 r.1.1 r.0 (c.limit.result + c.edt.inside.0) at c.start_core.ensures new c.in_ok-enter_at_hand.ensures.entered in
+    let kept = started_kept table program edt paid old c.put_started.new.clerk g.h r.1.0 r.1.1 r.0 (c.limit.result + c.edt.inside.0) at c.in-Ok.ensures.same c.in-Ok.ensures.started new c.in_ok-enter_at_hand.ensures.entered in
     begun table program edt paid old new g.h r.1.0 r.1.1 r.0 kept c.give_faces.new.clerk c.give_faces.ensures.view c.give_faces.ensures.hand

@@ -1,9 +1,7 @@
-use Rattle.std.proofs.Common.{◌≡◌, ◌+◌, ◌∙◌, ◌∷◌, [], ℕ, List, Option, Some, None, refl, ap, subst}
+use Rattle.std.proofs.Common.{◌≡◌, ◌+◌, ◌∙◌, ◌∷◌, [], ℕ, List, Option, Some, None, refl, ap, subst, sym}
 use Rattle.ocr_clerks.specs.Entering.{OcrKnown}
 use Rattle.ocr_clerks.specs.Work.{CanRun, Took}
 use Rattle.ocr_waking.specs.Rounds.{PlansNext}
-use Rattle.ocr_readying.specs.Readying.{PutReady}
-use Rattle.ocr_waking.proofs.Carries.{ready_at_place}
 use Rattle.ocr_waking.proofs.Faces.{after_wants, can_run, faced}
 use Rattle.ocr_waking.proofs.Holding.{core_can, take_ready}
 use Rattle.ocr_waking.proofs.rounds.face_round.Goals as goal
@@ -29,11 +27,8 @@ returns-in-Some-clause-after g c =
 pub returns-clause-after : goal.returns-clause-after
 returns-clause-after g c =
     let table = c.args.job.now.turns.now in let e = c.in_ok-payloads.ensures in let known = c.read_face.new.clerk in let payloads = c.as_slice-known.result.now in
-    let new = c.put_ready.new.clerk in let same = c.in_ok-next.ensures.same in
     let plans : PlansNext table.1 c.args.edt payloads None known =
     subst (λ (o : Option ℕ). PlansNext table.1 c.args.edt payloads o known) (none_is c.in_ok-next.next (λ x is. c.in_default.not-Some x is)) c.in_ok-next.ensures.next in
-    let ready : PutReady c.plan_next.new.clerk.parts new.parts (table.1.limit + c.args.edt) c.args.edt payloads =
-    ready_at_place c.plan_next.new.clerk.parts new.parts (c.limit.result + c.edt-2.inside.0) (table.1.limit + c.args.edt) c.args.edt payloads (λ i. c.limit.ensures i + c.edt-2.view_is i) c.in-Ok.ensures.ready in
-    subst (λ (l : List ℕ). CanRun table.1 c.args.edt l new) c.as_slice-known.ensures.value
-    (can_run table c.args.job.now.program.now c.args.edt payloads known new e.work e.sees plans (c.in-Ok.ensures.same.1 ∙ ap (λ (x : OcrKnown). x.view) same)
-    (subst (λ (x : OcrKnown). PutReady x.parts new.parts (table.1.limit + c.args.edt) c.args.edt payloads) same ready))
+    subst (λ (x : OcrKnown). CanRun table.1 c.args.edt c.payloads.items x) (sym c.in_ok-next.ensures.same)
+    (subst (λ (l : List ℕ). CanRun table.1 c.args.edt l known) c.as_slice-known.ensures.value
+    (can_run table c.args.job.now.program.now c.args.edt payloads known e.work e.sees plans))
