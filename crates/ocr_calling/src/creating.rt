@@ -15,7 +15,7 @@ ghost use Rattle.ocr_running.specs.Running.{IsCalled, IsPushed, Runs, holds_at, 
 ghost use Rattle.ocr_running.specs.Serving.{own_log};
 
 use crate::asking::home_for;
-use crate::copying::{answer_of, copied};
+use crate::copying::answer_of;
 use ocr_base::{NoMemory, Seq};
 use ocr_clerks::{
     Gate, Job, Ocr, Over, close_memory, draw_number, enter_at_hand, give_faces, take_part,
@@ -25,7 +25,7 @@ use ocr_guid::{Code, Guid};
 use ocr_history::{Entry, Writes};
 use ocr_meaning::{Answer, Call};
 use ocr_parts::{BoxedCore, Core, Loans, Part};
-use ocr_running::{core_at, settle};
+use ocr_running::{copied_words, core_at, settle};
 use ocr_slots::Slots;
 use ocr_steal::Hand;
 use ocr_template::{Template, counts};
@@ -263,8 +263,8 @@ fn put_new(
 {
     let face = Slots::new(alloc, slots)?;
     let core = BoxedCore::new(alloc, new_core(alloc, new, bare, function)?)?;
-    set_part(clerk, new, Part::Edt(face));
-    set_part(clerk, limit + new, Part::Core(core));
+    drop(clerk.exchange(new, Part::Edt(face)));
+    drop(clerk.exchange(limit + new, Part::Core(core)));
     Ok(())
 }
 
@@ -272,27 +272,13 @@ fn put_new(
 fn new_core(alloc: Global, new: u64, bare: &Bare<'_>, function: u32) -> Result<Core, NoMemory>
     ensures { IfOk result (λ core. core ≡ bare_core new bare.now function) }
 {
-    let Ok(params) = Vec::from_slice(alloc, bare.params.as_slice()) else {
-        return Err(NoMemory);
-    };
     let filling = Filling::new(Guid(new), Guid::NULL, Guid::NULL, false);
     Ok(Core {
         function,
-        params: Seq::from_vec(params),
+        params: Seq::from_vec(copied_words(alloc, bare.params.as_slice())?),
         edt: Edt::Filling(filling),
         loans: Loans::new(alloc),
     })
-}
-
-// Puts a part in the place of the one that stands there.
-fn set_part(clerk: &mut Clerk<Ocr>, place: u64, part: Part)
-    requires { (x : Part) × (find place clerk.old.parts ≡ Some (Some x)) }
-    ensures parts { clerk.new.parts ≡ replace place (Some part) clerk.old.parts }
-    ensures rest { (clerk.new.table ≡ clerk.old.table) × (clerk.new.view ≡ clerk.old.view)
-        × SameRoom clerk.old clerk.new }
-{
-    drop(clerk.lift(place));
-    clerk.put(place, part);
 }
 
 // Puts the parts of the new EDT at their places, enters the creation, and settles what it leaves.
@@ -334,7 +320,7 @@ fn enter_new<R: Wait, G: Gate>(
     let Ok(()) = put_new(alloc, clerk, limit, new, bare, made.function, slots) else {
         return Err(close_memory(job, worker, clerk));
     };
-    let Ok(entry) = new_entry(alloc, edt, call, new) else {
+    let Ok(entry) = new_entry(alloc, edt, bare, new) else {
         return Err(close_memory(job, worker, clerk));
     };
     enter_at_hand(alloc, job, worker, clerk, entry, Vec::new(alloc))?;
@@ -343,13 +329,23 @@ fn enter_new<R: Wait, G: Gate>(
     settle(alloc, job, worker, clerk, hand, edt, one, &[], &places)
 }
 
-fn new_entry(alloc: Global, edt: Guid, call: &Call, new: u64) -> Result<Entry, NoMemory>
-    ensures { IfOk result (λ entry. entry ≡ made_entry edt call.now new) }
+// The entry of the creation.
+fn new_entry(alloc: Global, edt: Guid, bare: &Bare<'_>, new: u64) -> Result<Entry, NoMemory>
+    ensures { IfOk result (λ entry. entry ≡ made_entry edt (call_of bare.now) new) }
 {
+    let call = Call::EdtCreate {
+        template: bare.template,
+        paramc: bare.paramc,
+        params: Seq::from_vec(copied_words(alloc, bare.params.as_slice())?),
+        depc: bare.depc,
+        deps: Seq::new(alloc),
+        flags: 0,
+        output: false,
+    };
     Ok(Entry::Call {
         edt,
         home: Guid::NULL,
-        call: copied(call)?,
+        call,
         answer: new_answer(new),
         writes: Writes::none(alloc),
     })

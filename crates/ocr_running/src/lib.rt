@@ -3,6 +3,7 @@
 
 mod accessing;
 mod beginning;
+mod copying;
 mod ending;
 mod listing;
 mod loading;
@@ -14,6 +15,7 @@ mod storing;
 
 pub use accessing::{Refusal, core_at};
 pub use beginning::start;
+pub use copying::copied_words;
 pub use ending::end;
 pub use listing::listed_writes;
 pub use loading::load;

@@ -17,7 +17,7 @@ use ocr_clerks::{Gate, Job, Ocr, Over, close_memory};
 use ocr_edt::{Edt, Running};
 use ocr_guid::Guid;
 use ocr_parts::{Core, Part};
-use ocr_running::{core_at, start};
+use ocr_running::{copied_words, core_at, start};
 use ocr_slots::Slots;
 use ocr_turns::Clerk;
 use std::alloc::Global;
@@ -123,12 +123,9 @@ fn read_given(
         unreachable!()
     };
     let depv = values(alloc, running, used, payloads)?;
-    let Ok(params) = Vec::from_slice(alloc, core.params.as_slice()) else {
-        return Err(NoMemory);
-    };
     Ok(Given {
         function: core.function,
-        params,
+        params: copied_words(alloc, core.params.as_slice())?,
         depv,
         begun: Snapshot::of(clerk),
     })

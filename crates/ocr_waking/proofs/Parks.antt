@@ -68,7 +68,7 @@ module _ (t : OcrTerms) (edt d : ℕ) (first : Bool) (payloads : List ℕ) (a : 
         slots = k.slots;
         core_there = core_found t edt d first old k.three off wd;
         face_there = face_found t edt d first old k.three off wd ∙ ap (λ (x : Part). Some (Some x)) k.face_is;
-        ready = refl;
+        put = refl;
       })
       (ap (λ (l : List ℕ). (t.limit + edt) ∷ l) (pair_places first edt d))
 

@@ -58,6 +58,7 @@ pub fn wake<R: Wait, G: Gate>(
     rounds(alloc, job, worker, clerk, edt)
 }
 
+// The rounds of an EDT whose core is kept.
 #[tactic(auto, using(crate::proofs::Holding::waited_after))]
 fn rounds<R: Wait, G: Gate>(
     alloc: Global,
@@ -73,7 +74,32 @@ fn rounds<R: Wait, G: Gate>(
     ensures awoken { IfOk result (λ w. IsAwoken job.now.turns.now.1 edt w clerk.old clerk.new) }
     ensures gone { OnErr result (IsGone job.now.turns.now worker clerk.new) }
 {
-    let mut wanted = None;
+    // Most EDTs start at the first round, and a loop that may go on for ever costs more to begin.
+    match round(alloc, job, worker, clerk, edt, None)? {
+        Step::Ready(payloads) => Ok(Woken::Ready(payloads)),
+        Step::Parked => Ok(Woken::Parked),
+        Step::Next(wanted) => further_rounds(alloc, job, worker, clerk, edt, wanted),
+    }
+}
+
+// The rounds after the first, which told what the EDT acquires next.
+#[tactic(auto, using(crate::proofs::Holding::waited_after))]
+fn further_rounds<R: Wait, G: Gate>(
+    alloc: Global,
+    job: &Job<R, G>,
+    worker: u32,
+    clerk: &mut Clerk<Ocr>,
+    edt: Guid,
+    mut wanted: Option<Guid>,
+) -> Result<Woken, Over>
+    requires work { AtWork job.now.turns.now job.now.program.now clerk.old }
+    requires holds { HoldsCore job.now.turns.now.1 edt clerk.old }
+    requires wanted { IsWantedIf job.now.turns.now.1 edt wanted clerk.old }
+    ensures stays { Stays clerk.old clerk.new }
+    ensures work { OnOk result (AtWork job.now.turns.now job.now.program.now clerk.new) }
+    ensures awoken { IfOk result (λ w. IsAwoken job.now.turns.now.1 edt w clerk.old clerk.new) }
+    ensures gone { OnErr result (IsGone job.now.turns.now worker clerk.new) }
+{
     for _ in job.rt.forever() {
         match round(alloc, job, worker, clerk, edt, wanted)? {
             Step::Ready(payloads) => return Ok(Woken::Ready(payloads)),

@@ -46,7 +46,7 @@ enter_at_hand-requires g c κs within =
     let hand = subst (λ (k : OcrKnown). HasAtHand t a.edt g.s.1.0 k (a.bare.now.template ∷ a.new ∷ (t.limit + a.new) ∷ []) (a.new ∷ [])) r.0 r.1.1.1.1.1.1.1.1.0 in
     let found = subst (λ (k : OcrKnown). find a.bare.now.template k.parts ≡ Some (Some (part.Template a.made.now))) r.0 r.1.1.1.1.1.1.1.1.1.0 in
     let put = subst (λ (k : ℕ). IsMadeOf k a.new a.bare.now a.made.now.function a.slots a.clerk.now.parts c.put_new.new.clerk.parts) c.limit-limit.ensures c.in-Ok.ensures.parts in
-    let e_is : c.in-Ok-new_entry.entry ≡ made_entry a.edt (call_of a.bare.now) a.new = c.in-Ok-new_entry.ensures ∙ ap (λ (k : body.Call). made_entry a.edt k a.new) r.1.1.1.1.0 in
+    let e_is : c.in-Ok-new_entry.entry ≡ made_entry a.edt (call_of a.bare.now) a.new = c.in-Ok-new_entry.ensures in
     let none = c.new.ensures.items in let rest = c.put_new.ensures.rest in (
       within.0,
       (
@@ -78,7 +78,7 @@ settle-requires g c κs within =
     let hand = subst (λ (k : OcrKnown). HasAtHand t a.edt g.s.1.0 k (a.bare.now.template ∷ a.new ∷ (t.limit + a.new) ∷ []) (a.new ∷ [])) r.0 r.1.1.1.1.1.1.1.1.0 in
     let found = subst (λ (k : OcrKnown). find a.bare.now.template k.parts ≡ Some (Some (part.Template a.made.now))) r.0 r.1.1.1.1.1.1.1.1.1.0 in
     let put = subst (λ (k : ℕ). IsMadeOf k a.new a.bare.now a.made.now.function a.slots a.clerk.now.parts c.put_new.new.clerk.parts) c.limit-limit.ensures c.in-Ok.ensures.parts in
-    let e_is : c.in-Ok-new_entry.entry ≡ made_entry a.edt (call_of a.bare.now) a.new = c.in-Ok-new_entry.ensures ∙ ap (λ (k : body.Call). made_entry a.edt k a.new) r.1.1.1.1.0 in
+    let e_is : c.in-Ok-new_entry.entry ≡ made_entry a.edt (call_of a.bare.now) a.new = c.in-Ok-new_entry.ensures in
     let done = subst (λ (k : OcrKnown). EntersAs t c.put_new.new.clerk c.enter_at_hand.new.clerk (made_entry a.edt (call_of a.bare.now) a.new) (record { members = []; parts = in_hand k.parts })) r.0
     (subst (λ (e : Entry). EntersAs t c.put_new.new.clerk c.enter_at_hand.new.clerk e (record { members = []; parts = in_hand g.s.1.1.parts })) e_is c.in_ok-enter_at_hand.ensures.entered) in
     let e = c.in_ok-enter_at_hand.ensures in (
@@ -106,7 +106,7 @@ returns-clause-called g c =
     let hand = subst (λ (k : OcrKnown). HasAtHand t a.edt g.s.1.0 k (a.bare.now.template ∷ a.new ∷ (t.limit + a.new) ∷ []) (a.new ∷ [])) r.0 r.1.1.1.1.1.1.1.1.0 in
     let found = subst (λ (k : OcrKnown). find a.bare.now.template k.parts ≡ Some (Some (part.Template a.made.now))) r.0 r.1.1.1.1.1.1.1.1.1.0 in
     let put = subst (λ (k : ℕ). IsMadeOf k a.new a.bare.now a.made.now.function a.slots a.clerk.now.parts c.put_new.new.clerk.parts) c.limit-limit.ensures c.in-Ok.ensures.parts in
-    let e_is : c.in-Ok-new_entry.entry ≡ made_entry a.edt (call_of a.bare.now) a.new = c.in-Ok-new_entry.ensures ∙ ap (λ (k : body.Call). made_entry a.edt k a.new) r.1.1.1.1.0 in
+    let e_is : c.in-Ok-new_entry.entry ≡ made_entry a.edt (call_of a.bare.now) a.new = c.in-Ok-new_entry.ensures in
     let done = subst (λ (k : OcrKnown). EntersAs t c.put_new.new.clerk c.enter_at_hand.new.clerk (made_entry a.edt (call_of a.bare.now) a.new) (record { members = []; parts = in_hand k.parts })) r.0
     (subst (λ (e : Entry). EntersAs t c.put_new.new.clerk c.enter_at_hand.new.clerk e (record { members = []; parts = in_hand g.s.1.1.parts })) e_is c.in_ok-enter_at_hand.ensures.entered) in
     subst (λ (k : body.Call). OnOk c.settle.result (IsCalled a.edt k (made_answer a.new) g.s.1.0 c.settle.new.clerk)) (sym r.1.1.1.1.0)

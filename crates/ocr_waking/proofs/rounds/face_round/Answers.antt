@@ -29,6 +29,6 @@ returns-clause-after g c =
     let table = c.args.job.now.turns.now in let e = c.in_ok-payloads.ensures in let known = c.read_face.new.clerk in let payloads = c.as_slice-known.result.now in
     let plans : PlansNext table.1 c.args.edt payloads None known =
     subst (λ (o : Option ℕ). PlansNext table.1 c.args.edt payloads o known) (none_is c.in_ok-next.next (λ x is. c.in_default.not-Some x is)) c.in_ok-next.ensures.next in
-    subst (λ (x : OcrKnown). CanRun table.1 c.args.edt c.payloads.items x) (sym c.in_ok-next.ensures.same)
+    subst (λ (x : OcrKnown). CanRun table.1 c.args.edt c.in_ok-payloads.payloads.items x) (sym c.in_ok-next.ensures.same)
     (subst (λ (l : List ℕ). CanRun table.1 c.args.edt l known) c.as_slice-known.ensures.value
     (can_run table c.args.job.now.program.now c.args.edt payloads known e.work e.sees plans))

@@ -1,5 +1,5 @@
 use Rattle.ocr_clerks.proofs.Going.{stays_both}
-use Rattle.ocr_waking.proofs.waking.rounds.Goals as goal
+use Rattle.ocr_waking.proofs.waking.further_rounds.Goals as goal
 
 pub returns-in_err-payloads-clause-stays : goal.returns-in_err-payloads-clause-stays
 returns-in_err-payloads-clause-stays g c = stays_both c.args.clerk.now c.loop.clerk c.round.new.clerk c.loop.invariant.5 c.round.ensures.stays

@@ -1,7 +1,7 @@
 use Rattle.ocr_clerks.specs.Work.{AtWork, Stays}
 use Rattle.ocr_waking.specs.Meeting.{HoldsCore}
 use Rattle.ocr_waking.specs.Rounds.{IsWantedIf}
-use Rattle.ocr_waking.proofs.waking.rounds.Given as goal
+use Rattle.ocr_waking.proofs.waking.further_rounds.Given as goal
 
 abbrev pub invariant-loop : goal.invariant-loop
 invariant-loop g l =
