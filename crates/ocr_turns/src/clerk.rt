@@ -111,6 +111,20 @@ impl<M: Machine> Clerk<M> {
     {
         drop(swap_part(&mut self.parts, place, Some(part)));
     }
+
+    /// Puts another part where one stands at hand, and hands out the one that stood there.
+    pub fn exchange(&mut self, place: u64, part: M::Part) -> M::Part
+        requires { (x : M.Part) × (find place self.old.parts ≡ Some (Some x)) }
+        ensures part { find place self.old.parts ≡ Some (Some result) }
+        ensures parts { self.new.parts ≡ replace place (Some part) self.old.parts }
+        ensures rest { (self.new.table ≡ self.old.table) × (self.new.view ≡ self.old.view)
+            × SameRoom self.old self.new }
+    {
+        match swap_part(&mut self.parts, place, Some(part)) {
+            Some(old) => old,
+            None => unreachable!(),
+        }
+    }
 }
 
 /// Where the place first stands.
