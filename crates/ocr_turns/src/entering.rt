@@ -1,5 +1,5 @@
 // Entering an entry that does not end the run.
-ghost use Rattle.std.specs.Prelude.{◌≡◌, ◌<◌, ◌≤◌, ◌+◌, ◌^◌, ◌++◌, ℕ, None, Some, vec_len, vec_capacity, length, IfOk};
+ghost use Rattle.std.specs.Prelude.{◌≡◌, ◌<◌, ◌≤◌, ◌+◌, ◌-◌, ◌^◌, ◌++◌, ℕ, None, Some, true, vec_len, vec_capacity, length, IfOk};
 ghost use Rattle.ocr_mail.specs.Mail as mail;
 ghost use Rattle.ocr_rule.specs.Steps as steps;
 ghost use Rattle.ocr_rule.specs.Clerks.{HasKeys, IsFirstNamed};
@@ -23,12 +23,28 @@ const LOG_STEP: usize = 16384;
 impl<M: Machine> Turns<M> {
     /// Room for one more entry, besides that for an entry that ends the run, and for so many
     /// messages.
+    #[inline(always)]
     pub fn reserve(
         &self,
         _alloc: Global,
         clerk: &mut Clerk<M>,
         messages: usize,
     ) -> Result<(), NoMemory>
+        ensures same { (clerk.new.table ≡ clerk.old.table) × (clerk.new.view ≡ clerk.old.view)
+            × (clerk.new.parts ≡ clerk.old.parts) × (clerk.new.spare ≡ clerk.old.spare) }
+        ensures grows { (clerk.old.room ≤ clerk.new.room) × (clerk.old.space ≤ clerk.new.space) }
+        ensures room { IfOk result (λ _. (2 ≤ clerk.new.room) × (messages ≤ clerk.new.space)) }
+    {
+        // Room that is there already costs a look at the capacities.
+        if has_room(&clerk.log, LOG_STEP) && has_room(&clerk.owed, messages) {
+            return Ok(());
+        }
+        self.reserve_more(clerk, messages)
+    }
+
+    // Room that is not there yet.
+    #[inline(never)]
+    fn reserve_more(&self, clerk: &mut Clerk<M>, messages: usize) -> Result<(), NoMemory>
         ensures same { (clerk.new.table ≡ clerk.old.table) × (clerk.new.view ≡ clerk.old.view)
             × (clerk.new.parts ≡ clerk.old.parts) × (clerk.new.spare ≡ clerk.old.spare) }
         ensures grows { (clerk.old.room ≤ clerk.new.room) × (clerk.old.space ≤ clerk.new.space) }
@@ -67,8 +83,7 @@ impl<M: Machine> Turns<M> {
         }
         let Change { parts, messages } = change;
         put_all(&mut clerk.parts, parts);
-        forget(&mut clerk.owed, delivered);
-        owe_all(&mut clerk.owed, found, messages);
+        owe_anew(&mut clerk.owed, delivered, found, messages);
         clerk.weight += weight;
         clerk.log.push_reserved((found, entry));
         Committed::At(found)
@@ -99,6 +114,14 @@ impl<M: Machine> Turns<M> {
     }
 }
 
+// Whether there is room for so many items more.
+#[inline(always)]
+fn has_room<T>(items: &Vec<T>, more: usize) -> bool
+    ensures { result ≡ true → more ≤ vec_capacity items.now - length items.now.items }
+{
+    items.capacity() - items.len() >= more
+}
+
 // Puts each part where its place stands.
 fn put_all<P: Drop>(hand: &mut Hand<P>, parts: Vec<(u64, P)>)
     requires { HasKeys parts.items hand.old.items }
@@ -110,8 +133,31 @@ fn put_all<P: Drop>(hand: &mut Hand<P>, parts: Vec<(u64, P)>)
     }
 }
 
-/// Owes a message no more.
-pub(crate) fn forget<N: Drop>(owed: &mut Vec<(u64, u32, N)>, delivered: Option<(u64, u32)>)
+/// Owes the delivered message no more, and those of the entry of this number.
+// Most entries deliver nothing and send nothing, and then neither call is made.
+#[inline(always)]
+pub(crate) fn owe_anew<N: Drop>(
+    owed: &mut Vec<(u64, u32, N)>,
+    delivered: Option<(u64, u32)>,
+    number: u64,
+    messages: Vec<N>,
+)
+    requires has { mail.Has delivered owed.old.items }
+    requires room { (length messages.items < 2 ^ 32)
+        × (length owed.old.items + length messages.items ≤ vec_capacity owed.old) }
+    ensures owed { owed.new.items ≡ mail.without delivered owed.old.items
+        ++ mail.named number 0 messages.items }
+{
+    if delivered.is_some() {
+        forget(owed, delivered);
+    }
+    if !messages.is_empty() {
+        owe_all(owed, number, messages);
+    }
+}
+
+// Owes a message no more.
+fn forget<N: Drop>(owed: &mut Vec<(u64, u32, N)>, delivered: Option<(u64, u32)>)
     requires { mail.Has delivered owed.old.items }
     ensures owed { owed.new.items ≡ mail.without delivered owed.old.items }
     ensures room { (vec_capacity owed.new ≡ vec_capacity owed.old)
@@ -141,8 +187,8 @@ fn is_named<N>(message: &(u64, u32, N), number: u64, index: u32) -> bool
     number == message.0 && index == message.1
 }
 
-/// Owes the messages of the entry of this number.
-pub(crate) fn owe_all<N: Drop>(owed: &mut Vec<(u64, u32, N)>, number: u64, messages: Vec<N>)
+// Owes the messages of the entry of this number.
+fn owe_all<N: Drop>(owed: &mut Vec<(u64, u32, N)>, number: u64, messages: Vec<N>)
     requires { (length messages.items < 2 ^ 32)
         × (length owed.old.items + length messages.items ≤ vec_capacity owed.old) }
     ensures owed { owed.new.items ≡ owed.old.items ++ mail.named number 0 messages.items }

@@ -6,7 +6,7 @@ ghost use Rattle.ocr_rule.specs.Contract.{CommitTells, IsOf, MayCommit};
 ghost use Rattle.ocr_turns.specs.Hand.{at_hand};
 
 use crate::clerk::{Clerk, Hand};
-use crate::entering::{forget, owe_all};
+use crate::entering::owe_anew;
 use crate::turns::{COMMIT, ENDED, Turns};
 use atomic_table::Seat;
 use ocr_rule::rule::{Commits, Told};
@@ -47,8 +47,7 @@ impl<M: Machine> Turns<M> {
             clerk.closed = Some(found);
             return Committed::Closed(found);
         }
-        forget(&mut clerk.owed, delivered);
-        owe_all(&mut clerk.owed, found, messages);
+        owe_anew(&mut clerk.owed, delivered, found, messages);
         clerk.weight += weight;
         clerk.log.push_reserved((found, entry));
         Committed::At(found)

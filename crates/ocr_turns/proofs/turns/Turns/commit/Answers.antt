@@ -37,7 +37,7 @@ invariant_of-clerk-2 g c =
     let d = deed m c.args.self.now.1.limit me.0 c.args.entry c.args.change.parts.items c.args.change.messages.items in
     let under : n < OPEN = omega (arith, c.if-found-ge-ENDED.false) in
     true_same (sym (tried_open m (logged me.0 n d) me c.step_commit-found.new.seat.me n c.step_commit-found.ensures.told under)) (sym c.push_reserved.ensures.items) refl (sym c.put_all.ensures.parts)
-    (sym (c.owe_all.ensures.owed ∙ ap (λ l. l ++ named n 0 c.args.change.messages.items) (c.forget.ensures.owed ∙ ap (λ o. without o c.clerk.inside.owed.items) c.delivers-delivered.ensures)))
+    (sym (c.owe_anew.ensures.owed ∙ ap (λ o. without o c.clerk.inside.owed.items ++ named n 0 c.args.change.messages.items) c.delivers-delivered.ensures))
     (ap (λ w. c.clerk.inside.weight + w) (sym c.weight-weight.ensures)) refl refl (logged_true c.clerk.invariant n d (tried_tells m (logged me.0 n d) me c.step_commit-found.new.seat.me n c.step_commit-found.ensures.told under).1)
 
 pub returns : goal.returns

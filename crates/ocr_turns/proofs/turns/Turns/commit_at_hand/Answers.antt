@@ -36,7 +36,7 @@ invariant_of-clerk-2 g c =
     let hand = ap (λ x. x.parts) c.clerk.view_is in
     true_same (sym (tried_open m (logged me.0 n d) me c.step_at_hand-found.new.seat.me n c.step_at_hand-found.ensures.told under)) (sym c.push_reserved.ensures.items) refl
     (subst (λ l. replace_all (as_some (at_hand l)) l ≡ l) (sym hand) c.requires.same)
-    (sym (c.owe_all.ensures.owed ∙ ap (λ l. l ++ named n 0 ms) (c.forget.ensures.owed ∙ ap (λ o. without o c.clerk.inside.owed.items) c.delivers-delivered.ensures)))
+    (sym (c.owe_anew.ensures.owed ∙ ap (λ o. without o c.clerk.inside.owed.items ++ named n 0 ms) c.delivers-delivered.ensures))
     (ap (λ w. c.clerk.inside.weight + w) (sym c.weight-weight.ensures)) refl refl (logged_true c.clerk.invariant n d (tried_tells m (logged me.0 n d) me c.step_at_hand-found.new.seat.me n c.step_at_hand-found.ensures.told under).1)
 
 pub returns : goal.returns
