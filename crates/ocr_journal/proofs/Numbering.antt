@@ -49,7 +49,7 @@ module _ {E : Type 0} where
   same_length logs a b one two = sym (by_number_count logs b two) ∙ by_number_count logs a one
 
   -- lists with the same at each place are one
-  same_places : (a b : List E) → length a ≡ length b → ((n : ℕ) (e : E) → get_elem? a n ≡ some e → get_elem? b n ≡ some e) → a ≡ b
+  pub same_places : (a b : List E) → length a ≡ length b → ((n : ℕ) (e : E) → get_elem? a n ≡ some e → get_elem? b n ≡ some e) → a ≡ b
   same_places [] [] len each = refl
   same_places [] (y ∷ ys) len each = absurd (omega (arith, len))
   same_places (x ∷ xs) [] len each = absurd (omega (arith, len))

@@ -19,3 +19,7 @@ module _ {E : Type 0} where
   abbrev pub HasEnd : ℕ → List (List (ℕ × E)) → Type 0
   HasEnd number logs = (j : ℕ) × (log : List (ℕ × E)) × (get_elem? logs j ≡ some log)
       × EndsAt number log
+
+  -- each entry of the log stands at its number
+  abbrev pub IsInOrder : List (ℕ × E) → Type 0
+  IsInOrder log = (k n : ℕ) (e : E) → get_elem? log k ≡ some (n, e) → n ≡ k

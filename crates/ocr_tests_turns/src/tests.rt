@@ -3,14 +3,18 @@ ghost use Rattle.std.specs.Prelude.{◌<◌};
 use crate::play::PLACES;
 use crate::{Entry, Plan, Ran, run};
 use ocr_base::NoMemory;
+use ocr_turns::Log;
 use std::alloc::Global;
 use std::sync::Wait;
 use std::test::Fail;
 use std::thread::Threads;
 
 // Puts each entry at its number. False where one stands there, or the number is too great.
-fn place_entries(history: &mut Vec<Option<Entry>>, log: Vec<(u64, Entry)>) -> bool {
-    for (number, entry) in log {
+fn place_entries(history: &mut Vec<Option<Entry>>, mut log: Log<Entry>) -> bool {
+    for _ in 0..log.len() {
+        let Some((number, entry)) = log.pop() else {
+            return false;
+        };
         let Some(slot) = history.get_mut(number as usize) else {
             return false;
         };
@@ -25,7 +29,7 @@ fn place_entries(history: &mut Vec<Option<Entry>>, log: Vec<(u64, Entry)>) -> bo
 // The entries by number, each once. None where the logs have other numbers.
 fn history_of(
     alloc: Global,
-    logs: Vec<Vec<(u64, Entry)>>,
+    logs: Vec<Log<Entry>>,
     entries: u64,
 ) -> Result<Option<Vec<Entry>>, NoMemory> {
     let mut slots = Vec::new(alloc);

@@ -6,7 +6,7 @@ ghost use Rattle.ocr_tests_turns.specs.Clerks.{IsIdle, IsOneRun, IsOut, IsRoot};
 use crate::play::{Job, Worked, work_all};
 use crate::toy::{Entry, Toy};
 use ocr_base::NoMemory;
-use ocr_turns::{Clerk, Turns};
+use ocr_turns::{Clerk, Log, Turns};
 use std::alloc::Global;
 use std::sync::Wait;
 use std::thread::Threads;
@@ -25,7 +25,7 @@ pub struct Plan {
 #[derive(Drop)]
 pub struct Ran {
     /// The logs of the root and of all clerks.
-    pub logs: Vec<Vec<(u64, Entry)>>,
+    pub logs: Vec<Log<Entry>>,
     pub entries: u64,
     /// How many messages no entry delivered.
     pub owed: usize,

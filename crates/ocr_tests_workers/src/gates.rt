@@ -116,12 +116,13 @@ impl Relay {
 
 impl Gate for Relay {
     fn pass<R: Wait>(&self, _rt: &R, worker: u32, clerk: &Clerk<Ocr>) {
-        match clerk.log().last() {
-            None => self.pass_idle(worker),
-            Some(last) => {
-                self.note(last.0, weight(&last.1));
-                self.pass_busy(worker as u64, clerk.log().len());
+        let log = clerk.log();
+        match (log.numbers().last(), log.entries().last()) {
+            (Some(number), Some(last)) => {
+                self.note(*number, weight(last));
+                self.pass_busy(worker as u64, log.len());
             }
+            _ => self.pass_idle(worker),
         }
     }
 }

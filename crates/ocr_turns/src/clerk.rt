@@ -7,6 +7,7 @@ ghost use Rattle.ocr_rule.specs.Clerks.{IsFirst};
 ghost use Rattle.ocr_rule.specs.Sums.{find, replace};
 ghost use Rattle.ocr_rule.specs.Contract.{SameRoom};
 
+use crate::log::Log;
 use atomic_table::Seat;
 use ocr_rule::{Machine, View};
 use std::marker::Model;
@@ -22,8 +23,8 @@ pub struct Clerk<M: Machine> {
         Option<M::Part>,
         View<M::Setting, M::Entry, M::Part, M::Message, M::Fact>,
     >,
-    pub(crate) log: Vec<(u64, M::Entry)>,
-    pub(crate) joined: Vec<Vec<(u64, M::Entry)>>,
+    pub(crate) log: Log<M::Entry>,
+    pub(crate) joined: Vec<Log<M::Entry>>,
     pub(crate) parts: Hand<M::Part>,
     pub(crate) owed: Vec<(u64, u32, M::Message)>,
     pub(crate) weight: u64,
@@ -44,7 +45,7 @@ impl<M: Machine> Model for Clerk<M> {
       table = c.seat.table_id;
       view = c.seat.me.0;
       parts = c.parts.items;
-      room = vec_capacity c.log - length c.log.items;
+      room = c.log.room;
       spare = vec_capacity c.parts - length c.parts.items;
       space = vec_capacity c.owed - length c.owed.items;
     } };
@@ -55,10 +56,10 @@ impl<M: Machine> Model for Clerk<M> {
 
 impl<M: Machine> Clerk<M> {
     /// Its entries with their numbers, in its order.
-    pub fn log(&self) -> &[(u64, M::Entry)]
-        ensures { result.now ≡ self.now.view.log }
+    pub fn log(&self) -> &Log<M::Entry>
+        ensures { result.now.items ≡ self.now.view.log }
     {
-        self.log.as_slice()
+        &self.log
     }
 
     /// What its log weighs.

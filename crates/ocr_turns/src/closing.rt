@@ -5,6 +5,7 @@ ghost use Rattle.ocr_rule.specs.Sums.{weigh_all};
 ghost use Rattle.ocr_rule.specs.Contract.{Finished, IsOf};
 
 use crate::clerk::Clerk;
+use crate::log::Log;
 use crate::turns::Turns;
 use atomic_table::Closed;
 use ocr_base::NoMemory;
@@ -15,7 +16,7 @@ use std::marker::Model;
 /// The logs of a table whose clerks have all come home: by number they are one run of the machine.
 #[derive(Drop)]
 pub struct Closing<M: Machine> {
-    logs: Vec<Vec<(u64, M::Entry)>>,
+    logs: Vec<Log<M::Entry>>,
     entries: u64,
 }
 
@@ -30,7 +31,7 @@ impl<M: Machine> Model for Closing<M> {
 impl<M: Machine> Closing<M> {
     /// The logs, the root's first and then those of the clerks in the order in which they were
     /// joined.
-    pub fn logs(self) -> Vec<Vec<(u64, M::Entry)>>
+    pub fn logs(self) -> Vec<Log<M::Entry>>
         ensures { map (λ l. l.items) result.items ≡ self.0 }
     {
         self.logs
@@ -76,7 +77,7 @@ impl<M: Machine> Turns<M> {
 }
 
 // How many entries the logs have in all.
-fn count_entries<E>(logs: &[Vec<(u64, E)>]) -> u64
+fn count_entries<E>(logs: &[Log<E>]) -> u64
     requires { weigh_all (λ _. 1) (map (λ l. l.items) logs.now) < 2 ^ 48 }
     ensures { result ≡ weigh_all (λ _. 1) (map (λ l. l.items) logs.now) }
 {

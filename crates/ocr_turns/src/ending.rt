@@ -28,7 +28,7 @@ impl<M: Machine> Turns<M> {
             clerk.closed = Some(found);
             return Committed::Closed(found);
         }
-        clerk.log.push_reserved((found, entry));
+        clerk.log.push_reserved(found, entry);
         Committed::At(found)
     }
 

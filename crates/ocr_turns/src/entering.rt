@@ -1,5 +1,5 @@
 // Entering an entry that does not end the run.
-ghost use Rattle.std.specs.Prelude.{◌≡◌, ◌<◌, ◌≤◌, ◌+◌, ◌-◌, ◌^◌, ◌++◌, ℕ, None, Some, true, vec_len, vec_capacity, length, IfOk};
+ghost use Rattle.std.specs.Prelude.{◌≡◌, ◌<◌, ◌≤◌, ◌+◌, ◌^◌, ◌++◌, ℕ, None, Some, vec_len, vec_capacity, length, IfOk};
 ghost use Rattle.ocr_mail.specs.Mail as mail;
 ghost use Rattle.ocr_rule.specs.Steps as steps;
 ghost use Rattle.ocr_rule.specs.Clerks.{HasKeys, IsFirstNamed};
@@ -7,6 +7,7 @@ ghost use Rattle.ocr_rule.specs.Sums.{as_some, replace_all};
 ghost use Rattle.ocr_rule.specs.Contract.{CommitTells, IsOf, MayCommit};
 
 use crate::clerk::{Clerk, Hand, swap_part, take_out};
+use crate::log::has_room;
 use crate::turns::{COMMIT, ENDED, Turns};
 use atomic_table::Seat;
 use ocr_base::NoMemory;
@@ -36,7 +37,7 @@ impl<M: Machine> Turns<M> {
         ensures room { IfOk result (λ _. (2 ≤ clerk.new.room) × (messages ≤ clerk.new.space)) }
     {
         // Room that is there already costs a look at the capacities.
-        if has_room(&clerk.log, LOG_STEP) && has_room(&clerk.owed, messages) {
+        if clerk.log.has_room(LOG_STEP) && has_room(&clerk.owed, messages) {
             return Ok(());
         }
         self.reserve_more(clerk, messages)
@@ -85,7 +86,7 @@ impl<M: Machine> Turns<M> {
         put_all(&mut clerk.parts, parts);
         owe_anew(&mut clerk.owed, delivered, found, messages);
         clerk.weight += weight;
-        clerk.log.push_reserved((found, entry));
+        clerk.log.push_reserved(found, entry);
         Committed::At(found)
     }
 
@@ -112,14 +113,6 @@ impl<M: Machine> Turns<M> {
             .shared
             .fetch_add::<Commits<M, W>>(seat, COMMIT, 1)
     }
-}
-
-// Whether there is room for so many items more.
-#[inline(always)]
-fn has_room<T>(items: &Vec<T>, more: usize) -> bool
-    ensures { result ≡ true → more ≤ vec_capacity items.now - length items.now.items }
-{
-    items.capacity() - items.len() >= more
 }
 
 // Puts each part where its place stands.

@@ -49,7 +49,7 @@ impl<M: Machine> Turns<M> {
         }
         owe_anew(&mut clerk.owed, delivered, found, messages);
         clerk.weight += weight;
-        clerk.log.push_reserved((found, entry));
+        clerk.log.push_reserved(found, entry);
         Committed::At(found)
     }
 

@@ -8,6 +8,7 @@ mod ending;
 mod entering;
 mod entering_at_hand;
 mod giving;
+mod log;
 mod opening;
 mod seats;
 mod taking;
@@ -16,6 +17,7 @@ mod words;
 
 pub use clerk::Clerk;
 pub use closing::Closing;
+pub use log::Log;
 pub use ocr_rule::{
     Change, Committed, Debts, Drawn, Machine, Taken, Terms, View, WordStep, sole_laws,
 };

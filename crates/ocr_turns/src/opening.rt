@@ -9,6 +9,7 @@ ghost use Rattle.ocr_rule.specs.Beginning.{IsLaidOut, front_words, unmade_words}
 ghost use Rattle.ocr_rule.specs.Openings.{placed};
 
 use crate::clerk::Clerk;
+use crate::log::Log;
 use crate::taking::TURNS;
 use crate::turns::{DRAW, Turns};
 use atomic_table::{Seat, Table};
@@ -51,7 +52,7 @@ impl<M: Machine> Turns<M> {
             M::first(),
         )?;
         let parts = first_parts::<M>(alloc, opening, limit as usize)?;
-        let log = Vec::with_capacity(alloc, 1)?;
+        let log = Log::with_capacity(alloc, 1)?;
         let kept = Vec::with_capacity(alloc, KEPT)?;
         match Table::new(alloc, words.as_slice(), parts, &terms) {
             Ok((table, seat)) => Ok((

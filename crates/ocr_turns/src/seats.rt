@@ -4,6 +4,7 @@ ghost use Rattle.ocr_rule.specs.Steps as steps;
 ghost use Rattle.ocr_rule.specs.Contract.{IsOf, SameHand};
 
 use crate::clerk::Clerk;
+use crate::log::Log;
 use crate::opening::KEPT;
 use crate::turns::Turns;
 use ocr_base::NoMemory;
@@ -23,7 +24,7 @@ impl<M: Machine> Turns<M> {
             × (64 ≤ c.spare)) }
         ensures err { OnErr result (root.new ≡ root.old) }
     {
-        let log = Vec::with_capacity(alloc, 1)?;
+        let log = Log::with_capacity(alloc, 1)?;
         let parts = Vec::with_capacity(alloc, KEPT)?;
         let seat = self.table.shared.split_seat::<Cut>(&mut root.seat);
         Ok(Clerk {

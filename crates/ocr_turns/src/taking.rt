@@ -26,6 +26,17 @@ impl<M: Machine> Turns<M> {
         if let Some(answer) = self.attempt(clerk, place) {
             return answer;
         }
+        self.wait(rt, clerk, place)
+    }
+
+    // Tries until the turn is free or the run has ended, and lets other threads go first.
+    #[inline(never)]
+    fn wait<R: Wait>(&self, rt: &R, clerk: &mut Clerk<M>, place: u64) -> Taken
+        requires table { IsOf self.now clerk.old }
+        requires place { place ≤ 2 * self.now.1.limit }
+        requires room { 0 < clerk.old.spare }
+        ensures { TakeTells M.meaning result clerk.old clerk.new place }
+    {
         for _ in rt.forever() {
             thread::yield_now();
             if let Some(answer) = self.attempt(clerk, place) {

@@ -1,4 +1,4 @@
-use Rattle.std.proofs.Common.{sym, ap, arith, ◌∙◌, ◌≡◌, ◌≤◌, ◌<◌, ◌+◌, ◌-◌, ◌++◌, ◌∷◌, [], length, length-append, vec_capacity, refl}
+use Rattle.std.proofs.Common.{sym, ap, arith, ◌∙◌, ◌≡◌, ◌≤◌, ◌<◌, ◌+◌, ◌-◌, ◌++◌, length, vec_capacity, refl}
 use Rattle.ocr_mail.specs.Mail.{without, named}
 use Rattle.ocr_rule.specs.Rule.{OPEN}
 use Rattle.ocr_rule.specs.Steps.{deed, logged}
@@ -46,8 +46,8 @@ returns g c =
     let e = c.args.entry in let ps = c.args.change.parts.items in let ms = c.args.change.messages.items in let hand = c.clerk.inside.parts.items in let log = c.clerk.inside.log.items in
     let d = deed m limit me.0 e ps ms in let old = c.step_commit-found.ensures in
     let under : n < OPEN = omega (arith, c.if-found-ge-ENDED.false) in
-    let room : vec_capacity c.push_reserved.new.self - length c.push_reserved.new.self.items + 1 ≡ c.args.clerk.now.room =
-    (let cap = c.push_reserved.ensures.capacity in let len = ap length c.push_reserved.ensures.items in let more = length-append log ((n, e) ∷ []) in let was = ap (λ x. x.room) is in let had = c.requires.room.0 in omega arith) in
+    let room : c.push_reserved.new.self.room + 1 ≡ c.args.clerk.now.room =
+    (let less = c.push_reserved.ensures.room in let was = ap (λ x. x.room) is in omega arith) in
     let spare : vec_capacity c.put_all.new.hand - length c.put_all.new.hand.items ≡ c.args.clerk.now.spare =
     (let cap = c.put_all.ensures.room in let len = ap length c.put_all.ensures.parts in let same = length_replace_all (as_some ps) hand in let was = ap (λ x. x.spare) is in omega arith) in (
       sym (ap (λ x. x.view.closed) is) ∙ (sym c.clerk.invariant.closed_is ∙ c.in_default.is),

@@ -1,4 +1,4 @@
-use Rattle.std.proofs.Common.{sym, ap, subst, arith, ◌∙◌, ◌≡◌, ◌≤◌, ◌<◌, ◌+◌, ◌-◌, ◌++◌, ◌∷◌, [], length, length-append, vec_capacity, refl}
+use Rattle.std.proofs.Common.{sym, ap, subst, arith, ◌∙◌, ◌≡◌, ◌≤◌, ◌<◌, ◌+◌, ◌++◌, refl}
 use Rattle.ocr_mail.specs.Mail.{without, named}
 use Rattle.ocr_rule.specs.Contract.{MayCommit}
 use Rattle.ocr_rule.specs.Rule.{OPEN}
@@ -45,8 +45,8 @@ returns g c =
     let e = c.args.entry in let log = c.clerk.inside.log.items in
     let d = deed m limit me.0 e (at_hand c.clerk.inside.parts.items) c.args.messages.items in let old = c.step_at_hand-found.ensures in
     let under : n < OPEN = omega (arith, c.if-found-ge-ENDED.false) in
-    let room : vec_capacity c.push_reserved.new.self - length c.push_reserved.new.self.items + 1 ≡ c.args.clerk.now.room =
-    (let cap = c.push_reserved.ensures.capacity in let len = ap length c.push_reserved.ensures.items in let more = length-append log ((n, e) ∷ []) in let was = ap (λ x. x.room) is in let had = c.requires.room.0 in omega arith) in (
+    let room : c.push_reserved.new.self.room + 1 ≡ c.args.clerk.now.room =
+    (let less = c.push_reserved.ensures.room in let was = ap (λ x. x.room) is in omega arith) in (
       sym (ap (λ x. x.view.closed) is) ∙ (sym c.clerk.invariant.closed_is ∙ c.in_default.is),
       under,
       old.table.0 ∙ ap (λ x. x.table) is,

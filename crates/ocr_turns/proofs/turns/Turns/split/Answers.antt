@@ -1,4 +1,5 @@
-use Rattle.std.proofs.Common.{sym, ap, subst, ◌∙◌, arith, ◌<◌, ◌≡◌}
+use Rattle.std.proofs.Common.{sym, ap, subst, ◌∙◌, arith, ◌<◌, ◌≡◌, refl}
+use Rattle.ocr_rule.proofs.Clerks.{true_same}
 use Rattle.ocr_rule.proofs.Splits.{splits}
 use Rattle.ocr_turns.proofs.turns.Turns.split.Goals as goal
 
@@ -11,3 +12,22 @@ split_seat-seat-requires g c =
           (subst (λ v. v.root ≡ 1) view c.requires.root.0)
           (subst (λ v. 0 < v.quota) view c.requires.root.1),
     )
+
+pub invariant_of-root : goal.invariant_of-root
+invariant_of-root g c =
+    let old = c.root.invariant in
+    true_same (sym c.split_seat-seat.ensures.2) refl refl refl refl refl refl refl
+    (record {
+      log_is = old.log_is;
+      joined_are = old.joined_are;
+      keeps = old.keeps;
+      owed_are = old.owed_are;
+      weight_is = old.weight_is;
+      closed_is = old.closed_is;
+      full_is = old.full_is;
+      past_end = old.past_end;
+      past_limit = old.past_limit;
+      ranges = old.ranges;
+      rests = old.rests;
+      seat = old.seat;
+    })

@@ -2,7 +2,7 @@ use Rattle.std.proofs.Common.{◌+◌, ◌≤◌, List, length, map, vec_capacit
 use Rattle.ocr_rule.specs.Rule.{AllRise}
 use Rattle.ocr_journal.specs.Numbered.{AreByNumber}
 use Rattle.ocr_journal.proofs.Taking.{Remain}
-use Rattle.ocr_journal.proofs.numbered.by_number.Given as goal
+use Rattle.ocr_journal.proofs.numbered.from_ends.Given as goal
 
 abbrev pub invariant-loop-left : goal.invariant-loop-left
 invariant-loop-left g l = record {

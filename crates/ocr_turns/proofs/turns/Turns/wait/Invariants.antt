@@ -1,5 +1,5 @@
 use Rattle.std.proofs.Common.{◌≡◌}
-use Rattle.ocr_turns.proofs.turns.Turns.take.Given as goal
+use Rattle.ocr_turns.proofs.turns.Turns.wait.Given as goal
 
 abbrev pub invariant-loop : goal.invariant-loop
 invariant-loop g l = (goal.iterator-loop g).can_next l.iterator' × (goal.iterator-loop g).is_finite l.iterator' × (l.clerk ≡ l.fn.clerk)
