@@ -7,7 +7,7 @@ use Rattle.ocr_plain.specs.Local.{state_of, frame_of, numbers_of}
 use Rattle.ocr_body.specs.Walker.{made_part, way_part}
 use Rattle.ocr_plain.proofs.Made.{IsFirst, first_is, stands, wanted, made_alike}
 use Rattle.ocr_body.proofs.Alike.{begins_alike, has_alike}
-use Rattle.ocr_body.proofs.walker.make.Goals as goal
+use Rattle.ocr_body.proofs.walker.make_named.Goals as goal
 
 pub go-requires-clause-begins : goal.go-requires-clause-begins
 go-requires-clause-begins g c =
