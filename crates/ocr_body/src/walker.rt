@@ -14,7 +14,7 @@ ghost use Rattle.ocr_code.specs.Checked.{checked_tree};
 ghost use Rattle.ocr_code.specs.Code.{name_at, has_function, arguments_at};
 ghost use Rattle.ocr_plain.specs.Given.{given_of};
 ghost use Rattle.ocr_plain.specs.Local.{Fits, Keeps, state_in};
-ghost use Rattle.ocr_plain.specs.Plain.{is_expr_in};
+ghost use Rattle.ocr_plain.specs.Plain.{is_expr_in, IsFirstIn};
 ghost use Rattle.ocr_body.specs.Serving.{Begins, BeginsValue, BeginsGiven, IsDone, IsGiven};
 ghost use Rattle.ocr_body.specs.Serving.{IsListed, StoppedBy};
 ghost use Rattle.ocr_body.specs.Walker.{next_of, next_after, GoesOn, IsCause, Yields, Leads};
@@ -281,12 +281,12 @@ fn coded<A: Api>(
 {
     pay(local)?;
     let mut given = Given::new(frame.alloc);
-    find_all(frame, args, &mut given, local, api)?;
-    make(frame, name, args, &given, local, api)
+    let named = find_all(frame, args, &mut given, local, api)?;
+    make(frame, name, args, named, &given, local, api)
 }
 
-// What the arguments of a call are. Those that make no call and do not stop are found with their
-// fuel in a register.
+// What the arguments of a call are, and the first name among them. Those that make no call and do
+// not stop are found with their fuel in a register.
 #[cycle(eval)]
 #[inline(always)]
 fn find_all<A: Api>(
@@ -295,7 +295,7 @@ fn find_all<A: Api>(
     given: &mut Given,
     local: &mut Local,
     api: &mut A,
-) -> Result<(), Halt>
+) -> Result<Option<Named>, Halt>
     requires ready { A.is_ready api.old }
     requires fits { Fits frame.now local.old }
     requires placed { are_args_in frame.now args.now ≡ true }
@@ -307,14 +307,16 @@ fn find_all<A: Api>(
     ensures ok { OnOk result (IsGiven (next_of A.Api api.old)
         (args_part frame.now args.now given.old (A.holds api.old) local.old) (given_of given.new)
         (state_in frame.now (A.holds api.new) local.new) (next_after A.Api api.old api.new)) }
+    ensures first { IfOk result (λ named. IsFirstIn frame.now args.now named) }
     ensures err { OnErr result (IsCause A.Api api.old api.new local.new.stop) }
 {
-    let left = plain_all(frame, args, given, local.fuel, local);
-    if left == NONE_LEFT {
-        return eval_anew(frame, args, given, local, api);
+    let walked = plain_all(frame, args, given, local.fuel, local);
+    if walked.left == NONE_LEFT {
+        eval_anew(frame, args, given, local, api)?;
+        return Ok(args.name());
     }
-    local.fuel = left;
-    Ok(())
+    local.fuel = walked.left;
+    Ok(walked.named)
 }
 
 // The same of any arguments, whatever was found of them.
@@ -623,6 +625,7 @@ fn make<A: Api>(
     frame: &Frame,
     name: CallName,
     args: &ArgCode,
+    named: Option<Named>,
     given: &Given,
     local: &mut Local,
     api: &mut A,
@@ -631,6 +634,7 @@ fn make<A: Api>(
     requires fits { Fits frame.now local.old }
     requires named { has_function name (arguments_at frame.now.names.now args.now) ≡ true }
     requires placed { are_args_in frame.now args.now ≡ true }
+    requires first { IsFirstIn frame.now args.now named }
     requires begins { BeginsValue (next_of A.Api api.old)
         (made_part frame.now name args.now given.now (A.holds api.old) local.old) }
     ensures goes_on { GoesOn A.Api api.old api.new }
@@ -641,9 +645,9 @@ fn make<A: Api>(
     ensures err { OnErr result (IsCause A.Api api.old api.new local.new.stop) }
 {
     if let CallName::EdtCreate = name {
-        return make_named(frame, CallName::EdtCreate, args, given, local, api);
+        return make_named(frame, CallName::EdtCreate, args, named, given, local, api);
     }
-    make_other(frame, name, args, given, local, api)
+    make_other(frame, name, args, named, given, local, api)
 }
 
 // The same of any call.
@@ -652,6 +656,7 @@ fn make_other<A: Api>(
     frame: &Frame,
     name: CallName,
     args: &ArgCode,
+    named: Option<Named>,
     given: &Given,
     local: &mut Local,
     api: &mut A,
@@ -660,6 +665,7 @@ fn make_other<A: Api>(
     requires fits { Fits frame.now local.old }
     requires named { has_function name (arguments_at frame.now.names.now args.now) ≡ true }
     requires placed { are_args_in frame.now args.now ≡ true }
+    requires first { IsFirstIn frame.now args.now named }
     requires begins { BeginsValue (next_of A.Api api.old)
         (made_part frame.now name args.now given.now (A.holds api.old) local.old) }
     ensures goes_on { GoesOn A.Api api.old api.new }
@@ -669,7 +675,7 @@ fn make_other<A: Api>(
         v frame.now local.new) }
     ensures err { OnErr result (IsCause A.Api api.old api.new local.new.stop) }
 {
-    make_named(frame, name, args, given, local, api)
+    make_named(frame, name, args, named, given, local, api)
 }
 
 // Makes the call of this name, which may be known where this is done in place.
@@ -677,25 +683,26 @@ fn make_other<A: Api>(
 fn make_named<A: Api>(
     frame: &Frame,
     name: CallName,
-    args: &ArgCode,
+    _args: &ArgCode,
+    named: Option<Named>,
     given: &Given,
     local: &mut Local,
     api: &mut A,
 ) -> Result<u64, Halt>
     requires ready { A.is_ready api.old }
     requires fits { Fits frame.now local.old }
-    requires named { has_function name (arguments_at frame.now.names.now args.now) ≡ true }
-    requires placed { are_args_in frame.now args.now ≡ true }
+    requires named { has_function name (arguments_at frame.now.names.now _args.now) ≡ true }
+    requires placed { are_args_in frame.now _args.now ≡ true }
+    requires first { IsFirstIn frame.now _args.now named }
     requires begins { BeginsValue (next_of A.Api api.old)
-        (made_part frame.now name args.now given.now (A.holds api.old) local.old) }
+        (made_part frame.now name _args.now given.now (A.holds api.old) local.old) }
     ensures goes_on { GoesOn A.Api api.old api.new }
     ensures still_fits { StillFits frame.now local.old local.new }
     ensures ok { IfOk result (λ v. Yields A.Api api.old api.new
-        (made_part frame.now name args.now given.now (A.holds api.old) local.old)
+        (made_part frame.now name _args.now given.now (A.holds api.old) local.old)
         v frame.now local.new) }
     ensures err { OnErr result (IsCause A.Api api.old api.new local.new.stop) }
 {
-    let named = args.name();
     let made = call_of(frame.alloc, name, number_of(named), named.is_some(), given);
     let Ok(call) = made else {
         return Err(stopped(BodyStop::NoMemory, local))

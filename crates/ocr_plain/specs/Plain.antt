@@ -1,6 +1,6 @@
 -- What an expression without calls comes to, and the fuel that it takes, and the same of arguments.
-use Rattle.std.specs.Prelude.{◌≡◌, ℕ, List, [], Bool}
-use Rattle.ocr_tree.specs.Tree.{Expression, Arguments}
+use Rattle.std.specs.Prelude.{◌≡◌, ℕ, List, [], Bool, Option}
+use Rattle.ocr_tree.specs.Tree.{Expression, Arguments, names_in}
 use Rattle.ocr_meaning.specs.Behaviour.{Behaviour}
 use Rattle.ocr_meaning.specs.Holds.{Holds}
 use Rattle.ocr_meaning.specs.Meaning.{Frame, State, Value, Given, nothing_given, with_list}
@@ -8,7 +8,8 @@ use Rattle.ocr_meaning.specs.Meaning.{eval, eval_all}
 use Rattle.ocr_code.specs.Code.{is_placed, are_args_placed, expression_at, arguments_at}
 use Rattle.ocr_code.specs.declared.code.ArgCode.{ArgCode}
 use Rattle.ocr_code.specs.declared.code.ExprCode.{ExprCode}
-use Rattle.ocr_plain.specs.Given.{given_of}
+use Rattle.ocr_code.specs.declared.code.Named.{Named}
+use Rattle.ocr_plain.specs.Given.{given_of, IsFirst}
 use Rattle.ocr_plain.specs.Local.{value_in, numbers_of, frame_of}
 use Rattle.ocr_plain.specs.declared.given.Given as found
 use Rattle.ocr_plain.specs.declared.local.Frame as walker
@@ -64,6 +65,10 @@ Comes f args l =
 
 abbrev pub AreFound : walker.Frame → ArgCode → Local → ℕ → (old new : found.Given) → ℕ → Type 0
 AreFound f args l fuel old new left = Comes f args l fuel (given_of old) (given_of new) left
+
+-- the first name among arguments, or that there is none
+abbrev pub IsFirstIn : walker.Frame → ArgCode → Option Named → Type 0
+IsFirstIn f args = IsFirst (numbers_of f) f.names.now (names_in (arguments_at f.names.now args))
 
 -- what is given by the items of a list
 abbrev pub items_given : List ℕ → Given

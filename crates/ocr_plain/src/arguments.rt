@@ -1,37 +1,61 @@
 // Arguments without calls, which are found with their fuel in a register.
-ghost use Rattle.std.specs.Prelude.{◌≡◌, ◌<◌, ◌≤◌, ◌-◌, ◌^◌, true};
+ghost use Rattle.std.specs.Prelude.{◌≡◌, ◌<◌, ◌≤◌, ◌-◌, ◌^◌, true, IfSome, IfNone, Some};
 ghost use Rattle.ocr_plain.specs.Local.{Fits};
-ghost use Rattle.ocr_plain.specs.Plain.{AreFound, AreItems, AreListed, are_args_in};
+ghost use Rattle.ocr_plain.specs.Plain.{AreFound, AreItems, AreListed, IsFirstIn, are_args_in};
 
 use crate::given::Given;
 use crate::local::{Frame, Local};
 use crate::plain::{NONE_LEFT, operand};
 use ocr_base::Seq;
-use ocr_code::ArgCode;
+use ocr_code::{ArgCode, Named};
+
+/// The fuel that is left of arguments, and the first name among them.
+#[derive(Clone, Copy)]
+pub struct Walked {
+    pub left: u64,
+    pub named: Option<Named>,
+}
+
+const UNKNOWN: Walked = Walked {
+    left: NONE_LEFT,
+    named: None,
+};
 
 /// Adds what the arguments of a call come to, where none makes a call or stops, and answers the
-/// fuel that is left. Any others leave `NONE_LEFT`, and so does want of memory: then it is unknown
-/// what was added.
-pub fn plain_all(frame: &Frame, args: &ArgCode, given: &mut Given, fuel: u64, local: &Local) -> u64
+/// fuel that is left and the first name. Any others leave `NONE_LEFT`, and so does want of memory:
+/// then it is unknown what was added.
+#[inline(always)]
+pub fn plain_all(
+    frame: &Frame,
+    args: &ArgCode,
+    given: &mut Given,
+    fuel: u64,
+    local: &Local,
+) -> Walked
     requires fits { Fits frame.now local.now }
     requires placed { are_args_in frame.now args.now ≡ true }
-    ensures less { result < 2 ^ 64 - 1 → result ≤ fuel }
-    ensures found { result < 2 ^ 64 - 1
-        → AreFound frame.now args.now local.now fuel given.old given.new result }
+    ensures less { result.left < 2 ^ 64 - 1 → result.left ≤ fuel }
+    ensures found { result.left < 2 ^ 64 - 1
+        → AreFound frame.now args.now local.now fuel given.old given.new result.left }
+    ensures first { result.left < 2 ^ 64 - 1 → IsFirstIn frame.now args.now result.named }
 {
     let mut args = args;
     let mut left = fuel;
+    let mut named = None;
     loop {
         match args {
-            ArgCode::End => return left,
-            ArgCode::Name(_, rest) => args = rest,
+            ArgCode::End => return Walked { left, named },
+            ArgCode::Name(name, rest) => {
+                named = first(named, *name);
+                args = rest;
+            }
             ArgCode::Value(value, rest) => {
                 let found = operand(frame, value, left, local);
                 if found.left == NONE_LEFT {
-                    return NONE_LEFT;
+                    return UNKNOWN;
                 }
                 let Ok(()) = given.add_value(found.value) else {
-                    return NONE_LEFT
+                    return UNKNOWN
                 };
                 left = found.left;
                 args = rest;
@@ -39,11 +63,23 @@ pub fn plain_all(frame: &Frame, args: &ArgCode, given: &mut Given, fuel: u64, lo
             ArgCode::List(list, rest) => {
                 left = plain_list(frame, list, given, left, local);
                 if left == NONE_LEFT {
-                    return NONE_LEFT;
+                    return UNKNOWN;
                 }
                 args = rest;
             }
         }
+    }
+}
+
+// The first name, where this one comes next.
+#[inline(always)]
+fn first(named: Option<Named>, name: Named) -> Option<Named>
+    ensures some { IfSome named (λ first. result ≡ Some first) }
+    ensures none { IfNone named (result ≡ Some name) }
+{
+    match named {
+        Some(_) => named,
+        None => Some(name),
     }
 }
 

@@ -8,7 +8,7 @@ mod local;
 mod operators;
 pub mod plain;
 
-pub use arguments::plain_all;
+pub use arguments::{Walked, plain_all};
 pub use given::{Given, Way, call_of, output_of, way_of};
 pub use local::{Flow, Frame, Halt, Local, pay, read, stopped, write};
 pub use operators::{apply, operate};
