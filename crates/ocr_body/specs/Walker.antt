@@ -10,7 +10,7 @@ use Rattle.ocr_meaning.specs.Meaning.{State, Value, Given}
 use Rattle.ocr_meaning.specs.Meaning as meaning
 use Rattle.ocr_meaning.specs.declared.call.BodyStop.{BodyStop}
 use Rattle.ocr_meaning.specs.declared.call.Call.{Call}
-use Rattle.ocr_code.specs.Code.{is_call_placed, are_args_placed, is_step_placed, are_placed}
+use Rattle.ocr_code.specs.Code.{is_call_placed, is_step_placed, are_placed}
 use Rattle.ocr_code.specs.Code.{call_name, call_arguments, arguments_at}
 use Rattle.ocr_code.specs.Code.{expression_at, statement_at, statements_in}
 use Rattle.ocr_code.specs.declared.code.ArgCode.{ArgCode}
@@ -19,6 +19,7 @@ use Rattle.ocr_code.specs.declared.code.ExprCode.{ExprCode}
 use Rattle.ocr_code.specs.declared.code.StmtCode.{StmtCode}
 use Rattle.ocr_plain.specs.Given.{given_of, output_at, way_step}
 use Rattle.ocr_plain.specs.Local.{state_in, frame_of, numbers_of}
+pub use Rattle.ocr_plain.specs.Plain.{are_args_in}
 use Rattle.ocr_plain.specs.declared.given.Given as found
 use Rattle.ocr_plain.specs.declared.given.Way.{Way}
 use Rattle.ocr_plain.specs.declared.local.Flow.{Flow}
@@ -58,9 +59,6 @@ pub record StillFits (f : walker.Frame) (before now : Local) : Type 0 where
 -- code over the names of this body and the functions of its program
 abbrev pub is_call_in : walker.Frame → CallCode → Bool
 is_call_in f c = is_call_placed (numbers_of f) f.names.now c
-
-abbrev pub are_args_in : walker.Frame → ArgCode → Bool
-are_args_in f args = are_args_placed (numbers_of f) f.names.now args
 
 abbrev pub is_stmt_in : walker.Frame → StmtCode → Bool
 is_stmt_in f s = is_step_placed (numbers_of f) f.names.now s

@@ -8,13 +8,13 @@ ghost use Rattle.ocr_base.specs.Count.{Rose};
 ghost use Rattle.ocr_meaning.specs.Behaviour.{Behaviour, Ends, Stops, IsTrace};
 ghost use Rattle.ocr_meaning.specs.Body.{behaviour, says};
 ghost use Rattle.ocr_meaning.specs.Call.{is_access};
-ghost use Rattle.ocr_meaning.specs.Meaning.{with_variable, print_step};
+ghost use Rattle.ocr_meaning.specs.Meaning.{with_variable, nothing_given, print_step};
 ghost use Rattle.ocr_meaning.specs.Meaning as meaning;
 ghost use Rattle.ocr_code.specs.Checked.{checked_tree};
 ghost use Rattle.ocr_code.specs.Code.{name_at, has_function, arguments_at};
 ghost use Rattle.ocr_plain.specs.Given.{given_of};
 ghost use Rattle.ocr_plain.specs.Local.{Fits, Keeps, state_in};
-ghost use Rattle.ocr_plain.specs.Plain.{is_expr_in};
+ghost use Rattle.ocr_plain.specs.Plain.{is_expr_in, IsFirstIn};
 ghost use Rattle.ocr_body.specs.Serving.{Begins, BeginsValue, BeginsGiven, IsDone, IsGiven};
 ghost use Rattle.ocr_body.specs.Serving.{IsListed, StoppedBy};
 ghost use Rattle.ocr_body.specs.Walker.{next_of, next_after, GoesOn, IsCause, Yields, Leads};
@@ -30,8 +30,8 @@ use ocr_guid::Guid;
 use ocr_meaning::{BodyStop, Call};
 use ocr_plain::plain::{NONE_LEFT, dependence, leaf, plain};
 use ocr_plain::{
-    Flow, Frame, Given, Halt, Local, Way, apply, call_of, operate, output_of, pay, read, stopped,
-    way_of, write,
+    Flow, Frame, Given, Halt, Local, Way, apply, call_of, operate, output_of, pay, plain_all, read,
+    stopped, way_of, write,
 };
 use ocr_tree::{BinaryOp, CallName};
 use std::alloc::Global;
@@ -157,6 +157,9 @@ fn invoke<A: Api>(
     ensures err { OnErr result (IsCause A.Api api.old api.new local.new.stop) }
 {
     let CallCode::Load(block, word) = call else {
+        if let CallCode::Coded(name, args) = call {
+            return coded(frame, *name, args, local, api);
+        }
         return invoke_store(frame, call, local, api);
     };
     if local.fuel < 4 {
@@ -278,8 +281,68 @@ fn coded<A: Api>(
 {
     pay(local)?;
     let mut given = Given::new(frame.alloc);
-    eval_all(frame, args, &mut given, local, api)?;
-    make(frame, name, args, &given, local, api)
+    let named = find_all(frame, args, &mut given, local, api)?;
+    make(frame, name, args, named, &given, local, api)
+}
+
+// What the arguments of a call are, and the first name among them. Those that make no call and do
+// not stop are found with their fuel in a register.
+#[cycle(eval)]
+#[inline(always)]
+fn find_all<A: Api>(
+    frame: &Frame,
+    args: &ArgCode,
+    given: &mut Given,
+    local: &mut Local,
+    api: &mut A,
+) -> Result<Option<Named>, Halt>
+    requires ready { A.is_ready api.old }
+    requires fits { Fits frame.now local.old }
+    requires placed { are_args_in frame.now args.now ≡ true }
+    requires none { given_of given.old ≡ nothing_given }
+    requires begins { BeginsGiven (next_of A.Api api.old)
+        (args_part frame.now args.now given.old (A.holds api.old) local.old) }
+    ensures goes_on { GoesOn A.Api api.old api.new }
+    ensures still_fits { StillFits frame.now local.old local.new }
+    ensures ok { OnOk result (IsGiven (next_of A.Api api.old)
+        (args_part frame.now args.now given.old (A.holds api.old) local.old) (given_of given.new)
+        (state_in frame.now (A.holds api.new) local.new) (next_after A.Api api.old api.new)) }
+    ensures first { IfOk result (λ named. IsFirstIn frame.now args.now named) }
+    ensures err { OnErr result (IsCause A.Api api.old api.new local.new.stop) }
+{
+    let walked = plain_all(frame, args, given, local.fuel, local);
+    if walked.left == NONE_LEFT {
+        eval_anew(frame, args, given, local, api)?;
+        return Ok(args.name());
+    }
+    local.fuel = walked.left;
+    Ok(walked.named)
+}
+
+// The same of any arguments, whatever was found of them.
+#[cycle(eval)]
+#[inline(never)]
+fn eval_anew<A: Api>(
+    frame: &Frame,
+    args: &ArgCode,
+    given: &mut Given,
+    local: &mut Local,
+    api: &mut A,
+) -> Result<(), Halt>
+    requires ready { A.is_ready api.old }
+    requires fits { Fits frame.now local.old }
+    requires placed { are_args_in frame.now args.now ≡ true }
+    requires begins { BeginsGiven (next_of A.Api api.old)
+        (list_part frame.now args.now (A.holds api.old) local.old) }
+    ensures goes_on { GoesOn A.Api api.old api.new }
+    ensures still_fits { StillFits frame.now local.old local.new }
+    ensures ok { OnOk result (IsGiven (next_of A.Api api.old)
+        (list_part frame.now args.now (A.holds api.old) local.old) (given_of given.new)
+        (state_in frame.now (A.holds api.new) local.new) (next_after A.Api api.old api.new)) }
+    ensures err { OnErr result (IsCause A.Api api.old api.new local.new.stop) }
+{
+    *given = Given::new(frame.alloc);
+    eval_all(frame, args, given, local, api)
 }
 
 // What the arguments of a call are, from left to right.
@@ -556,11 +619,13 @@ fn number_of(named: Option<Named>) -> u32
     }
 }
 
-// Makes a call whose arguments were found.
+// Makes a call whose arguments were found. The commonest has code of its own.
+#[inline(always)]
 fn make<A: Api>(
     frame: &Frame,
     name: CallName,
     args: &ArgCode,
+    named: Option<Named>,
     given: &Given,
     local: &mut Local,
     api: &mut A,
@@ -569,6 +634,7 @@ fn make<A: Api>(
     requires fits { Fits frame.now local.old }
     requires named { has_function name (arguments_at frame.now.names.now args.now) ≡ true }
     requires placed { are_args_in frame.now args.now ≡ true }
+    requires first { IsFirstIn frame.now args.now named }
     requires begins { BeginsValue (next_of A.Api api.old)
         (made_part frame.now name args.now given.now (A.holds api.old) local.old) }
     ensures goes_on { GoesOn A.Api api.old api.new }
@@ -578,7 +644,65 @@ fn make<A: Api>(
         v frame.now local.new) }
     ensures err { OnErr result (IsCause A.Api api.old api.new local.new.stop) }
 {
-    let named = args.name();
+    if let CallName::EdtCreate = name {
+        return make_named(frame, CallName::EdtCreate, args, named, given, local, api);
+    }
+    make_other(frame, name, args, named, given, local, api)
+}
+
+// The same of any call.
+#[inline(never)]
+fn make_other<A: Api>(
+    frame: &Frame,
+    name: CallName,
+    args: &ArgCode,
+    named: Option<Named>,
+    given: &Given,
+    local: &mut Local,
+    api: &mut A,
+) -> Result<u64, Halt>
+    requires ready { A.is_ready api.old }
+    requires fits { Fits frame.now local.old }
+    requires named { has_function name (arguments_at frame.now.names.now args.now) ≡ true }
+    requires placed { are_args_in frame.now args.now ≡ true }
+    requires first { IsFirstIn frame.now args.now named }
+    requires begins { BeginsValue (next_of A.Api api.old)
+        (made_part frame.now name args.now given.now (A.holds api.old) local.old) }
+    ensures goes_on { GoesOn A.Api api.old api.new }
+    ensures still_fits { StillFits frame.now local.old local.new }
+    ensures ok { IfOk result (λ v. Yields A.Api api.old api.new
+        (made_part frame.now name args.now given.now (A.holds api.old) local.old)
+        v frame.now local.new) }
+    ensures err { OnErr result (IsCause A.Api api.old api.new local.new.stop) }
+{
+    make_named(frame, name, args, named, given, local, api)
+}
+
+// Makes the call of this name, which may be known where this is done in place.
+#[inline(always)]
+fn make_named<A: Api>(
+    frame: &Frame,
+    name: CallName,
+    _args: &ArgCode,
+    named: Option<Named>,
+    given: &Given,
+    local: &mut Local,
+    api: &mut A,
+) -> Result<u64, Halt>
+    requires ready { A.is_ready api.old }
+    requires fits { Fits frame.now local.old }
+    requires named { has_function name (arguments_at frame.now.names.now _args.now) ≡ true }
+    requires placed { are_args_in frame.now _args.now ≡ true }
+    requires first { IsFirstIn frame.now _args.now named }
+    requires begins { BeginsValue (next_of A.Api api.old)
+        (made_part frame.now name _args.now given.now (A.holds api.old) local.old) }
+    ensures goes_on { GoesOn A.Api api.old api.new }
+    ensures still_fits { StillFits frame.now local.old local.new }
+    ensures ok { IfOk result (λ v. Yields A.Api api.old api.new
+        (made_part frame.now name _args.now given.now (A.holds api.old) local.old)
+        v frame.now local.new) }
+    ensures err { OnErr result (IsCause A.Api api.old api.new local.new.stop) }
+{
     let made = call_of(frame.alloc, name, number_of(named), named.is_some(), given);
     let Ok(call) = made else {
         return Err(stopped(BodyStop::NoMemory, local))
@@ -594,6 +718,7 @@ fn make<A: Api>(
 }
 
 // Makes a call by what it comes to.
+#[inline(always)]
 fn go<A: Api>(
     frame: &Frame,
     way: Way,
@@ -624,7 +749,7 @@ fn go<A: Api>(
 }
 
 // A call that has codes.
-#[inline(never)]
+#[inline(always)]
 fn ask<A: Api>(
     frame: &Frame,
     call: &Call,

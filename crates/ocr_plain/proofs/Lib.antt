@@ -1,3 +1,4 @@
+pub mod Gone
 pub mod Made
 pub mod Operands
 pub mod Rulesets

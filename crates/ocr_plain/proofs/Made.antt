@@ -12,15 +12,11 @@ use Rattle.ocr_meaning.specs.declared.call.Call.{Call}
 use Rattle.ocr_code.specs.Code.{IsFirstName, has_function, name_at, arguments_at, are_args_placed}
 use Rattle.ocr_code.specs.declared.code.ArgCode.{ArgCode}
 use Rattle.ocr_code.specs.declared.code.Named.{Named}
-use Rattle.ocr_plain.specs.Given.{output_at, output_place, way_step}
+use Rattle.ocr_plain.specs.Given.{IsFirst, output_at, output_place, way_step}
 use Rattle.ocr_plain.specs.declared.given.Way.{Way}
 use Rattle.ocr_plain.specs.declared.given.Way.TheVariants as way
 
--- the first of some names, or that there is none
-abbrev pub IsFirst : (List ℕ → ℕ) → List (List ℕ) → List (List ℕ) → Option Named → Type 0
-IsFirst numbers names these None = these ≡ []
-IsFirst numbers names these (Some named) = IsFirstName numbers names named these
-
+-- what is said of the first name is so
 pub first_is : (numbers : List ℕ → ℕ) (names : List (List ℕ)) (args : ArgCode) (o : Option Named) → are_args_placed numbers names args ≡ true
     → IfNone o ((names : List (List ℕ)) → names_in (arguments_at names args) ≡ [])
     → IfSome o (λ named. (numbers : List ℕ → ℕ) (names : List (List ℕ)) → are_args_placed numbers names args ≡ true → IsFirstName numbers names named (names_in (arguments_at names args)))

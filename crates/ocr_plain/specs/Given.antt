@@ -1,11 +1,11 @@
 -- What the arguments of a call were found to be, and what the call comes to.
-use Rattle.std.specs.Prelude.{ℕ, List, [], ◌∷◌, vec_items, map, Option, None, Some}
+use Rattle.std.specs.Prelude.{◌≡◌, ℕ, List, [], ◌∷◌, vec_items, map, Option, None, Some}
 use Rattle.ocr_tree.specs.declared.tree.CallName.{CallName}
 use Rattle.ocr_tree.specs.declared.tree.CallName.TheVariants as name
 use Rattle.ocr_meaning.specs.Behaviour.{Behaviour, Stops}
 use Rattle.ocr_meaning.specs.Meaning.{State, Given, Value, coded_call, load_step, store_step}
 use Rattle.ocr_meaning.specs.declared.call.Call.{Call}
-use Rattle.ocr_code.specs.Code.{name_at}
+use Rattle.ocr_code.specs.Code.{name_at, IsFirstName}
 use Rattle.ocr_code.specs.declared.code.Named.{Named}
 use Rattle.ocr_plain.specs.declared.given.Given as found
 use Rattle.ocr_plain.specs.declared.given.Way.{Way}
@@ -14,6 +14,11 @@ use Rattle.ocr_plain.specs.declared.given.Way.TheVariants as way
 -- what the walker found the arguments of a call to be
 abbrev pub given_of : found.Given → Given
 given_of g = record { values = g.values.items; lists = map vec_items g.lists.items }
+
+-- the first of some names, or that there is none
+abbrev pub IsFirst : (List ℕ → ℕ) → List (List ℕ) → (these : List (List ℕ)) → Option Named → Type 0
+IsFirst numbers names these None = these ≡ []
+IsFirst numbers names these (Some named) = IsFirstName numbers names named these
 
 -- the variable that a call sets to its output event, by its place
 abbrev pub output_at : List (List ℕ) → Option ℕ → List (List ℕ)
