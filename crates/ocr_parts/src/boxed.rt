@@ -38,6 +38,8 @@ impl Model for BoxedCore {
 
 impl BoxedCore {
     /// The core in a box.
+    // A large value that is made here is written where it stays.
+    #[inline(always)]
     pub fn new(alloc: Global, core: Core) -> Result<BoxedCore, NoMemory>
         ensures { IfOk result (λ boxed. boxed ≡ core) }
     {
@@ -54,6 +56,8 @@ impl BoxedCore {
     }
 
     /// Takes the phase of its EDT out. Some other stands there until one is put.
+    // So with the phase, which is large.
+    #[inline(always)]
     pub fn take_edt(&mut self) -> Edt
         ensures was { result ≡ self.old.edt }
         ensures rest { self.new ≡ core_with self.old self.new.edt self.old.loans }
@@ -63,6 +67,7 @@ impl BoxedCore {
     }
 
     /// Puts a phase of its EDT in the place of the one that stands there.
+    #[inline(always)]
     pub fn put_edt(&mut self, edt: Edt)
         ensures { self.new ≡ core_with self.old edt self.old.loans }
     {

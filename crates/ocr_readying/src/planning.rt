@@ -22,6 +22,7 @@ use std::alloc::Global;
 
 /// The block that an EDT acquires next, once it is ready with the plan of its slots, set to these
 /// payloads.
+#[inline(always)]
 pub fn next_with(
     alloc: Global,
     edt: &Edt,

@@ -22,6 +22,7 @@ impl Hand {
 
     /// Puts an EDT at the end of the hand's deque. The first pushes, as many as the room that was
     /// asked for, succeed.
+    #[inline(always)]
     pub fn push(&mut self, _alloc: Global, edt: Guid) -> Result<(), NoMemory>
         ensures same { IsSame self.old self.new × (knows self.new ≡ knows self.old) }
         ensures misses { misses_of self.new ≡ misses_of self.old }

@@ -110,7 +110,9 @@ impl<M: Machine> Clerk<M> {
         ensures rest { (self.new.table ≡ self.old.table) × (self.new.view ≡ self.old.view)
             × SameRoom self.old self.new }
     {
-        drop(swap_part(&mut self.parts, place, Some(part)));
+        let None = swap_part(&mut self.parts, place, Some(part)) else {
+            unreachable!()
+        };
     }
 
     /// Puts another part where one stands at hand, and hands out the one that stood there.

@@ -111,6 +111,7 @@ fn further_rounds<R: Wait, G: Gate>(
 }
 
 // One round: at the block that the EDT is known to acquire next, else at its face.
+#[inline(always)]
 fn round<R: Wait, G: Gate>(
     alloc: Global,
     job: &Job<R, G>,
