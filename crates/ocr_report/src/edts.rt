@@ -71,7 +71,12 @@ fn put(numbers: &mut Vec<u64>, number: u64) -> Result<(), NoMemory>
     ensures { OnOk result (numbers.new.items ≡ placed number numbers.old.items) }
 {
     let at = less_count(numbers, number);
-    if at < numbers.len() && numbers[at] == number {
+    // Numbers come almost in order: most go last.
+    if at == numbers.len() {
+        numbers.push(number)?;
+        return Ok(());
+    }
+    if numbers[at] == number {
         return Ok(());
     }
     match numbers.insert(at, number) {
