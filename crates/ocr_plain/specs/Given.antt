@@ -1,5 +1,5 @@
 -- What the arguments of a call were found to be, and what the call comes to.
-use Rattle.std.specs.Prelude.{◌≡◌, ℕ, List, [], ◌∷◌, vec_items, map, Option, None, Some}
+use Rattle.std.specs.Prelude.{◌≡◌, ℕ, List, [], ◌∷◌, ◌++◌, vec_items, map, replicate, Option, None, Some}
 use Rattle.ocr_tree.specs.declared.tree.CallName.{CallName}
 use Rattle.ocr_tree.specs.declared.tree.CallName.TheVariants as name
 use Rattle.ocr_meaning.specs.Behaviour.{Behaviour, Stops}
@@ -11,9 +11,12 @@ use Rattle.ocr_plain.specs.declared.given.Given as found
 use Rattle.ocr_plain.specs.declared.given.Way.{Way}
 use Rattle.ocr_plain.specs.declared.given.Way.TheVariants as way
 
--- what the walker found the arguments of a call to be
+-- what the walker found the arguments of a call to be: so many empty lists are the last
 abbrev pub given_of : found.Given → Given
-given_of g = record { values = g.values.items; lists = map vec_items g.lists.items }
+given_of g = record {
+  values = g.values.items;
+  lists = map vec_items g.lists.items ++ replicate g.empty [];
+}
 
 -- the first of some names, or that there is none
 abbrev pub IsFirst : (List ℕ → ℕ) → List (List ℕ) → (these : List (List ℕ)) → Option Named → Type 0

@@ -9,7 +9,7 @@ use crate::plain::{NONE_LEFT, operand};
 use ocr_base::Seq;
 use ocr_code::{ArgCode, Named};
 
-/// The fuel that is left of arguments, and the first name among them.
+/// The fuel that arguments leave, and the first name among them.
 #[derive(Clone, Copy)]
 pub struct Walked {
     pub left: u64,
