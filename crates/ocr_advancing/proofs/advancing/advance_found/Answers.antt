@@ -1,6 +1,6 @@
-use Rattle.ocr_worker.proofs.Rounds.{came_between}
-use Rattle.ocr_worker.proofs.Still.{quiet_lost}
-use Rattle.ocr_worker.proofs.advancing.advance_found.Goals as goal
+use Rattle.ocr_advancing.proofs.Rounds.{came_between}
+use Rattle.ocr_advancing.proofs.Still.{quiet_lost}
+use Rattle.ocr_advancing.proofs.advancing.advance_found.Goals as goal
 
 pub returns-in-Closed-clause-rests : goal.returns-in-Closed-clause-rests
 returns-in-Closed-clause-rests g c = λ rest.

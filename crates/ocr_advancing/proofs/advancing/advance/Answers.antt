@@ -2,7 +2,7 @@ use Rattle.std.proofs.Common.{subst}
 use Rattle.ocr_facts.specs.Ocr.{meaning}
 use Rattle.ocr_facts.specs.Clerks.{OcrView}
 use Rattle.ocr_rule.specs.Words.{SeesReady}
-use Rattle.ocr_worker.proofs.advancing.advance.Goals as goal
+use Rattle.ocr_advancing.proofs.advancing.advance.Goals as goal
 
 pub returns-in-Err-clause-told : goal.returns-in-Err-clause-told
 returns-in-Err-clause-told g c =

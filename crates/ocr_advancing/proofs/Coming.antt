@@ -4,7 +4,7 @@ use Rattle.std.proofs.lemmas.List.{append_assoc}
 use Rattle.ocr_clerks.specs.Entering.{OcrKnown}
 use Rattle.ocr_clerks.specs.Work.{Stays}
 use Rattle.ocr_history.specs.declared.entry.Entry.{Entry}
-use Rattle.ocr_worker.specs.Working.{HasEntered}
+use Rattle.ocr_advancing.specs.Working.{HasEntered}
 
 -- an entry that comes after others
 pub entered_after : (a b c : OcrKnown) (number : ℕ) (e : Entry) (P : Entry → Type 0) (between : List (ℕ × Entry)) → Stays a b → c.view.log ≡ b.view.log ++ between ++ (number, e) ∷ [] → P e → HasEntered a c P

@@ -9,8 +9,8 @@ use Rattle.ocr_history.specs.declared.entry.Entry.TheVariants.{Wait, End}
 use Rattle.ocr_rule.specs.Counting.{READY}
 use Rattle.ocr_rule.specs.Rule.{OPEN}
 use Rattle.ocr_rule.specs.Words.{SeesReady, SeesWord, claiming}
-use Rattle.ocr_worker.specs.declared.advancing.Advanced.{Advanced}
-use Rattle.ocr_worker.specs.declared.advancing.Advanced.TheVariants as advanced
+use Rattle.ocr_advancing.specs.declared.advancing.Advanced.{Advanced}
+use Rattle.ocr_advancing.specs.declared.advancing.Advanced.TheVariants as advanced
 
 -- BETWEEN its calls a worker's clerk is at work, with idle hands
 pub record IsBetween (table : OcrTable) (program : Checked) (c : OcrKnown) : Type 0 where

@@ -2,8 +2,8 @@
 ghost use Rattle.std.specs.Prelude.{◌≡◌, true, false, IfOk, OnErr, OnOk};
 ghost use Rattle.ocr_clerks.specs.Work.{IsGone, Stays};
 ghost use Rattle.ocr_steal.specs.Hand.{IsSame, knows, misses_of};
-ghost use Rattle.ocr_worker.specs.Leaving.{HasDelivered, HasRested};
-ghost use Rattle.ocr_worker.specs.Working.{IsBetween};
+ghost use Rattle.ocr_advancing.specs.Resting.{HasDelivered, HasRested};
+ghost use Rattle.ocr_advancing.specs.Working.{IsBetween};
 
 use ocr_clerks::{Gate, Job, Ocr, Over};
 use ocr_delivering::deliver_owed;
@@ -13,7 +13,7 @@ use std::alloc::Global;
 use std::sync::Wait;
 
 /// Delivers all that the clerk owes: whether it owed anything.
-pub(crate) fn deliver_all<R: Wait, G: Gate>(
+pub fn deliver_all<R: Wait, G: Gate>(
     alloc: Global,
     job: &Job<R, G>,
     worker: u32,

@@ -5,10 +5,10 @@ ghost use Rattle.ocr_facts.specs.Ocr.{meaning};
 ghost use Rattle.ocr_steal.specs.Hand.{IsSame, knows, misses_of};
 ghost use Rattle.ocr_rule.specs.Owing.{IsNumber};
 ghost use Rattle.ocr_rule.specs.Words.{SeesReady};
-ghost use Rattle.ocr_worker.specs.Leaving.{HasRested, IsAtRest};
-ghost use Rattle.ocr_worker.specs.Working.{AdvanceTells, HasCome, IsBetween};
+ghost use Rattle.ocr_advancing.specs.Resting.{HasRested, IsAtRest};
+ghost use Rattle.ocr_advancing.specs.Working.{AdvanceTells, HasCome, IsBetween};
 
-use crate::leaving::closing_word;
+use crate::closing::closing_word;
 use ocr_clerks::{Gate, Job, Ocr, Over};
 use ocr_count::{Claimed, claim};
 use ocr_guid::Guid;
@@ -89,7 +89,7 @@ fn go_on<R: Wait, G: Gate>(
 }
 
 /// Takes an EDT on that was found in a deque, where it has a number of the table.
-pub(crate) fn advance_found<R: Wait, G: Gate>(
+pub fn advance_found<R: Wait, G: Gate>(
     alloc: Global,
     job: &Job<R, G>,
     worker: u32,

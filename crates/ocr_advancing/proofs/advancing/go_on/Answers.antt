@@ -1,8 +1,8 @@
 use Rattle.std.proofs.Common.{refl}
 use Rattle.ocr_history.specs.declared.entry.Entry.TheVariants.{End}
-use Rattle.ocr_worker.specs.Working.{IsEndOf}
-use Rattle.ocr_worker.proofs.Coming.{entered_after}
-use Rattle.ocr_worker.proofs.advancing.go_on.Goals as goal
+use Rattle.ocr_advancing.specs.Working.{IsEndOf}
+use Rattle.ocr_advancing.proofs.Coming.{entered_after}
+use Rattle.ocr_advancing.proofs.advancing.go_on.Goals as goal
 
 pub returns-in_ok-run_body-in-Ready-clause-came : goal.returns-in_ok-run_body-in-Ready-clause-came
 returns-in_ok-run_body-in-Ready-clause-came g c =

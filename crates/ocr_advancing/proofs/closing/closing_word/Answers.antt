@@ -1,7 +1,7 @@
 use Rattle.std.proofs.Common.{ap, subst, sym, ◌∙◌}
-use Rattle.ocr_worker.proofs.Ended.{left_told, not_ended, same_known}
+use Rattle.ocr_advancing.proofs.Ended.{left_told, not_ended, same_known}
 use Rattle.ocr_clerks.specs.Work.{HasEnded}
-use Rattle.ocr_worker.proofs.leaving.closing_word.Goals as goal
+use Rattle.ocr_advancing.proofs.closing.closing_word.Goals as goal
 
 pub unreachable-requires : goal.unreachable-requires
 unreachable-requires c =
