@@ -1,6 +1,6 @@
 use Rattle.std.proofs.Common.{◌∙◌, ◌<◌, length, arith}
-use Rattle.ocr_serving.proofs.Values.{used_more}
-use Rattle.ocr_serving.proofs.given.used_slots.Goals as goal
+use Rattle.ocr_starting.proofs.Values.{used_more}
+use Rattle.ocr_starting.proofs.given.used_slots.Goals as goal
 
 pub loop-k-preserved : goal.loop-k-preserved
 loop-k-preserved c =

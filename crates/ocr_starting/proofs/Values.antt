@@ -5,7 +5,7 @@ use Rattle.ocr_parts.specs.Calls.{depv_in}
 use Rattle.ocr_slots.specs.Slots.{slot_at}
 use Rattle.ocr_slots.specs.declared.Slot.{Slot}
 use Rattle.ocr_standing.specs.Kept.{filled}
-use Rattle.ocr_serving.specs.Given.{are_used, is_used, value_by, values_by}
+use Rattle.ocr_starting.specs.Given.{are_used, is_used, value_by, values_by}
 
 -- ONE MORE
 pub used_more : (xs : List Bool) (slots : List Slot) (k : ℕ) → k < length slots → (xs ++ is_used (slot_at slots k) ∷ []) ++ are_used (drop (k + 1) slots) ≡ xs ++ are_used (drop k slots)

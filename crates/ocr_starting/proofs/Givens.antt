@@ -26,12 +26,12 @@ use Rattle.ocr_clerks.specs.Entering.{OcrKnown}
 use Rattle.ocr_clerks.specs.Work.{AtWork, CanRun, OcrTable, ready_with}
 use Rattle.ocr_running.specs.Running.{IsBegun, Runs, first_in, holds_at}
 use Rattle.ocr_running.specs.Serving.{holds_in, own_log}
-use Rattle.ocr_serving.specs.declared.given.Given.{Given}
-use Rattle.ocr_serving.specs.Given.{are_used, body_given, stale_with, values_by}
-use Rattle.ocr_serving.specs.Serving.{HasCore, IsGiven, IsRead, StepsCore}
-use Rattle.ocr_serving.proofs.Functions.{runs_function}
-use Rattle.ocr_serving.proofs.Stepped.{core_same, core_settled, stepped_runs, stepped_work}
-use Rattle.ocr_serving.proofs.Values.{used_length, values_are}
+use Rattle.ocr_starting.specs.declared.given.Given.{Given}
+use Rattle.ocr_starting.specs.Given.{are_used, body_given, stale_with, values_by}
+use Rattle.ocr_starting.specs.Starting.{HasCore, IsGiven, IsRead, StepsCore}
+use Rattle.ocr_starting.proofs.Functions.{runs_function}
+use Rattle.ocr_starting.proofs.Stepped.{core_same, core_settled, stepped_runs, stepped_work}
+use Rattle.ocr_starting.proofs.Values.{used_length, values_are}
 
 -- THE FACE at hand before the Start
 core_else : (limit edt : ℕ) → 2 ≤ limit → (edt == (limit + edt)) ≡ false

@@ -9,7 +9,7 @@ use Rattle.ocr_parts.specs.Bodies.{body_with}
 use Rattle.ocr_parts.specs.Calls.{mode_or_null}
 use Rattle.ocr_slots.specs.declared.Slot.{Slot}
 use Rattle.ocr_running.specs.Running.{holds_at}
-use Rattle.ocr_serving.specs.declared.given.Given.{Given}
+use Rattle.ocr_starting.specs.declared.given.Given.{Given}
 
 -- for each slot, whether it is linked in another mode than NULL
 abbrev pub is_used : Slot → Bool

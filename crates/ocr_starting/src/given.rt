@@ -8,8 +8,8 @@ ghost use Rattle.ocr_slots.specs.Slots.{slot_at};
 ghost use Rattle.ocr_slots.specs.declared.Slot.{Slot};
 ghost use Rattle.ocr_rule.specs.Sums.{find};
 ghost use Rattle.ocr_clerks.specs.Work.{AtWork, CanRun, IsGone, Stays};
-ghost use Rattle.ocr_serving.specs.Given.{are_used, is_used, value_by, values_by};
-ghost use Rattle.ocr_serving.specs.Serving.{HasCore, IsGiven, IsRead, StepsCore};
+ghost use Rattle.ocr_starting.specs.Given.{are_used, is_used, value_by, values_by};
+ghost use Rattle.ocr_starting.specs.Starting.{HasCore, IsGiven, IsRead, StepsCore};
 
 use ocr_acquire::Mode;
 use ocr_base::NoMemory;
@@ -24,18 +24,20 @@ use std::alloc::Global;
 use std::snapshot::Snapshot;
 use std::sync::Wait;
 
-/// What the body of an EDT is given: its function, its parameters and the values of its slots; and
-/// the clerk as it was then, for proofs alone.
+/// What the body of an EDT is given, for whoever runs it: its function, its parameters and the
+/// values of its slots; and the clerk as it was then, for proofs alone.
 #[derive(Drop)]
-pub(crate) struct Given {
+pub struct Given {
     pub function: u32,
     pub params: Vec<u64>,
     pub depv: Vec<Guid>,
     pub begun: Snapshot<Clerk<Ocr>>,
 }
 
-/// Enters the Start of an EDT whose plan is done, and tells what its body is given.
-pub(crate) fn begin<R: Wait, G: Gate>(
+/// Enters the Start of an EDT whose plan is done, and tells what its body is given. It is refused
+/// where the run has ended, or is ended here: for want of memory, or since the Start would pass the
+/// clerk's share.
+pub fn begin<R: Wait, G: Gate>(
     alloc: Global,
     job: &Job<R, G>,
     worker: u32,

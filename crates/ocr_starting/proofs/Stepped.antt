@@ -21,7 +21,7 @@ use Rattle.ocr_clerks.proofs.Going.{stays_self}
 use Rattle.ocr_clerks.proofs.Whole.{lifted_work, stays_from}
 use Rattle.ocr_running.specs.Running.{IsCoreOf, Runs, first_in}
 use Rattle.ocr_running.specs.Serving.{Serves}
-use Rattle.ocr_serving.specs.Serving.{HasCore, StepsCore}
+use Rattle.ocr_starting.specs.Starting.{HasCore, StepsCore}
 
 -- THE CORE at hand
 abbrev core_or : Core → Part → Core

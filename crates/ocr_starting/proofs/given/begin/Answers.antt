@@ -1,10 +1,10 @@
 use Rattle.std.proofs.Common.{◌≡◌, ◌∙◌, ◌+◌, ℕ, List, ap, subst}
 use Rattle.ocr_parts.specs.Effects.{settled_core}
 use Rattle.ocr_slots.specs.declared.Slot.{Slot}
-use Rattle.ocr_serving.specs.Given.{are_used}
-use Rattle.ocr_serving.specs.Serving.{IsRead, StepsCore}
-use Rattle.ocr_serving.proofs.Givens.{face_same, given_is}
-use Rattle.ocr_serving.proofs.given.begin.Goals as goal
+use Rattle.ocr_starting.specs.Given.{are_used}
+use Rattle.ocr_starting.specs.Starting.{IsRead, StepsCore}
+use Rattle.ocr_starting.proofs.Givens.{face_same, given_is}
+use Rattle.ocr_starting.proofs.given.begin.Goals as goal
 
 pub returns-clause-given : goal.returns-clause-given
 returns-clause-given g c =
