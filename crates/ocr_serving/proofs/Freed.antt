@@ -19,10 +19,11 @@ use Rattle.ocr_running.specs.Loans.{core_after}
 use Rattle.ocr_running.specs.Running.{AreOthers, HasEntered, HasTaken, Runs, first_in, held_at, holds_at}
 use Rattle.ocr_running.specs.Serving.{own_log}
 use Rattle.ocr_running.proofs.Asked.{took_is}
-use Rattle.ocr_serving.specs.Serving.{HasReturned, StepsCore}
+use Rattle.ocr_serving.specs.Serving.{HasReturned}
+use Rattle.ocr_starting.specs.Starting.{StepsCore}
 use Rattle.ocr_serving.proofs.Frees.{can_free, free_held, free_leaves, free_left, free_own, has_both, held_within, other_face}
 use Rattle.ocr_serving.proofs.Returns.{held_listed, holds_same, private_left, returned_after, runs_listed}
-use Rattle.ocr_serving.proofs.Stepped.{stepped_work}
+use Rattle.ocr_starting.proofs.Stepped.{stepped_work}
 
 module _ (table : OcrTable) (program : Checked) (edt d : ℕ) (b : Body) (c0 c1 : OcrKnown) (work0 : AtWork table program c0) (g : ℕ) (ret : HasReturned table.1 edt b g c0) (least0 : least_of (held_at c0) ≡ Some d) (steps : StepsCore (table.1.limit + edt) (core_after after_list_writes d) c0 c1) where
   pub work_then : AtWork table program c1

@@ -1,8 +1,4 @@
 pub mod Desks
 pub mod Freed
 pub mod Frees
-pub mod Functions
-pub mod Givens
 pub mod Returns
-pub mod Stepped
-pub mod Values

@@ -22,8 +22,9 @@ use Rattle.ocr_running.specs.Running.{HasTaken, IsNewest, Runs, first_in, held_a
 use Rattle.ocr_running.specs.Serving.{holds_in, own_log}
 use Rattle.ocr_running.proofs.Asked.{took_is}
 use Rattle.ocr_running.proofs.Loaned.{core_listed, holds_listed}
-use Rattle.ocr_serving.specs.Serving.{EndsNow, HasReturned, StepsCore, end_holds}
-use Rattle.ocr_serving.proofs.Stepped.{stepped_runs}
+use Rattle.ocr_serving.specs.Serving.{EndsNow, HasReturned, end_holds}
+use Rattle.ocr_starting.specs.Starting.{StepsCore}
+use Rattle.ocr_starting.proofs.Stepped.{stepped_runs}
 
 -- THE WRITES of the core at hand are listed
 module _ (t : OcrTerms) (edt d : ℕ) (b : Body) (old new : OcrKnown) (runs : Runs t edt b old) (steps : StepsCore (t.limit + edt) (core_after after_list_writes d) old new) where

@@ -1,7 +1,6 @@
--- A clerk that runs the body of an EDT, from its start to its end.
-use Rattle.std.specs.Prelude.{◌≡◌, ◌<◌, ◌≤◌, ℕ, List, [], ◌∷◌, ◌++◌, Bool, true, false, length, Option, Some, None, is_some}
+-- A clerk that runs the body of an EDT, to its end.
+use Rattle.std.specs.Prelude.{◌≡◌, ℕ, List, [], ◌∷◌, ◌++◌, Bool, true, false, Option, Some, None, is_some}
 use Rattle.ocr_acquire.specs.Mode.{mode_in}
-use Rattle.ocr_code.specs.Checked.{checked_tree}
 use Rattle.ocr_code.specs.declared.checked.Checked.{Checked}
 use Rattle.ocr_meaning.specs.Behaviour.{Behaviour, Ends}
 use Rattle.ocr_meaning.specs.Body.{Body, says}
@@ -10,46 +9,11 @@ use Rattle.ocr_meaning.specs.declared.call.BodyStop.{BodyStop}
 use Rattle.ocr_meaning.specs.declared.call.BodyStop.TheVariants as stop
 use Rattle.ocr_history.specs.declared.entry.Entry.{Entry}
 use Rattle.ocr_history.specs.declared.entry.Entry.TheVariants as an
-use Rattle.ocr_parts.specs.declared.part.Core.{Core}
-use Rattle.ocr_parts.specs.declared.part.Part.TheVariants as part
-use Rattle.ocr_parts.specs.Kinds.{work_in}
-use Rattle.ocr_rule.specs.Contract.{SameRoom}
 use Rattle.ocr_facts.specs.Clerks.{OcrTerms}
 use Rattle.ocr_clerks.specs.Entering.{OcrKnown}
 use Rattle.ocr_clerks.specs.Work.{AtWork, IsGone, OcrTable}
 use Rattle.ocr_running.specs.Running.{Runs, held_at, holds_at}
 use Rattle.ocr_running.specs.Serving.{own_log}
-use Rattle.ocr_serving.specs.Given.{body_given, stale_with, values_by}
-use Rattle.ocr_serving.specs.declared.given.Given.{Given}
-
--- THE CORE at hand is the only part there
-abbrev pub HasCore : ℕ → Core → OcrKnown → Type 0
-HasCore place core c = c.parts ≡ (place, Some (part.Core core)) ∷ []
-
--- it was changed so, and nothing else
-pub record StepsCore (place : ℕ) (step : Core → Core) (old new : OcrKnown) : Type 0 where
-  pub table : new.table ≡ old.table
-  pub view : new.view ≡ old.view
-  pub room : SameRoom old new
-  pub core : (core : Core) → HasCore place core old → HasCore place (step core) new
-
--- this was read of it
-pub record IsRead (place : ℕ) (used : List Bool) (payloads : List ℕ) (g : Given) (c : OcrKnown)
-    : Type 0 where
-  pub core : Core
-  pub at_hand : HasCore place core c
-  pub function : g.function ≡ core.function
-  pub params : g.params.items ≡ core.params
-  pub depv : g.depv.items ≡ values_by (stale_with (work_in core.edt)) used payloads
-  pub begun : g.begun.value ≡ c
-
--- STARTED: the clerk runs the body that is given this, which made no call yet
-pub record IsGiven (t : OcrTerms) (program : Checked) (edt : ℕ) (g : Given) (c : OcrKnown)
-    : Type 0 where
-  pub runs : Runs t edt (body_given program g) c
-  pub begun : g.begun.value ≡ c
-  pub calls : own_log c.view.log edt ≡ []
-  pub exists : (0 < g.function) × (g.function ≤ length (checked_tree program))
 
 -- AT THE DESK, while the run was not found ended
 pub record AtDesk (table : OcrTable) (program : Checked) (edt : ℕ) (b : Body) (c : OcrKnown)

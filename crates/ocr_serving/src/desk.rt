@@ -10,15 +10,15 @@ ghost use Rattle.ocr_clerks.specs.Work.{AtWork, IsGone, Stays};
 ghost use Rattle.ocr_running.specs.Accesses.{IfFault, OnGoing, OnOver};
 ghost use Rattle.ocr_running.specs.Running.{IsCalled, IsPushed, Runs, holds_at};
 ghost use Rattle.ocr_running.specs.Serving.{own_log};
-ghost use Rattle.ocr_serving.specs.Given.{body_given};
+ghost use Rattle.ocr_starting.specs.Given.{body_given};
 
-use crate::given::Given;
 use ocr_body::Api;
 use ocr_calling::make_call;
 use ocr_clerks::{Gate, Job, Ocr, Over};
 use ocr_guid::Guid;
 use ocr_meaning::{Answer, BodyStop, Call};
 use ocr_running::{Refusal, load, store};
+use ocr_starting::Given;
 use ocr_steal::Hand;
 use ocr_turns::Clerk;
 use std::alloc::Global;
@@ -47,7 +47,7 @@ impl<'a, 'j, R: Wait, G: Gate> Api for Desk<'a, 'j, R, G> {
     ghost use Rattle.ocr_clerks.specs.Work.{Stays};
     ghost use Rattle.ocr_running.specs.Running.{IsPushed};
     ghost use Rattle.ocr_running.specs.Serving.{own_log};
-    ghost use Rattle.ocr_serving.specs.Given.{body_given};
+    ghost use Rattle.ocr_starting.specs.Given.{body_given};
     ghost use Rattle.ocr_serving.specs.Serving.{IsReady, holds_while, state_in};
 
     type Kept = (

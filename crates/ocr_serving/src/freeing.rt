@@ -11,7 +11,8 @@ ghost use Rattle.ocr_clerks.specs.Entering.{OcrKnown};
 ghost use Rattle.ocr_clerks.specs.Work.{AtWork, IsGone, IsIdle, Stays};
 ghost use Rattle.ocr_running.specs.Loans.{core_after};
 ghost use Rattle.ocr_running.specs.Running.{IsNewest, IsPushed, held_at, holds_at};
-ghost use Rattle.ocr_serving.specs.Serving.{HasCore, HasReturned, StepsCore};
+ghost use Rattle.ocr_starting.specs.Starting.{HasCore, StepsCore};
+ghost use Rattle.ocr_serving.specs.Serving.{HasReturned};
 
 use ocr_base::NoMemory;
 use ocr_clerks::{Gate, Job, Ocr, Over, close_memory, enter_kept, take_part};

@@ -4,6 +4,5 @@
 mod body;
 mod desk;
 mod freeing;
-mod given;
 
 pub use body::run_body;

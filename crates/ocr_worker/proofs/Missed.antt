@@ -13,16 +13,6 @@ use Rattle.ocr_steal.specs.Pool.{IsOf, hands_in}
 use Rattle.ocr_steal.proofs.Passes.{same_length}
 use Rattle.ocr_worker.specs.Stealing.{HasMissed, HasMissedMore}
 
-pub same_hand : (h : Hand) → IsSame h h
-same_hand h = record { number = refl; pool = refl; room_kept = omega arith }
-
-pub same_both : (a b c : Hand) → IsSame a b → IsSame b c → IsSame a c
-same_both a b c p q = record {
-  number = q.number ∙ p.number;
-  pool = q.pool ∙ p.pool;
-  room_kept = (let x = p.room_kept in let y = q.room_kept in omega (arith, x, y));
-}
-
 pub of_pool : (pool : Pool) (a b : Hand) → IsSame a b → IsOf pool a → IsOf pool b
 of_pool pool a b same is = same.pool ∙ is
 

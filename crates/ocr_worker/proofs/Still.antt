@@ -2,10 +2,12 @@
 use Rattle.std.proofs.Common.{◌≡◌, ℕ, List, length, refl, sym, ◌∙◌, ap, subst, Option, Some, None, MatchOption, Result, Ok, Err, OnOk}
 use lib.ListN.{get_elem?}
 use Rattle.atomic_table.proofs.Lists.{at_last}
+use Rattle.ocr_advancing.specs.Resting.{HasDelivered, IsAlone, IsAtRest, SeesQuiet}
+use Rattle.ocr_advancing.specs.Working.{IsBetween}
 use Rattle.ocr_clerks.specs.Entering.{OcrKnown}
 use Rattle.ocr_clerks.specs.Work.{OcrTable, Stays}
 use Rattle.ocr_code.specs.declared.checked.Checked.{Checked}
-use Rattle.ocr_drained.specs.Drained.{IsLone, OwesNothing}
+use Rattle.ocr_drained.specs.Drained.{OwesNothing}
 use Rattle.ocr_drained.proofs.Drained.{pass_law, rest_law}
 use Rattle.ocr_facts.specs.Clerks.{OcrView}
 use Rattle.ocr_facts.specs.Ocr.{meaning}
@@ -13,12 +15,9 @@ use Rattle.ocr_history.specs.declared.entry.Entry.{Entry}
 use Rattle.ocr_rule.specs.Contract.{ClosedBy}
 use Rattle.ocr_rule.specs.Meaning.{Ended, Open}
 use Rattle.ocr_rule.specs.Steps.{SeesEnd, SeesOpen, shut_by}
-use Rattle.ocr_rule.specs.Words.{SeesReady, claiming}
 use Rattle.ocr_rule.proofs.Sole.{same_end}
-use Rattle.ocr_worker.specs.Leaving.{AllUnready, HasDelivered, IsAlone, IsAtRest, SeesQuiet}
-use Rattle.ocr_worker.specs.Working.{AdvanceTells, IsBetween}
-use Rattle.ocr_worker.specs.declared.advancing.Advanced.{Advanced}
-use Rattle.ocr_worker.specs.declared.advancing.Advanced.TheVariants as advanced
+use Rattle.ocr_worker.specs.Leaving.{AllUnready}
+use Rattle.ocr_advancing.proofs.Still.{lone}
 
 pub on_ok : {T E : Type 0} (r : Result T E) (P Q : Type 0) → (P → Q) → OnOk r P → OnOk r Q
 on_ok (Ok x) P Q f p = f p
@@ -26,14 +25,6 @@ on_ok (Err e) P Q f p = tt
 
 pub alone_stays : (old new : OcrKnown) → Stays old new → IsAlone old → IsAlone new
 alone_stays old new stays alone = record { root = stays.root ∙ alone.root; nobody_out = stays.out ∙ alone.nobody_out }
-
-lone : (table : OcrTable) (program : Checked) (c : OcrKnown) → IsBetween table program c → IsAlone c → IsLone table.1 c.view
-lone table program c between alone = record {
-  terms = between.work.of_table.1;
-  unclosed = between.work.is_open;
-  root = alone.root;
-  nobody_out = alone.nobody_out;
-}
 
 owes_nothing : (table : OcrTable) (program : Checked) (c : OcrKnown) → IsBetween table program c → HasDelivered c → OwesNothing c.view
 owes_nothing table program c between delivered = record {
@@ -67,19 +58,7 @@ drained table program before after new between alone delivered passed looked =
     let unready = subst (AllUnready table.1.limit) (sym looked.0) passed.1 in
     (now, owed, sees_quiet table program new now sole owed unready looked.1)
 
--- A QUIET RUN: no claim is won
-pub quiet_lost : (table : OcrTable) (program : Checked) (worker edt : ℕ) (a : Advanced) (old new : OcrKnown) → IsBetween table program old → IsAtRest table old → AdvanceTells table program worker a edt old new → (word : ℕ) × (a ≡ advanced.Lost word) × (new ≡ old)
-quiet_lost table program worker edt a old new between rest told =
-    let never = (rest_law table.1 old.view rest.quiet.history (lone table program old between rest.alone) rest.quiet.fits rest.quiet.quiet).1 edt in
-    by_answer a told never
-  where
-    by_answer : (a : Advanced) → AdvanceTells table program worker a edt old new → (SeesReady meaning (claiming old.view edt) edt → ⊥) → (word : ℕ) × (a ≡ advanced.Lost word) × (new ≡ old)
-    by_answer (advanced.Lost word) told never = (word, refl, told.0)
-    by_answer advanced.Parked told never = absurd (never told.0)
-    by_answer advanced.Ended told never = absurd (never told.0)
-    by_answer (advanced.Closed word) told never = absurd (never told.0)
-
--- nothing is owed
+-- A QUIET RUN: nothing is owed
 pub quiet_delivered : (table : OcrTable) (program : Checked) (c : OcrKnown) → IsBetween table program c → IsAtRest table c → HasDelivered c
 quiet_delivered table program c between rest = (rest_law table.1 c.view rest.quiet.history (lone table program c between rest.alone) rest.quiet.fits rest.quiet.quiet).0
 

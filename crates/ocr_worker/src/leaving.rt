@@ -1,16 +1,14 @@
 // How a worker leaves its work.
-ghost use Rattle.std.specs.Prelude.{◌≡◌, ◌≤◌, ℕ, Some, OnErr, OnOk};
-ghost use Rattle.ocr_clerks.specs.Work.{HasEnded, HasLeft, IsGone, Stays};
+ghost use Rattle.std.specs.Prelude.{◌≡◌, OnErr, OnOk};
+ghost use Rattle.ocr_clerks.specs.Work.{IsGone, Stays};
 ghost use Rattle.ocr_facts.specs.Ocr.{meaning};
-ghost use Rattle.ocr_rule.specs.Contract.{IsOf};
-ghost use Rattle.ocr_rule.specs.Rule.{OPEN};
 ghost use Rattle.ocr_rule.specs.Steps.{SeesOpen};
-ghost use Rattle.ocr_worker.specs.Leaving.{HasRested, IsAtRest};
-ghost use Rattle.ocr_worker.specs.Working.{IsBetween};
+ghost use Rattle.ocr_advancing.specs.Resting.{HasRested, IsAtRest};
+ghost use Rattle.ocr_advancing.specs.Working.{IsBetween};
 
 use ocr_clerks::{Gate, Job, Ocr, Over};
 use ocr_steal::Hand;
-use ocr_turns::{Clerk, Turns};
+use ocr_turns::Clerk;
 use std::sync::Wait;
 
 /// Why a worker leaves.
@@ -28,21 +26,6 @@ pub struct Worked {
     pub clerk: Clerk<Ocr>,
     pub hand: Hand,
     pub leave: Leave,
-}
-
-/// The commit word of a run that has ended, as this clerk knows.
-pub(crate) fn closing_word(turns: &Turns<Ocr>, clerk: &mut Clerk<Ocr>) -> u64
-    requires table { IsOf turns.now clerk.old }
-    requires ended { HasEnded clerk.old }
-    ensures stays { Stays clerk.old clerk.new }
-    ensures closed { (OPEN ≤ result) × (clerk.new.view.closed ≡ Some result) }
-    ensures left { (worker : ℕ) → HasLeft turns.now worker clerk.old
-        → HasLeft turns.now worker clerk.new }
-{
-    match turns.look(clerk) {
-        Some(word) => word,
-        None => unreachable!(),
-    }
 }
 
 /// Looks whether the run goes on.

@@ -2,14 +2,11 @@
 //! of the others, and takes each EDT on as far as it goes. One worker drains what is left.
 #![tactic(auto)]
 
-mod advancing;
-mod delivering;
 mod draining;
 mod leaving;
 mod stealing;
 mod working;
 
-pub use advancing::{Advanced, advance};
 pub use draining::drain;
 pub use leaving::{Leave, Worked};
 pub use working::work;

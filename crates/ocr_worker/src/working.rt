@@ -3,14 +3,14 @@ ghost use Rattle.std.specs.Prelude.{◌≡◌, ◌+◌, ◌^◌, ◌<◌, ◌≤
 ghost use Rattle.ocr_clerks.specs.Work.{HasLeft, IsGone, Stays};
 ghost use Rattle.ocr_steal.specs.Hand.{IsSame};
 ghost use Rattle.ocr_steal.specs.Pool.{IsOf, hands_in};
-ghost use Rattle.ocr_worker.specs.Leaving.{HasDelivered, IDLE_ROUNDS, WorkLeaves};
+ghost use Rattle.ocr_advancing.specs.Resting.{HasDelivered};
+ghost use Rattle.ocr_worker.specs.Leaving.{IDLE_ROUNDS, WorkLeaves};
 ghost use Rattle.ocr_worker.specs.Stealing.{HasFoundNothing, HasMissed};
-ghost use Rattle.ocr_worker.specs.Working.{IsBetween};
+ghost use Rattle.ocr_advancing.specs.Working.{IsBetween};
 
-use crate::advancing::advance_found;
-use crate::delivering::deliver_all;
-use crate::leaving::{Leave, Worked, closing_word, look_on};
+use crate::leaving::{Leave, Worked, look_on};
 use crate::stealing::steal_once;
+use ocr_advancing::{advance_found, closing_word, deliver_all};
 use ocr_clerks::{Gate, Job, Ocr, Over};
 use ocr_steal::Hand;
 use ocr_turns::Clerk;

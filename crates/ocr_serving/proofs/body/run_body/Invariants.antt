@@ -1,4 +1,4 @@
-use Rattle.ocr_serving.specs.Given.{body_given}
+use Rattle.ocr_starting.specs.Given.{body_given}
 use Rattle.ocr_serving.proofs.body.run_body.Given as goal
 
 abbrev pub ghost-run_given : goal.ghost-run_given

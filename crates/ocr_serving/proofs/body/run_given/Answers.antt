@@ -6,7 +6,7 @@ use Rattle.ocr_meaning.specs.Behaviour.{Behaviour, Ends}
 use Rattle.ocr_clerks.specs.Entering.{OcrKnown}
 use Rattle.ocr_clerks.specs.Work.{Stays}
 use Rattle.ocr_running.specs.Running.{holds_at}
-use Rattle.ocr_serving.specs.Given.{body_given}
+use Rattle.ocr_starting.specs.Given.{body_given}
 use Rattle.ocr_serving.specs.Serving.{EndsNow}
 use Rattle.ocr_serving.proofs.Returns.{ends_after}
 use Rattle.ocr_serving.proofs.Desks.{body_cause, err_then, holds_on, ok_then, on_ok_then, pushed_so, said_now, walked}

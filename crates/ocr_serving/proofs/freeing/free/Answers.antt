@@ -6,7 +6,8 @@ use Rattle.ocr_clerks.specs.Work.{Took}
 use Rattle.ocr_running.specs.Loans.{core_after}
 use Rattle.ocr_running.specs.Running.{AreOthers, HasEntered, Runs, first_in, held_at}
 use Rattle.ocr_edt.specs.Phases.{without}
-use Rattle.ocr_serving.specs.Serving.{HasReturned, StepsCore}
+use Rattle.ocr_serving.specs.Serving.{HasReturned}
+use Rattle.ocr_starting.specs.Starting.{StepsCore}
 use Rattle.ocr_serving.proofs.Freed.{can_then, entered_then, has_then, held_then, others_then, place_then, returned_then, room_then, work_then}
 use Rattle.ocr_serving.proofs.Returns.{ok_three}
 use Rattle.ocr_serving.proofs.freeing.free.Goals as goal

@@ -1,5 +1,5 @@
 use Rattle.ocr_parts.specs.declared.part.Part.TheVariants as part
-use Rattle.ocr_serving.proofs.Stepped.{core_found}
+use Rattle.ocr_starting.proofs.Stepped.{core_found}
 use Rattle.ocr_serving.proofs.freeing.list_writes.Goals as goal
 
 pub lift-requires : goal.lift-requires

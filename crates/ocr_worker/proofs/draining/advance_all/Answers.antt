@@ -1,7 +1,8 @@
 use Rattle.std.proofs.Common.{◌+◌, subst, sym, arith}
-use Rattle.ocr_worker.specs.Leaving.{IsAtRest}
-use Rattle.ocr_worker.proofs.Rounds.{came_between, goes_next, passed, passing_lost, passing_won, rests_next}
-use Rattle.ocr_worker.proofs.Still.{quiet_lost}
+use Rattle.ocr_advancing.specs.Resting.{IsAtRest}
+use Rattle.ocr_advancing.proofs.Rounds.{came_between, goes_next}
+use Rattle.ocr_worker.proofs.Rounds.{passed, passing_lost, passing_won, rests_next}
+use Rattle.ocr_advancing.proofs.Still.{quiet_lost}
 use Rattle.ocr_worker.proofs.draining.advance_all.Goals.{in-Lost, in_default}
 use Rattle.ocr_worker.proofs.draining.advance_all.Goals as goal
 

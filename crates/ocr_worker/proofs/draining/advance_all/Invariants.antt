@@ -1,4 +1,5 @@
-use Rattle.ocr_worker.proofs.Rounds.{GoesOn, IsPassing, Rests}
+use Rattle.ocr_advancing.proofs.Rounds.{GoesOn}
+use Rattle.ocr_worker.proofs.Rounds.{IsPassing, Rests}
 use Rattle.ocr_worker.proofs.draining.advance_all.Given as goal
 
 abbrev pub invariant-loop-number : goal.invariant-loop-number

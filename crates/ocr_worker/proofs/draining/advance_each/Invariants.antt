@@ -1,4 +1,5 @@
-use Rattle.ocr_worker.proofs.Rounds.{GoesOn, Rests}
+use Rattle.ocr_advancing.proofs.Rounds.{GoesOn}
+use Rattle.ocr_worker.proofs.Rounds.{Rests}
 use Rattle.ocr_worker.proofs.draining.advance_each.Given as goal
 
 abbrev pub invariant-loop-edt : goal.invariant-loop-edt

@@ -1,8 +1,9 @@
 use Rattle.std.proofs.Common.{subst, sym, ◌∙◌}
-use Rattle.ocr_worker.specs.Leaving.{IsAtRest}
+use Rattle.ocr_advancing.specs.Resting.{IsAtRest}
 use Rattle.ocr_clerks.proofs.Going.{stays_both}
-use Rattle.ocr_worker.proofs.Missed.{same_both}
-use Rattle.ocr_worker.proofs.Rounds.{Rests, goes_next, rests_next}
+use Rattle.ocr_advancing.proofs.Rounds.{same_both}
+use Rattle.ocr_worker.proofs.Rounds.{Rests, rests_next}
+use Rattle.ocr_advancing.proofs.Rounds.{goes_next}
 use Rattle.ocr_worker.proofs.Still.{HasDrained, alone_stays, drained, on_ok, quiet_delivered}
 use Rattle.ocr_worker.proofs.draining.drain_on.Goals as goal
 

@@ -1,4 +1,5 @@
-use Rattle.ocr_worker.proofs.Rounds.{GoesOn, Rests}
+use Rattle.ocr_advancing.proofs.Rounds.{GoesOn}
+use Rattle.ocr_worker.proofs.Rounds.{Rests}
 use Rattle.ocr_worker.proofs.draining.drain_on.Given as goal
 
 abbrev pub invariant-loop : goal.invariant-loop

@@ -1,8 +1,8 @@
 use Rattle.std.proofs.Common.{subst, sym, arith}
 use Rattle.ocr_clerks.specs.Work.{Stays}
-use Rattle.ocr_worker.specs.Working.{IsBetween}
+use Rattle.ocr_advancing.specs.Working.{IsBetween}
 use Rattle.ocr_worker.proofs.Missed.{of_pool}
-use Rattle.ocr_worker.proofs.Rounds.{goes_next}
+use Rattle.ocr_advancing.proofs.Rounds.{goes_next}
 use Rattle.ocr_worker.proofs.working.work_on.Goals as goal
 
 pub loop-preserved : goal.loop-preserved

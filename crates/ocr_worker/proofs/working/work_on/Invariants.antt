@@ -1,4 +1,5 @@
-use Rattle.ocr_worker.proofs.Rounds.{GoesOn, IsResting}
+use Rattle.ocr_advancing.proofs.Rounds.{GoesOn}
+use Rattle.ocr_worker.proofs.Rounds.{IsResting}
 use Rattle.ocr_worker.proofs.working.work_on.Given as goal
 
 abbrev pub invariant-loop : goal.invariant-loop

@@ -4,7 +4,7 @@ use Rattle.ocr_clerks.specs.Entering.{OcrKnown}
 use Rattle.ocr_clerks.proofs.Going.{stays_both}
 use Rattle.ocr_running.specs.Serving.{own_log}
 use Rattle.ocr_running.proofs.Settled.{pushed_both}
-use Rattle.ocr_serving.specs.Given.{body_given}
+use Rattle.ocr_starting.specs.Given.{body_given}
 use Rattle.ocr_serving.proofs.Desks.{holds_on, next_on, ready_on, ready_still, risen, state_on}
 use Rattle.ocr_serving.proofs.desk.DeskApi.call.Goals as goal
 

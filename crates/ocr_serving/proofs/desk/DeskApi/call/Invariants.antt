@@ -1,4 +1,4 @@
-use Rattle.ocr_serving.specs.Given.{body_given}
+use Rattle.ocr_starting.specs.Given.{body_given}
 use Rattle.ocr_serving.proofs.desk.DeskApi.call.Given as goal
 
 abbrev pub ghost-answer : goal.ghost-answer

@@ -4,7 +4,7 @@ use Rattle.ocr_meaning.specs.Holds.{Holds, load_of}
 use Rattle.ocr_body.specs.Serving.{IsAccessStop}
 use Rattle.ocr_meaning.specs.declared.call.BodyStop.TheVariants as stop
 use Rattle.ocr_running.specs.Running.{holds_at}
-use Rattle.ocr_serving.specs.Given.{body_given}
+use Rattle.ocr_starting.specs.Given.{body_given}
 use Rattle.ocr_serving.proofs.Desks.{access_closed, fit_over, holds_on, load_on, load_over, raised_rose, ready_on}
 use Rattle.ocr_serving.proofs.desk.DeskApi.load.Goals as goal
 

@@ -1,0 +1,4 @@
+pub mod Ended
+pub mod Coming
+pub mod Rounds
+pub mod Still

@@ -1,0 +1,16 @@
+use Rattle.std.proofs.Common.{subst}
+use Rattle.ocr_facts.specs.Ocr.{meaning}
+use Rattle.ocr_facts.specs.Clerks.{OcrView}
+use Rattle.ocr_rule.specs.Words.{SeesReady}
+use Rattle.ocr_advancing.proofs.advancing.advance.Goals as goal
+
+pub returns-in-Err-clause-told : goal.returns-in-Err-clause-told
+returns-in-Err-clause-told g c =
+    let told = c.in_default.ensures.told in (
+      subst (λ (v : OcrView). SeesReady meaning v c.args.edt) told.0 told.1,
+      record {
+        past = c.closing_word.ensures.closed.0;
+        read = c.closing_word.ensures.closed.1;
+        left = c.closing_word.ensures.left c.args.worker c.in-Err.ensures.left.0;
+      },
+    )

@@ -1,0 +1,115 @@
+// A worker takes an EDT on as far as it goes.
+ghost use Rattle.std.specs.Prelude.{◌≡◌, ℕ, [], IfOk, OnErr, OnOk};
+ghost use Rattle.ocr_clerks.specs.Work.{AtWork, HasTakenOn, IsGone, Stays};
+ghost use Rattle.ocr_facts.specs.Ocr.{meaning};
+ghost use Rattle.ocr_steal.specs.Hand.{IsSame, knows, misses_of};
+ghost use Rattle.ocr_rule.specs.Owing.{IsNumber};
+ghost use Rattle.ocr_rule.specs.Words.{SeesReady};
+ghost use Rattle.ocr_advancing.specs.Resting.{HasRested, IsAtRest};
+ghost use Rattle.ocr_advancing.specs.Working.{AdvanceTells, HasCome, IsBetween};
+
+use crate::closing::closing_word;
+use ocr_clerks::{Gate, Job, Ocr, Over};
+use ocr_count::{Claimed, claim};
+use ocr_guid::Guid;
+use ocr_serving::run_body;
+use ocr_steal::Hand;
+use ocr_turns::Clerk;
+use ocr_waking::{Woken, wake};
+use std::alloc::Global;
+use std::sync::Wait;
+
+/// How far an EDT came.
+#[derive(Clone, Copy, PartialEq, Eq, Debug)]
+pub enum Advanced {
+    /// It was not ready: the word that the claim found.
+    Lost(u64),
+    /// It waits for a block, and whoever resumes it makes it ready.
+    Parked,
+    /// Its body ran to its end.
+    Ended,
+    /// The run has ended: the commit word that the clerk read, at least 2^48.
+    Closed(u64),
+}
+
+/// Claims an EDT and takes it on as far as it goes. Want of memory ends the run.
+pub fn advance<R: Wait, G: Gate>(
+    alloc: Global,
+    job: &Job<R, G>,
+    worker: u32,
+    clerk: &mut Clerk<Ocr>,
+    hand: &mut Hand,
+    edt: Guid,
+) -> Advanced
+    requires between { IsBetween job.now.turns.now job.now.program.now clerk.old }
+    requires edt { IsNumber job.now.turns.now.1.limit edt }
+    ensures stays { Stays clerk.old clerk.new }
+    ensures hand { IsSame hand.old hand.new × (knows hand.new ≡ knows hand.old)
+        × (misses_of hand.new ≡ misses_of hand.old) }
+    ensures lost { (word : ℕ) → result ≡ Advanced.Lost word → hand.new ≡ hand.old }
+    ensures told { AdvanceTells job.now.turns.now job.now.program.now worker result edt clerk.old
+        clerk.new }
+{
+    if let Claimed::Lost(word) = claim(job.turns, clerk, edt) {
+        return Advanced::Lost(word);
+    }
+    match go_on(alloc, job, worker, clerk, hand, edt) {
+        Ok(advanced) => advanced,
+        Err(_) => Advanced::Closed(closing_word(job.turns, clerk)),
+    }
+}
+
+/// Takes an EDT on that was claimed, until it waits or its body has run to its end.
+fn go_on<R: Wait, G: Gate>(
+    alloc: Global,
+    job: &Job<R, G>,
+    worker: u32,
+    clerk: &mut Clerk<Ocr>,
+    hand: &mut Hand,
+    edt: Guid,
+) -> Result<Advanced, Over>
+    requires work { AtWork job.now.turns.now job.now.program.now clerk.old }
+    requires taken { HasTakenOn job.now.turns.now.1 edt clerk.old }
+    requires bare { (clerk.old.view.parts ≡ []) × (clerk.old.parts ≡ []) }
+    requires ready { SeesReady meaning clerk.old.view edt }
+    ensures stays { Stays clerk.old clerk.new }
+    ensures hand { IsSame hand.old hand.new × (knows hand.new ≡ knows hand.old)
+        × (misses_of hand.new ≡ misses_of hand.old) }
+    ensures came { IfOk result (λ a. HasCome job.now.turns.now job.now.program.now a edt clerk.old
+        clerk.new) }
+    ensures left { OnErr result (IsGone job.now.turns.now worker clerk.new) }
+{
+    match wake(alloc, job, worker, clerk, edt)? {
+        Woken::Parked => Ok(Advanced::Parked),
+        Woken::Ready(payloads) => {
+            run_body(alloc, job, worker, clerk, hand, edt, payloads.as_slice())?;
+            Ok(Advanced::Ended)
+        }
+    }
+}
+
+/// Takes an EDT on that was found in a deque, where it has a number of the table.
+pub fn advance_found<R: Wait, G: Gate>(
+    alloc: Global,
+    job: &Job<R, G>,
+    worker: u32,
+    clerk: &mut Clerk<Ocr>,
+    hand: &mut Hand,
+    edt: Guid,
+) -> Result<(), Over>
+    requires between { IsBetween job.now.turns.now job.now.program.now clerk.old }
+    ensures stays { Stays clerk.old clerk.new }
+    ensures hand { IsSame hand.old hand.new × (knows hand.new ≡ knows hand.old)
+        × (misses_of hand.new ≡ misses_of hand.old) }
+    ensures done { OnOk result (IsBetween job.now.turns.now job.now.program.now clerk.new) }
+    ensures rests { IsAtRest job.now.turns.now clerk.old → HasRested result clerk.old clerk.new }
+    ensures left { OnErr result (IsGone job.now.turns.now worker clerk.new) }
+{
+    if edt.0 < 1 || edt.0 > job.turns.limit() {
+        return Ok(());
+    }
+    match advance(alloc, job, worker, clerk, hand, edt) {
+        Advanced::Closed(word) => Err(Over(word)),
+        _ => Ok(()),
+    }
+}

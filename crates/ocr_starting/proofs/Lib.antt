@@ -1,0 +1,4 @@
+pub mod Functions
+pub mod Givens
+pub mod Stepped
+pub mod Values

@@ -1,8 +1,0 @@
-use Rattle.ocr_worker.proofs.Rounds.{GoesOn, IsDelivering}
-use Rattle.ocr_worker.proofs.delivering.deliver_all.Given as goal
-
-abbrev pub invariant-loop : goal.invariant-loop
-invariant-loop g l =
-    (goal.iterator-loop g).can_next l.iterator' × (goal.iterator-loop g).is_finite l.iterator'
-    × GoesOn l.job.turns.now l.job.program.now l.fn.clerk l.clerk l.fn.hand l.hand
-    × IsDelivering l.any l.fn.clerk l.clerk l.fn.hand l.hand
