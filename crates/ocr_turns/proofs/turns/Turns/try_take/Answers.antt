@@ -41,9 +41,10 @@ load-requires g c =
           (subst (λ v. 1 ≤ weigh (one_at p) v.parts) (sym view) (kept_last c.args.seat.now.me.0.parts p t.0)),
     )
 
-pub returns-clause-part : goal.returns-clause-part
-returns-clause-part g c =
+pub returns-clause-free : goal.returns-clause-free
+returns-clause-free g c = λ _.
     let m = g.M.Machine.meaning in let me = c.args.seat.now.me in let p = c.args.place in
     let old = c.compare_exchange-found.ensures in let ex = c.exchange-held.ensures in
     let t = took m c.self.inside.table.shared.table_id.slots p me c.compare_exchange-found.new.seat.me c.compare_exchange-found.result old.2 c.if-found-ne0.false c.requires.hand.1 in
-    taken_home m p me c.compare_exchange-found.new.seat.me c.exchange-held.new.seat.me c.load.new.seat.me c.exchange-held.result c.in-Some.part c.requires.hand.0 t ex.2 ex.3 c.load.ensures.2 c.in-Some.is
+    let home = taken_home m p me c.compare_exchange-found.new.seat.me c.exchange-held.new.seat.me c.load.new.seat.me c.exchange-held.result c.in-Some.part c.requires.hand.0 t ex.2 ex.3 c.load.ensures.2 c.in-Some.is in
+    (c.in-Some.part, home.0, home.1, c.push_reserved.ensures.items)
