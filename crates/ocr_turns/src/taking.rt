@@ -1,6 +1,8 @@
 // Taking a part, and waiting for its turn.
 ghost use Rattle.std.specs.Prelude.{◌≡◌, ◌<◌, ◌≤◌, ◌+◌, ◌*◌, ◌++◌, ◌∷◌, [], None, Some, true, false, length, vec_capacity, MatchOption};
-ghost use Rattle.ocr_rule.specs.Steps.{SeesBoth, with_part};
+ghost use Rattle.atomic_table.specs.Table.{rest};
+ghost use Rattle.ocr_rule.specs.Steps.{SeesBoth, settles, with_part};
+ghost use Rattle.ocr_rule.specs.Sums.{one_at, weigh};
 ghost use Rattle.ocr_rule.specs.Contract.{TakeTells, IsOf};
 
 use crate::clerk::{Clerk, Hand};
@@ -91,10 +93,34 @@ impl<M: Machine> Turns<M> {
         if found != 0 {
             return false;
         }
+        self.bring(seat, parts, place);
+        true
+    }
+
+    // Brings the part of a turn that was taken from its slot. Apart from `try_take`, so that room
+    // for it is made only once the turn was free.
+    fn bring(
+        &self,
+        seat: &mut Seat<Option<M::Part>, View<M::Setting, M::Entry, M::Part, M::Message, M::Fact>>,
+        parts: &mut Hand<M::Part>,
+        place: usize,
+    )
+        requires table { seat.old.table_id ≡ self.now.0 }
+        requires place { place ≤ 2 * self.now.1.limit }
+        requires seat { 0 < seat.old.me.0.root + seat.old.me.0.seat }
+        requires turn { (x : M.Part) × (seat.old.me.1 ≡ (place, Some x) ∷ [])
+            × (seat.old.me.0.carried ≡ Some place)
+            × (1 ≤ weigh (one_at place) seat.old.me.0.parts) }
+        requires room { length parts.old.items < vec_capacity parts.old }
+        ensures table { (seat.new.table_id ≡ seat.old.table_id) × (seat.new.id ≡ seat.old.id) }
+        ensures room { vec_capacity parts.new ≡ vec_capacity parts.old }
+        ensures part { (x : M.Part) × (seat.old.me.1 ≡ (place, Some x) ∷ rest seat.old.me.1)
+            × settles (seat.old.me.0, (place, None) ∷ rest seat.old.me.1) seat.new.me
+            × (parts.new.items ≡ parts.old.items ++ (place, Some x) ∷ []) }
+    {
         let held = self.table.shared.exchange(seat, place, None);
         self.table.shared.load::<Settles>(seat, place + TURNS);
         let Some(part) = held else { unreachable!() };
         parts.push_reserved((place as u64, Some(part)));
-        true
     }
 }
