@@ -76,7 +76,7 @@ pub(crate) fn ask<R: Wait, G: Gate>(
 }
 
 /// The home that the call joins, by its caller's core.
-pub(crate) fn home_for(core: &Core, call: &Call) -> Guid
+pub fn home_for(core: &Core, call: &Call) -> Guid
     ensures { result ≡ home_for call.now (part.Core core.now) }
 {
     match call {

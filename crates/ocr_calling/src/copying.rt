@@ -76,7 +76,7 @@ fn call_in(entry: Entry) -> Call
 }
 
 /// An answer that names no scope and no output event.
-pub(crate) fn answer_of(code: Code, value: u64) -> Answer
+pub fn answer_of(code: Code, value: u64) -> Answer
     ensures { result ≡ record { code = code; value = value; scope = 0; output = 0 } }
 {
     Answer {

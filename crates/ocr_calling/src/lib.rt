@@ -7,8 +7,9 @@ mod calling;
 mod carrying;
 mod copying;
 mod counting;
-mod creating;
 mod making;
 mod printing;
 
+pub use asking::home_for;
+pub use copying::answer_of;
 pub use making::make_call;

@@ -19,7 +19,6 @@ use crate::asking::{Asked, ask};
 use crate::calling::enter_call;
 use crate::carrying::carried_writes;
 use crate::counting::edt_made;
-use crate::creating::create_bare;
 use crate::printing::print;
 use ocr_base::NoMemory;
 use ocr_clerks::{Gate, Job, Ocr, Over, close_memory};
@@ -61,38 +60,8 @@ pub fn make_call<R: Wait, G: Gate>(
 {
     match call {
         Call::Print { value } => print(alloc, job, worker, clerk, edt, *value),
-        Call::EdtCreate { .. } => make_edt(alloc, job, worker, clerk, hand, edt, call),
         _ => make_from(alloc, job, worker, clerk, hand, edt, call),
     }
-}
-
-// The creation of an EDT: most are given nothing yet, and are made at hand.
-fn make_edt<R: Wait, G: Gate>(
-    alloc: Global,
-    job: &Job<R, G>,
-    worker: u32,
-    clerk: &mut Clerk<Ocr>,
-    hand: &mut Hand,
-    edt: Guid,
-    call: &Call,
-) -> Result<Answer, Over>
-    ghost b: { Body }
-    requires work { AtWork job.now.turns.now job.now.program.now clerk.old }
-    requires runs { Runs job.now.turns.now.1 edt b clerk.old }
-    requires next { IsNextWith call.now (private_of call.now (holds_at clerk.old))
-        (says b (own_log clerk.old.view.log edt)) }
-    requires coded { IsCoded call.now }
-    ensures stays { Stays clerk.old clerk.new }
-    ensures work { OnOk result (AtWork job.now.turns.now job.now.program.now clerk.new) }
-    ensures runs { OnOk result (Runs job.now.turns.now.1 edt b clerk.new) }
-    ensures called { IfOk result (λ a. IsCalled edt call.now a clerk.old clerk.new) }
-    ensures hand { IsPushed hand.old hand.new }
-    ensures gone { OnErr result (IsGone job.now.turns.now worker clerk.new) }
-{
-    if let Some(answer) = create_bare(alloc, job, worker, clerk, hand, edt, call)? {
-        return Ok(answer);
-    }
-    make_from(alloc, job, worker, clerk, hand, edt, call)
 }
 
 // The call, with a name for the clerk as it is before.

@@ -13,8 +13,8 @@ ghost use Rattle.ocr_running.specs.Serving.{own_log};
 ghost use Rattle.ocr_starting.specs.Given.{body_given};
 
 use ocr_body::Api;
-use ocr_calling::make_call;
 use ocr_clerks::{Gate, Job, Ocr, Over};
+use ocr_creating::make_call;
 use ocr_guid::Guid;
 use ocr_meaning::{Answer, BodyStop, Call};
 use ocr_running::{Refusal, load, store};

@@ -1,6 +1,7 @@
 -- The creation of an EDT that is given nothing yet, on the parts at hand.
 use Rattle.std.proofs.Common.{◌≡◌, ℕ, ◌+◌, ◌≤◌, ◌==◌, Bool, true, false, ◌||◌, if◌then◌else◌, List, [], ◌∷◌, ◌++◌, length, Option, Some, Result, Ok, Err, refl, ap, sym, ◌∙◌, subst, arith}
 use Rattle.std.proofs.lemmas.Bool.{eqb-true}
+use Rattle.std.specs.Prelude.{IfOk}
 use Rattle.std.proofs.lemmas.Grind.{common_steps}
 use Rattle.ocr_code.specs.declared.checked.Checked.{Checked}
 use Rattle.ocr_parts.specs.declared.part.Part.{Part}
@@ -13,7 +14,9 @@ use Rattle.ocr_template.specs.declared.Template.{Template}
 use Rattle.ocr_template.specs.Template.{count_meant, counts_of, is_refused}
 use Rattle.ocr_meaning.specs.Behaviour.{IsNextWith}
 use Rattle.ocr_meaning.specs.Body.{Body, says}
+use Rattle.ocr_meaning.specs.Holds.{Holds, after_call}
 use Rattle.ocr_meaning.specs.declared.call.Answer.{Answer}
+use Rattle.ocr_meaning.specs.declared.call.Call as body
 use Rattle.ocr_history.specs.declared.entry.Entry.{Entry}
 use Rattle.ocr_parts.specs.Codes.{code_of}
 use Rattle.ocr_parts.specs.Taken.{as_face, face_in, has, is_within, look, parts_in, put}
@@ -43,14 +46,14 @@ use Rattle.ocr_clerks.specs.Entering.{CanMake, OcrKnown}
 use Rattle.ocr_clerks.specs.Work.{AtWork, EntersAs, OcrTable, Took, in_hand, lifted}
 use Rattle.ocr_clerks.proofs.Hands.{in_hand_some, keys_append, lifted_keys, replace_whole, some_append, some_keys}
 use Rattle.ocr_clerks.proofs.Whole.{lifted_length, lifted_work}
-use Rattle.ocr_running.specs.Running.{AreOthers, HasEntered, HasLifted, HasTaken, IsCalled, Runs, first_in, home_at, places_made}
+use Rattle.ocr_running.specs.Running.{AreOthers, HasEntered, HasLifted, HasTaken, IsCalled, Runs, first_in, holds_at, home_at, places_made}
 use Rattle.ocr_running.specs.Serving.{own_log}
 use Rattle.ocr_running.proofs.Asked.{took_is}
 use Rattle.ocr_running.proofs.Called.{can_call, keys_at, others_are}
 use Rattle.ocr_running.specs.Calls.{IsAnswer, faces_of}
 use Rattle.ocr_running.proofs.Phases.{look_found, number_within}
-use Rattle.ocr_calling.specs.Creating.{HasAtHand, IsMadeOf, Suits, bare_core, call_of, made_answer, made_entry}
-use Rattle.ocr_calling.specs.declared.creating.Bare.{Bare}
+use Rattle.ocr_creating.specs.Creating.{HasAtHand, IsMadeOf, Suits, bare_core, call_of, made_answer, made_entry}
+use Rattle.ocr_creating.specs.declared.creating.Bare.{Bare}
 
 -- A PART in the place of another
 module _ {A : Type 0} where
@@ -418,3 +421,11 @@ runs_same t edt b c d runs view parts =
       is = runs.is;
       sees = runs.sees;
     })
+
+-- and what it calls then, it calls now
+pub called_same : {E : Type 0} (r : Result Answer E) (edt : ℕ) (c : body.Call) (old first new : OcrKnown) → first.view.log ≡ old.view.log → holds_at first ≡ holds_at old → IfOk r (λ a. IsCalled edt c a first new) → IfOk r (λ a. IsCalled edt c a old new)
+called_same (Ok a) edt c old first new log holds called = record {
+  log = called.log ∙ ap (λ (l : List (ℕ × Entry)). record { call = c; answer = a } ∷ own_log l edt) log;
+  holds = called.holds ∙ ap (λ (h : Holds). after_call c a h) holds;
+}
+called_same (Err e) edt c old first new log holds called = tt

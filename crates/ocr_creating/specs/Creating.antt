@@ -20,7 +20,7 @@ use Rattle.ocr_facts.specs.Clerks.{OcrTerms}
 use Rattle.ocr_facts.specs.Ocr.{meaning}
 use Rattle.ocr_clerks.specs.Entering.{OcrKnown}
 use Rattle.ocr_running.specs.Running.{IsCoreOf}
-use Rattle.ocr_calling.specs.declared.creating.Bare.{Bare}
+use Rattle.ocr_creating.specs.declared.creating.Bare.{Bare}
 
 -- the call that asks for it
 abbrev pub call_of : Bare → body.Call

@@ -10,13 +10,12 @@ ghost use Rattle.ocr_rule.specs.Contract.{SameRoom};
 ghost use Rattle.ocr_rule.specs.Sums.{find, replace};
 ghost use Rattle.ocr_clerks.specs.Entering.{OcrKnown};
 ghost use Rattle.ocr_clerks.specs.Work.{AtWork, IsGone, Stays};
-ghost use Rattle.ocr_calling.specs.Creating.{HasAtHand, IsMadeOf, Suits, bare_core, call_of, made_answer, made_entry};
+ghost use Rattle.ocr_creating.specs.Creating.{HasAtHand, IsMadeOf, Suits, bare_core, call_of, made_answer, made_entry};
 ghost use Rattle.ocr_running.specs.Running.{IsCalled, IsPushed, Runs, holds_at, home_at};
 ghost use Rattle.ocr_running.specs.Serving.{own_log};
 
-use crate::asking::home_for;
-use crate::copying::answer_of;
 use ocr_base::{NoMemory, Seq};
+use ocr_calling::{answer_of, home_for};
 use ocr_clerks::{
     Gate, Job, Ocr, Over, close_memory, draw_number, enter_at_hand, give_faces, take_part,
 };

@@ -1,8 +1,8 @@
 use Rattle.std.proofs.Common.{◌≡◌, ◌∙◌, ◌+◌, ◌==◌, List, ℕ, false, length, Option, ap}
 use Rattle.ocr_parts.specs.declared.part.Part.{Part}
 use Rattle.ocr_rule.specs.Sums.{find}
-use Rattle.ocr_calling.proofs.Created.{core_apart, find_apart, replace_length}
-use Rattle.ocr_calling.proofs.creating.put_new.Goals as goal
+use Rattle.ocr_creating.proofs.Created.{core_apart, find_apart, replace_length}
+use Rattle.ocr_creating.proofs.creating.put_new.Goals as goal
 
 pub exchange-requires-2 : goal.exchange-requires-2
 exchange-requires-2 c =

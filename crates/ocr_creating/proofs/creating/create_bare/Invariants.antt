@@ -1,4 +1,4 @@
-use Rattle.ocr_calling.proofs.creating.create_bare.Given as goal
+use Rattle.ocr_creating.proofs.creating.create_bare.Given as goal
 
 abbrev pub ghost-create_from : goal.ghost-create_from
 ghost-create_from g a = g.s

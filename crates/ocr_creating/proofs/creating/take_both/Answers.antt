@@ -12,11 +12,11 @@ use Rattle.ocr_clerks.specs.Work.{Took, in_hand}
 use Rattle.ocr_running.specs.Running.{HasLifted, holds_at}
 use Rattle.ocr_running.specs.Serving.{own_log}
 use Rattle.std.specs.Prelude.{reverse}
-use Rattle.ocr_calling.specs.Creating.{call_of}
+use Rattle.ocr_creating.specs.Creating.{call_of}
 use Rattle.ocr_calling.proofs.Coded.{creating_now}
-use Rattle.ocr_calling.proofs.Created.{as_lifted, at_drawn, at_length, at_more, faces_are, found_more, suits_done, template_face, to_lifted, work_lifted}
+use Rattle.ocr_creating.proofs.Created.{as_lifted, at_drawn, at_length, at_more, faces_are, found_more, suits_done, template_face, to_lifted, work_lifted}
 use Rattle.ocr_calling.proofs.Makes.{plain_next}
-use Rattle.ocr_calling.proofs.creating.take_both.Goals as goal
+use Rattle.ocr_creating.proofs.creating.take_both.Goals as goal
 
 pub draw_number-requires-clause-creating : goal.draw_number-requires-clause-creating
 draw_number-requires-clause-creating g c =

@@ -2,8 +2,8 @@ use Rattle.std.proofs.Common.{◌∷◌, [], sym, subst, arith}
 use Rattle.ocr_rule.proofs.Totals.{one_here}
 use Rattle.ocr_clerks.specs.Entering.{OcrKnown}
 use Rattle.ocr_clerks.specs.Work.{Took}
-use Rattle.ocr_calling.proofs.Created.{at_template, place_found}
-use Rattle.ocr_calling.proofs.creating.create_from.Goals as goal
+use Rattle.ocr_creating.proofs.Created.{at_template, place_found}
+use Rattle.ocr_creating.proofs.creating.create_from.Goals as goal
 
 pub template_for-requires : goal.template_for-requires
 template_for-requires g c =

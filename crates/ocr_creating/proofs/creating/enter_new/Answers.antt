@@ -14,11 +14,11 @@ use Rattle.ocr_clerks.specs.Entering.{CanMake, OcrKnown}
 use Rattle.ocr_clerks.specs.Work.{EntersAs, in_hand}
 use Rattle.ocr_running.specs.Running.{AreOthers, HasEntered, IsCalled, holds_at, home_at}
 use Rattle.ocr_running.specs.Serving.{own_log}
-use Rattle.ocr_calling.specs.Creating.{HasAtHand, IsMadeOf, call_of, made_answer, made_entry}
-use Rattle.ocr_calling.proofs.Created.{called, core_found, face_found, has_entered, mid_at_hand, mid_can, mid_step, others_at}
+use Rattle.ocr_creating.specs.Creating.{HasAtHand, IsMadeOf, call_of, made_answer, made_entry}
+use Rattle.ocr_creating.proofs.Created.{called, core_found, face_found, has_entered, mid_at_hand, mid_can, mid_step, others_at}
 use Rattle.ocr_calling.proofs.Makes.{called_so}
 use Rattle.ocr_clerks.proofs.Whole.{lifted_work}
-use Rattle.ocr_calling.proofs.creating.enter_new.Goals as goal
+use Rattle.ocr_creating.proofs.creating.enter_new.Goals as goal
 
 pub put_new-requires-clause-face : goal.put_new-requires-clause-face
 put_new-requires-clause-face g c =

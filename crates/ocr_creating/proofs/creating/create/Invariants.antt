@@ -1,4 +1,4 @@
-use Rattle.ocr_calling.proofs.creating.create.Given as goal
+use Rattle.ocr_creating.proofs.creating.create.Given as goal
 
 abbrev pub ghost-take_both : goal.ghost-take_both
 ghost-take_both g a = g.s
