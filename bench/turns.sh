@@ -1,9 +1,9 @@
 #!/usr/bin/env bash
 # How many instructions a take, a give back and a commit are, and besides what the heap takes for an entry of the toy
 # machine: its two lists, and room in the log. Counted by valgrind, with one clerk: the difference between 20,000 of
-# them and 10,000. What the toy does to make its entry counts as the commit's. Then how many commits a second one, two
-# and four clerks make together, each with its take and give back: by the clock, the difference between 300,000 entries
-# a clerk and 100,000.
+# them and 10,000. What the toy does to make its entry counts as the commit's, and a take with the loop that makes it,
+# in which it may stand. Then how many commits a second one, two and four clerks make together, each with its take and
+# give back: by the clock, the difference between 300,000 entries a clerk and 100,000.
 #
 # Build the program first: cd crates/ocr_bench_turns && rt run -- 2 300 100, which leaves it as
 # crates/ocr_bench_turns/out/ocr_bench_turns.
@@ -31,11 +31,11 @@ instructions() {
         END { print sum["take"] + 0, sum["give"] + 0, sum["heap"] + 0, sum["rest"] + 0 }'
 }
 
-read -r take give heap _ <<<"$(instructions 10000 10000)"
+read -r take give heap rest <<<"$(instructions 10000 10000)"
 read -r takes gives _ visits <<<"$(instructions 20000 10000)"
 read -r _ _ heaps turns <<<"$(instructions 10000 20000)"
 printf '%-10s %s\n' \
-    "take" $(((takes - take) / 10000)) \
+    "take" $(((takes + visits - take - rest) / 10000)) \
     "give back" $(((gives - give) / 10000)) \
     "commit" $(((turns - visits) / 10000)) \
     "heap" $(((heaps - heap) / 10000))
