@@ -92,10 +92,10 @@ fn count_entries<E>(logs: &[Log<E>]) -> u64
 fn free_slots<P: Drop>(mut closed: Closed<Option<P>, Global>)
     requires { IsFull closed.slots }
 {
-    let mut i = 0;
-    while i < closed.slot_count() {
+    let mut i = closed.slot_count();
+    while i > 0 {
+        i -= 1;
         drop(closed.take(i));
-        i += 1;
     }
     closed.free();
 }

@@ -1,5 +1,5 @@
 // A log of entries with numbers.
-ghost use Rattle.std.specs.Prelude.{◌≡◌, ◌<◌, ◌≤◌, ◌+◌, ◌-◌, ◌++◌, ◌∷◌, [], true, length, vec_capacity, IfOk, MatchOption};
+ghost use Rattle.std.specs.Prelude.{◌≡◌, ◌<◌, ◌≤◌, ◌+◌, ◌-◌, ◌++◌, ◌∷◌, [], ◌↔◌, IsTrue, length, vec_capacity, IfOk, MatchOption};
 ghost use Rattle.ocr_rule.specs.Sums.{entries, keys};
 
 use std::alloc::{AllocError, Global};
@@ -63,7 +63,7 @@ impl<E> Log<E> {
     /// Whether it has room for so many entries more.
     #[inline(always)]
     pub fn has_room(&self, more: usize) -> bool
-        ensures { result ≡ true → more ≤ self.now.room }
+        ensures { IsTrue result ↔ (more ≤ self.now.room) }
     {
         has_room(&self.numbers, more) && has_room(&self.entries, more)
     }
@@ -122,7 +122,7 @@ impl<E> Log<E> {
 /// Whether there is room for so many items more.
 #[inline(always)]
 pub(crate) fn has_room<T>(items: &Vec<T>, more: usize) -> bool
-    ensures { result ≡ true → more ≤ vec_capacity items.now - length items.now.items }
+    ensures { IsTrue result ↔ (more ≤ vec_capacity items.now - length items.now.items) }
 {
     items.capacity() - items.len() >= more
 }
