@@ -1,11 +1,14 @@
 // Cores, blocks and events in boxes of their own.
-ghost use Rattle.std.specs.Prelude.{◌≡◌, ◌≢◌, ◌≤◌, ◌<◌, ◌-◌, ◌^◌, length, Some, None, is_some, true, false, OnOk, OnErr, IfOk};
+ghost use Rattle.std.specs.Prelude.{◌≡◌, ◌≢◌, ◌≤◌, ◌<◌, ◌-◌, ◌^◌, [], length, Some, None, is_some, true, false, OnOk, OnErr, IfOk};
 ghost use Rattle.ocr_acquire.specs.Mode.{is_null, mode_in};
 ghost use Rattle.ocr_acquire.specs.declared.Mode.TheVariants.{Const, Ew};
 ghost use Rattle.ocr_any_event.specs.AnyEvent as event;
 ghost use Rattle.ocr_datablock.specs.Steps as block;
+ghost use Rattle.ocr_edt.specs.Edt.{identity_of};
+ghost use Rattle.ocr_edt.specs.Phases.{Work};
+ghost use Rattle.ocr_edt.specs.declared.Edt.TheVariants as phase;
 ghost use Rattle.ocr_guid.specs.Target.{on_destroy};
-ghost use Rattle.ocr_parts.specs.Effects.{core_with, dropped_edt, dropping_core, holding_core, holding_edt};
+ghost use Rattle.ocr_parts.specs.Effects.{core_with, dropped_edt, dropping_core, ended_edt, holding_core, holding_edt, made_ready, started_edt, with_phase};
 ghost use Rattle.ocr_parts.specs.Loans.{IsStorable, kept_in, loan_in, settled_loans, with_kept, with_loan};
 ghost use Rattle.ocr_datablock.specs.Lent.{after_list_writes, after_store};
 
@@ -15,7 +18,7 @@ use ocr_acquire::Mode;
 use ocr_any_event::AnyEvent;
 use ocr_base::NoMemory;
 use ocr_datablock::{Asked, Block, Lent};
-use ocr_edt::{Edt, Filling};
+use ocr_edt::{Edt, Filling, Identity};
 use ocr_guid::target::{Linked, Satisfied, Target};
 use ocr_guid::{Code, Guid};
 use std::alloc::Global;
@@ -72,6 +75,23 @@ impl BoxedCore {
         ensures { self.new ≡ core_with self.old edt self.old.loans }
     {
         self.inner.edt = edt;
+    }
+
+    /// Every slot of its EDT is set, and none of them asks for a block: the EDT runs from then on.
+    pub fn start_bare(&mut self, alloc: Global)
+        requires { (i : Identity) × (self.old.edt ≡ phase.Filling i) }
+        ensures { self.new ≡ with_phase (λ e. started_edt (made_ready [] e)) self.old }
+    {
+        self.inner.edt.start_bare(alloc);
+    }
+
+    /// The body of its EDT has returned: the EDT has ended from then on. Gives what it keeps.
+    pub fn end(&mut self) -> Identity
+        requires { (w : Work) × (self.old.edt ≡ phase.Running w) × (w.holds ≡ []) }
+        ensures state { self.new ≡ with_phase ended_edt self.old }
+        ensures identity { result ≡ identity_of self.old.edt }
+    {
+        self.inner.edt.end()
     }
 
     /// What is kept with a block is put in place of what was. After an error all is as before.

@@ -1,5 +1,5 @@
 // What an EDT keeps with the blocks that it holds.
-ghost use Rattle.std.specs.Prelude.{◌≡◌, ◌<◌, ◌∷◌, ◌++◌, [], drop, length, map, take, IfNone, IfOk, IfSome, OnErr, OnOk, Some, None, MatchOption};
+ghost use Rattle.std.specs.Prelude.{◌≡◌, ◌↔◌, IsTrue, ◌<◌, ◌∷◌, ◌++◌, [], drop, length, map, take, IfNone, IfOk, IfSome, OnErr, OnOk, Some, None, MatchOption};
 ghost use Rattle.ocr_acquire.specs.declared.Mode.TheVariants.{Ew};
 ghost use Rattle.ocr_datablock.specs.Lent.{after_list_writes, after_store};
 ghost use Rattle.ocr_parts.specs.Loans.{IsStorable, kept_after, kept_in, loan_in, settled_loan, settled_loans, with_kept, with_loan, without_kept};
@@ -49,6 +49,13 @@ impl Loans {
             many: Many::none(),
             few: Vec::new(alloc),
         }
+    }
+
+    /// Whether nothing is held.
+    pub fn is_empty(&self) -> bool
+        ensures { IsTrue result ↔ (self.now ≡ []) }
+    {
+        self.few.is_empty() && self.many.is_empty()
     }
 
     /// What is kept with a block.

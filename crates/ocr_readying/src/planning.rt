@@ -81,8 +81,8 @@ pub fn put_ready(
     Ok(())
 }
 
-/// Makes the core at hand ready with the plan of the face at hand, and starts it. For want of memory
-/// it is lost.
+/// Makes the core at hand ready with the plan of the face at hand, and starts it. For want of
+/// memory it is lost.
 pub fn put_started(
     alloc: Global,
     clerk: &mut Clerk<Ocr>,

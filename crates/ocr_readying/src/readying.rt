@@ -1,6 +1,8 @@
 // An EDT is made ready, and starts.
-ghost use Rattle.std.specs.Prelude.{◌≡◌, ◌<◌, ◌++◌, length, true, None, Some, IfOk};
+ghost use Rattle.std.specs.Prelude.{◌≡◌, ◌↔◌, ◌<◌, ◌++◌, length, true, IsTrue, None, Some, IfOk};
 ghost use Rattle.ocr_acquire.specs.Plan.{IsWellFormed};
+ghost use Rattle.ocr_edt.specs.declared.Edt.TheVariants as phase;
+ghost use Rattle.ocr_edt.specs.declared.Identity.{Identity};
 ghost use Rattle.ocr_parts.specs.Calls.{asks_in, asks_of};
 ghost use Rattle.ocr_parts.specs.Effects.{made_ready};
 ghost use Rattle.ocr_parts.specs.Kinds.{is_acquiring_edt, next_in, progress_in};
@@ -46,12 +48,23 @@ pub(crate) fn start_core(
         ≡ None }
     ensures { IfOk result (λ _. core.new ≡ started_with slots.now payloads.now core.old) }
 {
+    // Many EDTs have no slots, and then nothing is acquired.
+    if slots.depc() == 0 && is_filling(&core.get().edt) {
+        core.start_bare(alloc);
+        return Ok(());
+    }
     let edt = core.take_edt();
     let Edt::Acquiring(acquiring) = ready_edt(alloc, edt, slots, payloads)? else {
         unreachable!()
     };
     core.put_edt(Edt::Running(acquiring.start()));
     Ok(())
+}
+
+fn is_filling(edt: &Edt) -> bool
+    ensures { IsTrue result ↔ ((i : Identity) × (edt.now ≡ phase.Filling i)) }
+{
+    matches!(edt, Edt::Filling(_))
 }
 
 fn ready_edt(alloc: Global, edt: Edt, slots: &Slots, payloads: &[Guid]) -> Result<Edt, NoMemory>

@@ -12,8 +12,8 @@ use ocr_turns::Clerk;
 use std::alloc::Global;
 use std::sync::Wait;
 
-/// Enters the Start of an EDT whose plan is done, and keeps its core alone. Ends the run for want of
-/// memory.
+/// Enters the Start of an EDT whose plan is done, and keeps its core alone. Ends the run for want
+/// of memory.
 pub fn start<R: Wait, G: Gate>(
     alloc: Global,
     job: &Job<R, G>,

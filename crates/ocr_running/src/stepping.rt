@@ -8,7 +8,7 @@ ghost use Rattle.ocr_parts.specs.Kinds.{holds_of, identity_on, is_running, work_
 ghost use Rattle.ocr_running.specs.Running.{StepsFirst};
 
 use ocr_clerks::Ocr;
-use ocr_edt::{Edt, Identity};
+use ocr_edt::Identity;
 use ocr_parts::{BoxedCore, Part};
 use ocr_turns::Clerk;
 
@@ -36,10 +36,5 @@ fn ended(core: &mut BoxedCore) -> Identity
     ensures core { core.new ≡ with_phase ended_edt core.old }
     ensures identity { result ≡ identity_on (part.Core core.old) }
 {
-    let Edt::Running(running) = core.take_edt() else {
-        unreachable!()
-    };
-    let identity = running.identity();
-    core.put_edt(Edt::Ended(running.end()));
-    identity
+    core.end()
 }

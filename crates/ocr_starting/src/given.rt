@@ -100,6 +100,10 @@ fn settle_core(clerk: &mut Clerk<Ocr>, place: u64)
     requires { (core : Core) × HasCore place core clerk.old }
     ensures { StepsCore place settled_core clerk.old clerk.new }
 {
+    // Most EDTs hold nothing when they start.
+    if core_at(clerk, place).loans.is_empty() {
+        return;
+    }
     let Part::Core(mut core) = clerk.lift(place) else {
         unreachable!()
     };
