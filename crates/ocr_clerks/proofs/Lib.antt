@@ -3,6 +3,7 @@ pub mod Counters
 pub mod Ending
 pub mod Entries
 pub mod Gives
+pub mod Gone
 pub mod Going
 pub mod Hands
 pub mod Seen

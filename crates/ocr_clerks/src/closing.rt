@@ -2,6 +2,7 @@
 ghost use Rattle.std.specs.Prelude.{◌≡◌, ◌<◌, ◌+◌, ◌++◌, ◌∷◌, [], ℕ, List, length, is_some, true, reverse};
 ghost use Rattle.ocr_facts.specs.Clerks.{Knows, of_terms};
 ghost use Rattle.ocr_facts.specs.Ocr.{stands};
+ghost use Rattle.ocr_history.specs.declared.entry.Entry.{Entry};
 ghost use Rattle.ocr_history.specs.declared.entry.Entry.TheVariants as an;
 ghost use Rattle.ocr_history.specs.Weight.{weight_of};
 ghost use Rattle.ocr_parts.specs.declared.part.Part.{Part};
@@ -98,19 +99,17 @@ pub fn close_memory<R: Wait, G: Gate>(job: &Job<R, G>, worker: u32, clerk: &mut 
     close(job, worker, clerk, Stop::Memory)
 }
 
-/// Ends the run where the clerk could make this entry, of this weight, and its share has no room
-/// for it.
+/// Ends the run where the clerk could make an entry of this weight, and its share has no room for
+/// it.
 pub fn close_heavy<R: Wait, G: Gate>(
     job: &Job<R, G>,
     worker: u32,
     clerk: &mut Clerk<Ocr>,
-    entry: &Entry,
     weight: u64,
 ) -> Over
     requires work { AtWork job.now.turns.now job.now.program.now clerk.old }
-    requires can { (h : Hand) × (ps : List (ℕ × Part))
-        × CanMake job.now.turns.now.1 clerk.old.view entry.now h ps }
-    requires weight { weight ≡ weight_of entry.now }
+    requires can { (e : Entry) × (h : Hand) × (ps : List (ℕ × Part))
+        × CanMake job.now.turns.now.1 clerk.old.view e h ps × (weight ≡ weight_of e) }
     requires heavy { job.now.turns.now.1.share < clerk.old.view.weight + weight }
     ensures stays { Stays clerk.old clerk.new }
     ensures gone { IsGone job.now.turns.now worker clerk.new }

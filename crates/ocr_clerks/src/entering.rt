@@ -20,8 +20,8 @@ use std::sync::Wait;
 
 /// Enters an entry that is no Stop and that is legal on these parts, which the clerk lifted, behind
 /// the gate. They come back changed once the entry is in the log. Where the log would weigh more
-/// than its share then, or memory is refused, the run is ended in its place, and the parts are lost.
-/// Gives the EDTs that the entry resumes.
+/// than its share then, or memory is refused, the run is ended in its place, and the parts are
+/// lost. Gives the EDTs that the entry resumes.
 pub fn enter_at_work<R: Wait, G: Gate>(
     alloc: Global,
     job: &Job<R, G>,
@@ -42,7 +42,7 @@ pub fn enter_at_work<R: Wait, G: Gate>(
 {
     let weight = weight(&entry);
     if weight > job.turns.share() - clerk.weight() {
-        return Err(close_heavy(job, worker, clerk, &entry, weight));
+        return Err(close_heavy(job, worker, clerk, weight));
     }
     let limit = job.turns.limit();
     let Ok(prepared) = prepare(alloc, job.turns, limit, clerk, &entry, parts) else {

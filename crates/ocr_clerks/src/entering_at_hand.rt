@@ -45,7 +45,7 @@ pub fn enter_at_hand<R: Wait, G: Gate>(
 {
     let weight = weight(&entry);
     if weight > job.turns.share() - clerk.weight() {
-        return Err(close_heavy(job, worker, clerk, &entry, weight));
+        return Err(close_heavy(job, worker, clerk, weight));
     }
     let Ok(()) = job.turns.reserve(alloc, clerk, messages.len()) else {
         return Err(close_memory(job, worker, clerk));

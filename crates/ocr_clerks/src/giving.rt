@@ -23,7 +23,8 @@ pub fn give_faces(
     ensures view { clerk.new.view ≡ record clerk.old.view { parts = take 1 clerk.old.view.parts } }
     ensures hand { clerk.new.parts ≡ take 1 clerk.old.parts }
 {
-    for place in places {
+    // From the last on, so that no part behind has to move up.
+    for place in places.iter().rev() {
         turns.give_back(clerk, *place);
     }
 }

@@ -39,6 +39,7 @@ impl Machine for Ocr {
         footprint(alloc, entry, limit)
     }
 
+    #[inline(always)]
     fn weight(entry: &Entry) -> u64 {
         weight(entry)
     }
@@ -47,6 +48,7 @@ impl Machine for Ocr {
         matches!(entry, Entry::Stop(_))
     }
 
+    #[inline(always)]
     fn delivers(entry: &Entry) -> Option<(u64, u32)> {
         match entry {
             Entry::Deliver { message, .. } => Some((message.place, message.index)),

@@ -424,8 +424,8 @@ runs_same t edt b c d runs view parts =
 
 -- and what it calls then, it calls now
 pub called_same : {E : Type 0} (r : Result Answer E) (edt : ℕ) (c : body.Call) (old first new : OcrKnown) → first.view.log ≡ old.view.log → holds_at first ≡ holds_at old → IfOk r (λ a. IsCalled edt c a first new) → IfOk r (λ a. IsCalled edt c a old new)
-called_same (Ok a) edt c old first new log holds called = record {
-  log = called.log ∙ ap (λ (l : List (ℕ × Entry)). record { call = c; answer = a } ∷ own_log l edt) log;
-  holds = called.holds ∙ ap (λ (h : Holds). after_call c a h) holds;
+called_same (Ok a) edt c old first new log holds was = record {
+  log = was.log ∙ ap (λ (l : List (ℕ × Entry)). record { call = c; answer = a } ∷ own_log l edt) log;
+  holds = was.holds ∙ ap (λ (h : Holds). after_call c a h) holds;
 }
-called_same (Err e) edt c old first new log holds called = tt
+called_same (Err e) edt c old first new log holds was = tt

@@ -262,9 +262,24 @@ fn put_new(
 {
     let face = Slots::new(alloc, slots)?;
     let core = BoxedCore::new(alloc, new_core(alloc, new, bare, function)?)?;
-    drop(clerk.exchange(new, Part::Edt(face)));
-    drop(clerk.exchange(limit + new, Part::Core(core)));
+    put_over(clerk, new, Part::Edt(face));
+    put_over(clerk, limit + new, Part::Core(core));
     Ok(())
+}
+
+// Puts a part in the place of the one that stands there, which is mostly vacant: then nothing is
+// called to drop it.
+#[inline(always)]
+fn put_over(clerk: &mut Clerk<Ocr>, place: u64, part: Part)
+    requires { (x : Part) × (find place clerk.old.parts ≡ Some (Some x)) }
+    ensures parts { clerk.new.parts ≡ replace place (Some part) clerk.old.parts }
+    ensures rest { (clerk.new.table ≡ clerk.old.table) × (clerk.new.view ≡ clerk.old.view)
+        × SameRoom clerk.old clerk.new }
+{
+    match clerk.exchange(place, part) {
+        Part::Vacant => {}
+        other => drop(other),
+    }
 }
 
 // The core of the new EDT, which no dependence was given for yet.

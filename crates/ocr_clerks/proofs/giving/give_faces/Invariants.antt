@@ -1,3 +1,4 @@
+use Rattle.std.proofs.Common.{drop, length, reverse}
 use Rattle.ocr_clerks.specs.Work.{AtWork}
 use Rattle.ocr_clerks.proofs.Gives.{GaveFaces}
 use Rattle.ocr_clerks.proofs.giving.give_faces.Given as goal
@@ -5,5 +6,5 @@ use Rattle.ocr_clerks.proofs.giving.give_faces.Given as goal
 abbrev pub invariant-loop-place : goal.invariant-loop-place
 invariant-loop-place l = record {
   work : AtWork l.turns l.program l.clerk;
-  so : GaveFaces l.fn.clerk l.clerk l.place-index;
+  so : GaveFaces l.turns.1 l.fn.edt (drop (length l.yielded) (reverse l.places)) l.fn.clerk l.clerk;
 }

@@ -4,15 +4,15 @@ use Rattle.ocr_rule.specs.Sums.{find}
 use Rattle.ocr_creating.proofs.Created.{core_apart, find_apart, replace_length}
 use Rattle.ocr_creating.proofs.creating.put_new.Goals as goal
 
-pub exchange-requires-2 : goal.exchange-requires-2
-exchange-requires-2 c =
+pub put_over-requires-2 : goal.put_over-requires-2
+put_over-requires-2 c =
     let low = c.requires.low in
     let off : ((c.args.limit + c.args.new) == c.args.new) ≡ false = core_apart c.args.limit c.args.new low.1 low.2 in
-    (c.requires.core.0, ap (find (c.args.limit + c.args.new)) c.exchange.ensures.parts ∙ (find_apart (c.args.limit + c.args.new) c.args.new _ c.args.clerk.now.parts off ∙ c.requires.core.1))
+    (c.requires.core.0, ap (find (c.args.limit + c.args.new)) c.put_over.ensures.parts ∙ (find_apart (c.args.limit + c.args.new) c.args.new _ c.args.clerk.now.parts off ∙ c.requires.core.1))
 
 pub returns-clause-rest : goal.returns-clause-rest
 returns-clause-rest c =
-    let one = c.exchange.ensures in let two = c.exchange-2.ensures in
+    let one = c.put_over.ensures in let two = c.put_over-2.ensures in
     let a = ap (λ (l : List (ℕ × Option Part)). length l) one.parts ∙ replace_length c.args.new _ c.args.clerk.now.parts in
-    let b = ap (λ (l : List (ℕ × Option Part)). length l) two.parts ∙ replace_length (c.args.limit + c.args.new) _ c.exchange.new.self.parts in
+    let b = ap (λ (l : List (ℕ × Option Part)). length l) two.parts ∙ replace_length (c.args.limit + c.args.new) _ c.put_over.new.clerk.parts in
     (two.rest.0 ∙ one.rest.0, two.rest.1 ∙ one.rest.1, (two.rest.2.0 ∙ one.rest.2.0, two.rest.2.1 ∙ one.rest.2.1, two.rest.2.2 ∙ one.rest.2.2), b ∙ a)

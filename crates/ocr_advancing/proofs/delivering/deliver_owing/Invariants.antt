@@ -1,5 +1,5 @@
 use Rattle.ocr_advancing.proofs.Rounds.{GoesOn, IsDelivering}
-use Rattle.ocr_advancing.proofs.delivering.deliver_all.Given as goal
+use Rattle.ocr_advancing.proofs.delivering.deliver_owing.Given as goal
 
 abbrev pub invariant-loop : goal.invariant-loop
 invariant-loop g l =
