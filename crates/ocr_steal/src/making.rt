@@ -9,6 +9,7 @@ use crate::hand::Hand;
 use crate::pool::Pool;
 use ocr_base::NoMemory;
 use std::alloc::Global;
+use std::sync::atomic::AtomicU64;
 
 impl Pool {
     /// A pool and its hands, as many as are asked for, by their numbers. Each has a deque with room
@@ -21,7 +22,8 @@ impl Pool {
         let (mut owners, stealers) = deques(alloc, hands, room)?;
         let rows = rows_of(alloc, &mut owners)?;
         let hands = hands_of(alloc, owners, rows)?;
-        Ok((Pool { stealers }, hands))
+        let resting = AtomicU64::new(0);
+        Ok((Pool { stealers, resting }, hands))
     }
 
     /// How many hands the pool was made for.

@@ -25,6 +25,22 @@ fn hand_without_a_push_has_nothing(rt: HostRuntime) -> Result<(), Fail> {
     Ok(())
 }
 
+#[test]
+fn all_rest_once_each_hand_rests(rt: HostRuntime) -> Result<(), Fail> {
+    let Ok((pool, _)) = Pool::new(rt.alloc(), 2, 4) else {
+        assert!(rt; false);
+        return Ok(())
+    };
+    assert!(rt; !pool.all_rest());
+    pool.begin_rest();
+    assert!(rt; !pool.all_rest());
+    pool.begin_rest();
+    assert!(rt; pool.all_rest());
+    pool.end_rest();
+    assert!(rt; !pool.all_rest());
+    Ok(())
+}
+
 // What a thread made of its hand.
 #[derive(Drop)]
 struct Played {

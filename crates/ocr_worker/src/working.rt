@@ -71,6 +71,8 @@ fn work_on<R: Wait, G: Gate>(
         }
         idle += 1;
         if idle == IDLE_ROUNDS {
+            // It rests for good.
+            job.pool.begin_rest();
             return Ok(());
         }
         rest(job, worker, clerk, idle)?;
@@ -112,7 +114,7 @@ fn round<R: Wait, G: Gate>(
 }
 
 /// Looks whether the run has ended, and lets the other threads go on, for longer the more rounds
-/// were idle.
+/// were idle, while one of them is at work.
 fn rest<R: Wait, G: Gate>(
     job: &Job<R, G>,
     worker: u32,
@@ -126,8 +128,13 @@ fn rest<R: Wait, G: Gate>(
     ensures left { OnErr result (IsGone job.now.turns.now worker clerk.new) }
 {
     look_on(job, worker, clerk)?;
+    job.pool.begin_rest();
     for _ in 0..idle * YIELDS {
+        if job.pool.all_rest() {
+            break; // nobody is left who could bring something to do
+        }
         thread::yield_now();
     }
+    job.pool.end_rest();
     Ok(())
 }
