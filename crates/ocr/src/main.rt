@@ -5,6 +5,7 @@
 use ocr_io::{Sink, StderrSink, StdinSource, StdoutSink, write_all};
 use ocr_run::{NoGate, ocr_main};
 use std::io::ErrorKind;
+use std::mem::ManuallyDrop;
 use std::process::ExitCode;
 use std::{env, io};
 
@@ -14,7 +15,7 @@ fn main(rt: HostRuntime) -> ExitCode {
     let mut err = StderrSink::new(rt.stderr());
     let status = match words(&rt) {
         Ok(words) => {
-            ocr_main(
+            let ended = ocr_main(
                 &rt,
                 rt.alloc(),
                 &words,
@@ -22,8 +23,9 @@ fn main(rt: HostRuntime) -> ExitCode {
                 &mut out,
                 &mut err,
                 &NoGate,
-            )
-            .status
+            );
+            // The process ends here, which gives back all memory at once.
+            ManuallyDrop::new(ended).status
         }
         Err(error) if error.kind() == ErrorKind::OutOfMemory => {
             refuse(&mut err, 9, b"want of memory\n")
