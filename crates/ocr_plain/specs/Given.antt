@@ -1,5 +1,6 @@
 -- What the arguments of a call were found to be, and what the call comes to.
-use Rattle.std.specs.Prelude.{◌≡◌, ℕ, List, [], ◌∷◌, ◌++◌, vec_items, map, replicate, Option, None, Some}
+use Rattle.std.specs.Prelude.{◌≡◌, ℕ, List, [], ◌∷◌, ◌++◌, vec_items, map, replicate, Option, None}
+use Rattle.std.specs.Prelude.{Some}
 use Rattle.ocr_tree.specs.declared.tree.CallName.{CallName}
 use Rattle.ocr_tree.specs.declared.tree.CallName.TheVariants as name
 use Rattle.ocr_meaning.specs.Behaviour.{Behaviour, Stops}
