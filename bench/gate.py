@@ -1,12 +1,15 @@
 #!/usr/bin/env python3
-"""Runs the merge gate, `rt ci`, and tells what it cost: processor minutes of each crate's proofs, edits and tests.
+"""Runs the merge gate, `rt ci`, or its part for the crates named, and tells what it cost: processor minutes of each
+crate's proofs, edits and tests. What an earlier run has proved is kept and costs nothing: for a whole sum, begin with
+nothing kept.
 
 A sampler reads /proc twice a second. The processor time of a process is what it had when it was last seen, so at most
 half a second of each is missed. A check that tries an edit is told from the others by the folder that it, or what it
 kept, stands in, and one of tests by its flag. What is not a check (linking, the programs, the tests themselves) is
 'other'.
 
-In any folder:  bench/gate.sh [FILE]     FILE keeps the gate's own output (default: gate.log in the current folder).
+In any folder:  bench/gate.sh [FILE [CRATE]...]     FILE keeps the gate's own output (default: gate.log in the current
+folder).
 Ends with the gate's status.
 """
 import collections
@@ -68,7 +71,7 @@ def main():
     seen = {}
     start = time.time()
     with open(log, "w") as out:
-        gate = subprocess.Popen(["rt", "ci"], cwd=ROOT, stdout=out, stderr=subprocess.STDOUT)
+        gate = subprocess.Popen(["rt", "ci", *sys.argv[2:]], cwd=ROOT, stdout=out, stderr=subprocess.STDOUT)
         while gate.poll() is None:
             for process, words, seconds in descendants(gate.pid):
                 name = os.path.basename(words[0]) if words else ""
