@@ -7,15 +7,18 @@ use crate::numbered::by_number;
 use ocr_base::NoMemory;
 use ocr_clerks::Ocr;
 use ocr_history::Journal;
-use ocr_turns::Closing;
+use ocr_parts::Part;
+use ocr_turns::{Closing, Remains};
 use std::alloc::Global;
 use std::marker::Model;
 
 /// The journal of a run whose clerks have all come home. Contracts see it as its entries, and only
-/// `merge` makes one.
+/// `merge` makes one. It keeps what is left of the run's table, so that whoever ends with it need
+/// not wait until all objects are freed.
 #[derive(Drop)]
 pub struct Merged {
     journal: Journal,
+    _remains: Remains<Part>,
 }
 
 impl Model for Merged {
@@ -46,8 +49,10 @@ pub fn merge(alloc: Global, closing: Closing<Ocr>) -> Result<Merged, NoMemory>
         → m ≡ history) }
 {
     let count = closing.entries();
-    let entries = by_number(alloc, closing.logs(), count)?;
+    let (logs, remains) = closing.into_parts();
+    let entries = by_number(alloc, logs, count)?;
     Ok(Merged {
         journal: Journal::from_vec(entries),
+        _remains: remains,
     })
 }

@@ -20,12 +20,12 @@ pub const EDT_PARAM_DEF: u64 = 4_294_967_294;
 pub struct Template {
     /// The number of the function, from 0.
     pub function: u32,
+    /// Whether it was destroyed.
+    pub destroyed: bool,
     /// The count of parameters, or `EDT_PARAM_UNK`.
     pub paramc: u64,
     /// The count of dependences, or `EDT_PARAM_UNK`.
     pub depc: u64,
-    /// Whether it was destroyed.
-    pub destroyed: bool,
 }
 
 /// How many parameters and dependences an EDT gets that is made from the template with these

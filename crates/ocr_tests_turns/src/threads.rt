@@ -118,8 +118,9 @@ pub fn run<R: Threads + Wait + Sync>(rt: &R, alloc: Global, plan: &Plan) -> Resu
     let owed = root.owed().len();
     let closing = turns.finish(alloc, root)?;
     let entries = closing.entries();
+    let (logs, _) = closing.into_parts();
     Ok(Ran {
-        logs: closing.logs(),
+        logs,
         entries,
         owed,
         is_whole,

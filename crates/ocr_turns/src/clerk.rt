@@ -155,6 +155,8 @@ pub(crate) fn swap_part<P>(parts: &mut Hand<P>, place: u64, part: Option<P>) -> 
 }
 
 /// Takes out the item at `i`. The last item moves no other one.
+// So a caller that knows whether it is the last one has one of the two ways alone.
+#[inline(always)]
 pub(crate) fn take_out<T>(items: &mut Vec<T>, i: usize) -> T
     requires { i < length items.old.items }
     ensures item { get_elem? items.old.items i ≡ some result }

@@ -18,6 +18,22 @@ use std::marker::Model;
 pub struct Closing<M: Machine> {
     logs: Vec<Log<M::Entry>>,
     entries: u64,
+    remains: Remains<M::Part>,
+}
+
+/// What is left of a table that is closed: its memory, and the parts in its slots. To drop it frees
+/// them, one by one.
+pub struct Remains<P: Drop> {
+    closed: Closed<Option<P>, Global>,
+    // So each slot may be emptied.
+    ghost full: { IsFull closed.slots },
+}
+
+impl<P: Drop> Drop for Remains<P> {
+    fn drop(self) {
+        let Remains { closed } = self;
+        free_slots(closed);
+    }
 }
 
 impl<M: Machine> Model for Closing<M> {
@@ -30,11 +46,11 @@ impl<M: Machine> Model for Closing<M> {
 
 impl<M: Machine> Closing<M> {
     /// The logs, the root's first and then those of the clerks in the order in which they were
-    /// joined.
-    pub fn logs(self) -> Vec<Log<M::Entry>>
-        ensures { map (λ l. l.items) result.items ≡ self.0 }
+    /// joined; and what is left of the table.
+    pub fn into_parts(self) -> (Vec<Log<M::Entry>>, Remains<M::Part>)
+        ensures { map (λ l. l.items) result.0.items ≡ self.0 }
     {
-        self.logs
+        (self.logs, self.remains)
     }
 
     /// How many entries the run has.
@@ -71,8 +87,11 @@ impl<M: Machine> Turns<M> {
         logs.insert(0, log)?;
         let closed = table.close_with(seat);
         let entries = count_entries(logs.as_slice());
-        free_slots(closed);
-        Ok(Closing { logs, entries })
+        Ok(Closing {
+            logs,
+            entries,
+            remains: Remains { closed },
+        })
     }
 }
 

@@ -1,5 +1,6 @@
 // Giving back a part.
 ghost use Rattle.std.specs.Prelude.{◌≡◌, ◌<◌, ◌≤◌, ◌+◌, ◌*◌, ◌-◌, ℕ, [], Option, None, Some, length, vec_capacity};
+ghost use Rattle.ocr_rule.specs.Clerks.{IsFirst};
 ghost use Rattle.ocr_rule.specs.Sums.{find, remove_at};
 ghost use Rattle.ocr_rule.specs.Steps.{without_part};
 ghost use Rattle.ocr_rule.specs.Contract.{GiveTells, IsOf, Loose, MayGive, Rests, SeenAs};
@@ -24,22 +25,41 @@ impl<M: Machine> Turns<M> {
         let None = clerk.closed else {
             return;
         };
-        let Some(part) = remove_part(&mut clerk.parts, place) else {
-            unreachable!()
-        };
+        let i = position(clerk.parts.as_slice(), place);
+        if i + 1 < clerk.parts.len() {
+            return self.give_among(clerk, place, i);
+        }
+        let part = remove_part(&mut clerk.parts, place, i);
         self.put_back(&mut clerk.seat, place as usize, part);
     }
 
-    // Puts a part back into its slot, and frees its turn.
+    // The same for a part behind which others stand. Apart, so that the last one is given back with
+    // nothing of what the moving of others costs.
+    #[inline(never)]
+    fn give_among(&self, clerk: &mut Clerk<M>, place: u64, i: usize)
+        requires table { IsOf self.now clerk.old }
+        requires place { place ≤ 2 * self.now.1.limit }
+        requires open { clerk.old.view.closed ≡ None }
+        requires may { MayGive M.meaning self.now.1 clerk.old.view clerk.old.parts place }
+        requires within { i < length clerk.old.parts }
+        requires first { IsFirst place clerk.old.parts i }
+        ensures { GiveTells clerk.old clerk.new place }
+    {
+        let part = remove_part(&mut clerk.parts, place, i);
+        self.put_back(&mut clerk.seat, place as usize, part);
+    }
+
+    // Puts a part, which is not lifted, back into its slot, and frees its turn.
     fn put_back(
         &self,
         seat: &mut Seat<Option<M::Part>, View<M::Setting, M::Entry, M::Part, M::Message, M::Fact>>,
         place: usize,
-        part: M::Part,
+        part: Option<M::Part>,
     )
         requires table { seat.old.table_id ≡ self.now.0 }
         requires open { seat.old.me.0.closed ≡ None }
-        requires keeps { SeenAs M.meaning self.now.1 seat.old.me.0 place part }
+        requires keeps { (x : M.Part) × (part ≡ Some x)
+            × SeenAs M.meaning self.now.1 seat.old.me.0 place x }
         requires seat { 0 < seat.old.me.0.root + seat.old.me.0.seat }
         requires hand { (seat.old.me.0.carried ≡ None) × (seat.old.me.1 ≡ []) }
         requires place { place ≤ 2 * self.now.1.limit }
@@ -49,21 +69,24 @@ impl<M: Machine> Turns<M> {
         ensures given { seat.new.me ≡ (without_part seat.old.me.0 place, []) }
     {
         self.table.shared.load::<Fetches>(seat, place + TURNS);
-        let empty = self.table.shared.exchange(seat, place, Some(part));
+        match self.table.shared.exchange(seat, place, part) {
+            None => {}
+            Some(_) => unreachable!(),
+        }
         self.table.shared.store::<Returns>(seat, place + TURNS, 0);
-        drop(empty);
     }
 }
 
-// Takes out what first stands at the place.
-fn remove_part<P>(parts: &mut Hand<P>, place: u64) -> Option<P>
-    requires { (x : Option P) × (find place parts.old.items ≡ Some x) }
+// Takes out what first stands at the place, by where it stands.
+#[inline(always)]
+fn remove_part<P>(parts: &mut Hand<P>, place: u64, i: usize) -> Option<P>
+    requires within { i < length parts.old.items }
+    requires first { IsFirst place parts.old.items i }
     ensures found { find place parts.old.items ≡ Some result }
     ensures removed { parts.new.items ≡ remove_at place parts.old.items }
     ensures room { vec_capacity parts.new - length parts.new.items
         ≡ vec_capacity parts.old - length parts.old.items + 1 }
 {
-    let i = position(parts.as_slice(), place);
     let (_, part) = take_out(parts, i);
     part
 }

@@ -16,7 +16,7 @@ mod turns;
 mod words;
 
 pub use clerk::Clerk;
-pub use closing::Closing;
+pub use closing::{Closing, Remains};
 pub use log::Log;
 pub use ocr_rule::{
     Change, Committed, Debts, Drawn, Machine, Taken, Terms, View, WordStep, sole_laws,
