@@ -84,7 +84,7 @@ impl Loans {
         ensures ok { IfOk result (λ _. self.new ≡ with_kept block kept self.old) }
         ensures err { OnErr result (self.new ≡ self.old) }
     {
-        if self.many.is_none() && self.few.len() < MOST_FEW {
+        if self.many.is_empty() && self.few.len() < MOST_FEW {
             return put_among(&mut self.few, block, kept);
         }
         let alloc = *self.few.allocator();

@@ -1,5 +1,5 @@
 // What an EDT keeps with many blocks, found by their names.
-ghost use Rattle.std.specs.Prelude.{◌≡◌, ◌↔◌, IsTrue, ◌<◌, ◌-◌, ◌^◌, ◌∷◌, ◌++◌, [], is_some, length, map, true, IfNone, IfOk, IfSome, OnErr, OnOk, Some, None};
+ghost use Rattle.std.specs.Prelude.{◌≡◌, ◌↔◌, IsTrue, ◌<◌, ◌-◌, ◌^◌, ◌∷◌, ◌++◌, [], is_some, length, map, IfNone, IfOk, IfSome, OnErr, OnOk, Some, None};
 ghost use Rattle.lru.specs.LruCache.{lru_cache};
 ghost use Rattle.ocr_datablock.specs.Lent.{after_list_writes, after_store};
 ghost use Rattle.ocr_parts.specs.Loans.{IsStorable, kept_after, kept_in, settled_loan, settled_loans, with_kept, with_loan, without_kept};
@@ -36,13 +36,6 @@ impl Many {
         ensures { result ≡ [] }
     {
         Many { cache: None }
-    }
-
-    /// Whether no block came here yet.
-    pub(crate) fn is_none(&self) -> bool
-        ensures { result ≡ true → self.now ≡ [] }
-    {
-        self.cache.is_none()
     }
 
     /// Whether nothing is kept.
