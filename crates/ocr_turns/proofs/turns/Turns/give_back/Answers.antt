@@ -4,21 +4,21 @@ use Rattle.ocr_rule.specs.Steps.{without_part}
 use Rattle.ocr_rule.specs.Sums.{find, remove_at}
 use Rattle.ocr_turns.proofs.turns.Turns.give_back.Goals as goal
 
-pub remove_part-requires : goal.remove_part-requires
-remove_part-requires g c =
+pub position-i-requires : goal.position-i-requires
+position-i-requires g c =
     let may = c.requires.may (sym (ap (λ x. x.view.closed) c.clerk.view_is) ∙ (sym c.clerk.invariant.closed_is ∙ c.in-None.is)) in
-    (Some may.hand, ap (λ x. find c.args.place x.parts) c.clerk.view_is ∙ may.at_hand)
+    (Some may.hand, ap (λ l. find c.args.place l) c.as_slice.ensures.value ∙ (ap (λ x. find c.args.place x.parts) c.clerk.view_is ∙ may.at_hand))
 
 pub invariant_of-clerk : goal.invariant_of-clerk
 invariant_of-clerk g c =
     let given = c.put_back.ensures.given in let rest = c.clerk.invariant.rests.0 in
-    true_same ((λ i. (without_part c.clerk.inside.seat.me.0 c.args.place, rest i)) ∙ sym given) refl refl (sym c.remove_part.ensures.removed) refl refl refl refl (gave_true c.clerk.invariant c.args.place)
+    true_same ((λ i. (without_part c.clerk.inside.seat.me.0 c.args.place, rest i)) ∙ sym given) refl refl (sym c.remove_part-part.ensures.removed) refl refl refl refl (gave_true c.clerk.invariant c.args.place)
 
 pub returns : goal.returns
 returns g c = gave c.args.clerk.now _ c.args.place (sym (ap (λ x. x.view.closed) c.clerk.view_is) ∙ (sym c.clerk.invariant.closed_is ∙ c.in-None.is))
     (c.put_back.ensures.table.0 ∙ ap (λ x. x.table) c.clerk.view_is)
     (ap (λ m. m.0) c.put_back.ensures.given ∙ ap (λ x. without_part x.view c.args.place) c.clerk.view_is)
-    (c.remove_part.ensures.removed ∙ ap (λ x. remove_at c.args.place x.parts) c.clerk.view_is)
+    (c.remove_part-part.ensures.removed ∙ ap (λ x. remove_at c.args.place x.parts) c.clerk.view_is)
     (ap (λ x. x.room) c.clerk.view_is)
-    (c.remove_part.ensures.room ∙ ap (λ x. x.spare + 1) c.clerk.view_is)
+    (c.remove_part-part.ensures.room ∙ ap (λ x. x.spare + 1) c.clerk.view_is)
     (ap (λ x. x.space) c.clerk.view_is)
