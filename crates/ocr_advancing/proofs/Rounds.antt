@@ -1,6 +1,5 @@
 -- What stays over a worker's calls.
-use Rattle.std.proofs.Common.{◌≡◌, ℕ, Bool, true, false, refl, sym, ◌∙◌, subst, arith}
-use Rattle.ocr_advancing.specs.Resting.{HasDelivered}
+use Rattle.std.proofs.Common.{◌≡◌, ℕ, refl, sym, ◌∙◌, subst, arith}
 use Rattle.ocr_advancing.specs.Working.{AdvanceTells, IsBetween}
 use Rattle.ocr_advancing.specs.declared.advancing.Advanced.{Advanced}
 use Rattle.ocr_advancing.specs.declared.advancing.Advanced.TheVariants as advanced
@@ -8,7 +7,7 @@ use Rattle.ocr_clerks.specs.Entering.{OcrKnown}
 use Rattle.ocr_clerks.specs.Work.{OcrTable, Stays}
 use Rattle.ocr_code.specs.declared.checked.Checked.{Checked}
 use Rattle.ocr_steal.specs.declared.hand.Hand.{Hand}
-use Rattle.ocr_steal.specs.Hand.{IsSame, knows, misses_of}
+use Rattle.ocr_steal.specs.Hand.{IsSame}
 use Rattle.ocr_clerks.proofs.Going.{stays_both, stays_self}
 
 pub same_hand : (h : Hand) → IsSame h h
@@ -36,14 +35,6 @@ goes_next table program old now new first hand next goes between stays same = re
   stays = stays_both old now new goes.stays stays;
   same = same_both first hand next goes.same same;
 }
-
--- nothing was delivered, or something
-pub record IsDelivering (any : Bool) (old now : OcrKnown) (first hand : Hand) : Type 0 where
-  pub knows_same : knows hand ≡ knows first
-  pub misses : misses_of hand ≡ misses_of first
-  pub some : any ≡ true → HasDelivered old → ⊥
-  pub none : any ≡ false → (now ≡ old) × (hand ≡ first)
-  pub owes : HasDelivered old → now ≡ old
 
 -- What a call leaves is between the calls, where it was not told that the run has ended.
 pub came_between : (table : OcrTable) (program : Checked) (worker edt : ℕ) (a : Advanced) (old new : OcrKnown) → ((word : ℕ) → a ≡ advanced.Closed word → ⊥) → IsBetween table program old → AdvanceTells table program worker a edt old new → IsBetween table program new

@@ -37,10 +37,11 @@ pub fn deliver_all<R: Wait, G: Gate>(
     if clerk.owed().is_empty() {
         return Ok(false);
     }
-    deliver_owing(alloc, job, worker, clerk, hand)
+    deliver_owing(alloc, job, worker, clerk, hand)?;
+    Ok(true)
 }
 
-// The same, where something is owed.
+// Delivers until nothing is owed.
 #[inline(never)]
 fn deliver_owing<R: Wait, G: Gate>(
     alloc: Global,
@@ -48,26 +49,20 @@ fn deliver_owing<R: Wait, G: Gate>(
     worker: u32,
     clerk: &mut Clerk<Ocr>,
     hand: &mut Hand,
-) -> Result<bool, Over>
+) -> Result<(), Over>
     requires between { IsBetween job.now.turns.now job.now.program.now clerk.old }
     ensures stays { Stays clerk.old clerk.new }
     ensures hand { IsSame hand.old hand.new × (knows hand.new ≡ knows hand.old)
         × (misses_of hand.new ≡ misses_of hand.old) }
     ensures done { OnOk result (IsBetween job.now.turns.now job.now.program.now clerk.new
         × HasDelivered clerk.new) }
-    ensures some { IfOk result (λ any. any ≡ true → HasDelivered clerk.old → ⊥) }
-    ensures none { IfOk result (λ any. any ≡ false → (clerk.new ≡ clerk.old)
-        × (hand.new ≡ hand.old)) }
-    ensures rests { HasDelivered clerk.old → HasRested result clerk.old clerk.new }
     ensures left { OnErr result (IsGone job.now.turns.now worker clerk.new) }
 {
-    let mut any = false;
     for _ in job.rt.forever() {
         if clerk.owed().is_empty() {
-            return Ok(any);
+            return Ok(());
         }
         deliver_owed(alloc, job, worker, clerk, hand)?;
-        any = true;
     }
     unreachable!()
 }

@@ -4,6 +4,7 @@ use Rattle.std.specs.Prelude.{MatchOption}
 use Rattle.std.specs.List.{All}
 use Rattle.std.proofs.lemmas.Bool.{eqb-true}
 use Rattle.std.proofs.lemmas.List.{drop_more, get_or-reverse, length-reverse}
+use Rattle.ocr_base.proofs.Booleans.{same as number_same}
 use Rattle.ocr_code.specs.declared.checked.Checked.{Checked}
 use Rattle.ocr_parts.specs.declared.part.Core.{Core}
 use Rattle.ocr_parts.specs.declared.part.Part.{Part}
@@ -22,7 +23,7 @@ use Rattle.ocr_clerks.specs.Entering.{OcrKnown}
 use Rattle.ocr_clerks.specs.Work.{AtWork, HasTakenOn, KeepsFaces, KeepsLoose, OcrTable, RunsOnly}
 use Rattle.ocr_clerks.proofs.Going.{Calm, work_still}
 use Rattle.ocr_clerks.proofs.Gone.{less_long, none_left, some_found, some_removed, sum_reversed, weigh_numbers}
-use Rattle.ocr_clerks.proofs.Hands.{apart_is, keys_length, number_same, some_length}
+use Rattle.ocr_clerks.proofs.Hands.{apart_is, keys_length, some_length}
 use Rattle.ocr_clerks.proofs.Seen.{face_loose}
 
 abbrev pub Hands : Type 0

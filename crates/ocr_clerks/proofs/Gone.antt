@@ -1,10 +1,10 @@
 -- Numbered lists of which items are taken out one by one, and what a list of numbers weighs.
 use Rattle.std.proofs.Common.{◌≡◌, ℕ, ◌+◌, ◌≤◌, ◌==◌, true, false, List, [], ◌∷◌, length, reverse, Option, Some, refl, ap, arith, if◌then◌else◌}
 use Rattle.std.proofs.lemmas.List.{reverse-append}
+use Rattle.ocr_base.proofs.Booleans.{same as number_same}
 use Rattle.ocr_rule.specs.Sums.{as_some, find, keys, one_at, remove_at, sum_of, weigh}
 use Rattle.ocr_rule.proofs.Numbered.{weigh_remove}
 use Rattle.ocr_rule.proofs.Totals.{sum_append}
-use Rattle.ocr_clerks.proofs.Hands.{number_same}
 
 module _ {A : Type 0} where
   pub weigh_numbers : (f : ℕ → ℕ) (xs : List (ℕ × A)) → weigh f xs ≡ sum_of f (keys xs)

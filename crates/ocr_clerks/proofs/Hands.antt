@@ -3,6 +3,7 @@ use Rattle.std.proofs.Common.{◌≡◌, ◌≢◌, ℕ, zero, suc, ◌+◌, ◌
 use Rattle.std.proofs.lemmas.Grind.{common_steps}
 use Rattle.std.proofs.lemmas.Bool.{eqb-true}
 use Rattle.std.proofs.lemmas.List.{length-append, append_assoc, append-nil}
+use Rattle.ocr_base.proofs.Booleans.{same as number_same}
 use Rattle.ocr_code.specs.declared.checked.Checked.{Checked}
 use Rattle.ocr_parts.specs.declared.part.Part.{Part}
 use Rattle.ocr_facts.specs.Clerks.{OcrView}
@@ -99,9 +100,6 @@ in_hand_some (x ∷ xs) = ap (λ (l : List (ℕ × Part)). x ∷ l) (in_hand_som
 pub lifted_keys : (xs : List (ℕ × Option Part)) → keys (lifted xs) ≡ keys xs
 lifted_keys [] = refl
 lifted_keys (x ∷ xs) = ap (λ (l : List ℕ). x.0 ∷ l) (lifted_keys xs)
-
-pub number_same : (n : ℕ) → (n == n) ≡ true
-number_same n = grind (arith, common_steps)
 
 pub apart_is : (m n : ℕ) → m ≢ n → (m == n) ≡ false
 apart_is m n off = by_case (m == n) refl

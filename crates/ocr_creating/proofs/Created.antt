@@ -3,6 +3,7 @@ use Rattle.std.proofs.Common.{◌≡◌, ℕ, ◌+◌, ◌≤◌, ◌==◌, Bool
 use Rattle.std.proofs.lemmas.Bool.{eqb-true}
 use Rattle.std.specs.Prelude.{IfOk}
 use Rattle.std.proofs.lemmas.Grind.{common_steps}
+use Rattle.ocr_base.proofs.Booleans.{same as number_same}
 use Rattle.ocr_code.specs.declared.checked.Checked.{Checked}
 use Rattle.ocr_parts.specs.declared.part.Part.{Part}
 use Rattle.ocr_parts.specs.declared.part.Part.TheVariants as part
@@ -41,7 +42,6 @@ use Rattle.ocr_rule.specs.Sums as sums
 use Rattle.ocr_rule.proofs.Totals.{one_here}
 use Rattle.ocr_facts.specs.Clerks.{IsStep, OcrTerms, OcrView}
 use Rattle.ocr_facts.specs.Ocr.{meaning}
-use Rattle.ocr_facts.proofs.Slots.{number_same}
 use Rattle.ocr_clerks.specs.Entering.{CanMake, OcrKnown}
 use Rattle.ocr_clerks.specs.Work.{AtWork, EntersAs, OcrTable, Took, in_hand, lifted}
 use Rattle.ocr_clerks.proofs.Hands.{in_hand_some, keys_append, lifted_keys, replace_whole, some_append, some_keys}

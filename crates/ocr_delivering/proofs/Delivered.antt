@@ -2,6 +2,7 @@
 use Rattle.std.proofs.Common.{◌≡◌, ℕ, zero, suc, ◌<◌, ◌≤◌, List, [], ◌∷◌, ◌++◌, length, Option, Result, Ok, Err, OnOk, refl, ap, sym, ◌∙◌, subst, arith}
 use Rattle.std.proofs.lemmas.List.{append-nil}
 use lib.ListN.{get_elem?}
+use Rattle.ocr_base.proofs.Booleans.{same as number_same}
 use Rattle.ocr_code.specs.declared.checked.Checked.{Checked}
 use Rattle.ocr_guid.specs.declared.Code.TheVariants as code
 use Rattle.ocr_history.specs.declared.entry.Entry.{Entry}
@@ -13,7 +14,6 @@ use Rattle.ocr_parts.specs.declared.part.Part.{Part}
 use Rattle.ocr_parts.specs.Taken as taken
 use Rattle.ocr_facts.specs.Clerks.{OcrTerms, OcrView}
 use Rattle.ocr_facts.specs.Ocr.{ends, meaning, set_by, starts}
-use Rattle.ocr_facts.proofs.Slots.{number_same}
 use Rattle.ocr_steal.specs.declared.hand.Hand.{Hand}
 use Rattle.ocr_steal.specs.Hand.{own}
 use Rattle.ocr_rule.proofs.Histories.{ran}

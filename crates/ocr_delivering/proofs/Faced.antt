@@ -4,6 +4,7 @@ use Rattle.std.proofs.lemmas.List.{append-nil}
 use Rattle.std.proofs.lemmas.List.Elements.{All-cons, All-nil}
 use mathlib.Core.Option.{some}
 use lib.ListN.{get_elem?}
+use Rattle.ocr_base.proofs.Booleans.{same as number_same}
 use Rattle.ocr_code.specs.Checked.{checked_tree}
 use Rattle.ocr_code.specs.declared.checked.Checked.{Checked}
 use Rattle.ocr_tree.specs.Runnable.{IsRunnable}
@@ -22,7 +23,6 @@ use Rattle.ocr_parts.specs.declared.part.Part.{Part}
 use Rattle.ocr_facts.specs.Clerks.{AreAtHand, HasEvent, MayEnter, OcrView, of_terms}
 use Rattle.ocr_facts.specs.Ocr.{ends, meaning, set_by, starts, touches}
 use Rattle.ocr_facts.proofs.Owed.{deliver_law, hand_counted, knows_satisfiable}
-use Rattle.ocr_facts.proofs.Slots.{number_same}
 use Rattle.ocr_rule.specs.Contract.{LookTells}
 use Rattle.ocr_rule.specs.Rule.{Fits, RunsIn}
 use Rattle.ocr_rule.specs.Counting.{leaves}

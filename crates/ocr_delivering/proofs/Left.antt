@@ -23,7 +23,6 @@ use Rattle.ocr_parts.specs.declared.part.Part.{Part}
 use Rattle.ocr_facts.specs.Clerks.{MayEnter, OcrView, OwesLeave, of_terms}
 use Rattle.ocr_facts.specs.Ocr.{ends, meaning, set_by, starts, touches}
 use Rattle.ocr_facts.proofs.Owed.{knows_member, leave_law}
-use Rattle.ocr_facts.proofs.Slots.{number_same}
 use Rattle.ocr_rule.specs.Contract.{LookTells}
 use Rattle.ocr_rule.specs.Rule.{Fits, RunsIn}
 use Rattle.ocr_rule.specs.Counting.{leaves}

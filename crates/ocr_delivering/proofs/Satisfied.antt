@@ -22,7 +22,6 @@ use Rattle.ocr_parts.specs.declared.part.Part.{Part}
 use Rattle.ocr_facts.specs.Clerks.{AreAtHand, HasEvent, MayEnter, OcrView, of_terms}
 use Rattle.ocr_facts.specs.Ocr.{ends, meaning, set_by, starts, touches}
 use Rattle.ocr_facts.proofs.Owed.{deliver_law, hand_counted, knows_satisfiable}
-use Rattle.ocr_facts.proofs.Slots.{number_same}
 use Rattle.ocr_rule.specs.Contract.{LookTells}
 use Rattle.ocr_rule.specs.Rule.{Fits, RunsIn}
 use Rattle.ocr_rule.specs.Counting.{leaves}

@@ -2,6 +2,7 @@
 use Rattle.std.proofs.Common.{◌≡◌, ◌⊎◌, inl, inr, ℕ, ◌+◌, ◌/◌, ◌≤◌, List, [], ◌∷◌, Bool, true, false, not, ◌==◌, ◌||◌, if◌then◌else◌, Option, Some, None, is_some, refl, sym, ◌∙◌, ap, subst, arith}
 use Rattle.std.proofs.lemmas.Grind.{common_steps}
 use Rattle.std.proofs.lemmas.Bool.{eqb-true}
+use Rattle.ocr_base.proofs.Booleans.{same as number_same}
 use Rattle.ocr_acquire.specs.declared.Mode.{Mode}
 use Rattle.ocr_acquire.specs.Mode.{mode_in}
 use Rattle.ocr_datablock.specs.Block as block
@@ -129,9 +130,6 @@ moved_awaits o f h n woken d was moves = elim (is_in n woken) as (λ b. is_in n 
         some_same : (d e : ℕ) → Some d ≡ Some e → d ≡ e
         some_same d e same = cc same
 
-        number_same : (n : ℕ) → (n == n) ≡ true
-        number_same n = grind (arith, common_steps)
-
 pub effect_awaits : (limit : ℕ) (e : Entry) (o : Option ℕ) (f h : Parts) (n : ℕ) (woken : List ℕ) → IsAwaiting o f n → Effect limit e f h woken → IsAwaiting (if is_in n woken then None else o) h n
 effect_awaits limit e o f h n woken was (inl quiet) = subst (λ (ws : List ℕ). IsAwaiting (if is_in n ws then None else o) h n) (sym quiet.0) (still_awaits o f h n was quiet.1)
 effect_awaits limit e o f h n woken was (inr moves) = moved_awaits o f h n woken moves.0 was moves.1
@@ -183,9 +181,6 @@ release_leaves other t w loan P is once = absurd is
 doom_leaves : (x : Part) (t : ℕ) (w : List (ℕ × ℕ)) (loan : Option Loan) (P : block.State → Type 0) → IsBlock x P → block_steps.StandOnce (standing x) → Leaves (queue_on x) (queue_on (with_block x (hold_ended block_steps.after_doom t w loan))) (resumed_by_doom x t)
 doom_leaves (part.Block st) t w loan P is once = doomed t w loan st once
 doom_leaves other t w loan P is once = absurd is
-
-number_same : (n : ℕ) → (n == n) ≡ true
-number_same n = grind (arith, common_steps)
 
 chosen_on : {A : Type 0} (b : Bool) (x y : A) → b ≡ true → (if b then x else y) ≡ x
 chosen_on true x y is = refl

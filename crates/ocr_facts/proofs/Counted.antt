@@ -3,6 +3,7 @@ use Rattle.std.proofs.Common.{◌≡◌, inl, inr, ℕ, ◌+◌, ◌<◌, ◌≤
 use Rattle.std.proofs.lemmas.Bool.{eqb-true}
 use Rattle.std.proofs.lemmas.List.{reverse-reverse}
 use Rattle.std.proofs.lemmas.Option.{same_Some, some_pair_parts}
+use Rattle.ocr_base.proofs.Booleans.{same as number_same}
 use Rattle.ocr_guid.specs.declared.Code.{Code}
 use Rattle.ocr_slots.specs.Slots as slot
 use Rattle.ocr_meaning.specs.Holds.{is_done}
@@ -40,7 +41,7 @@ use Rattle.ocr_facts.proofs.Making.{few_slots}
 use Rattle.ocr_facts.proofs.Places.{named_place}
 use Rattle.ocr_facts.proofs.Runs.{Comes, comes, of_terms}
 use Rattle.ocr_facts.proofs.Slots.{chosen_on, depc_edt, edt_slots, payload_is, slots_are}
-use Rattle.ocr_facts.proofs.Waits.{number_same, ready, resumed_is, running, waits_is}
+use Rattle.ocr_facts.proofs.Waits.{ready, resumed_is, running, waits_is}
 
 -- THE OPENING
 first_set : (t : Terms Setting) → stands t.setting.value t.limit [] (IsSet MAIN_EDT 0 ARGUMENTS)

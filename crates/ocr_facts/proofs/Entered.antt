@@ -3,6 +3,7 @@ use Rattle.std.proofs.Common.{◌≡◌, ℕ, zero, suc, ◌≤◌, Bool, true, 
 use Rattle.std.proofs.lemmas.Grind.{common_steps}
 use Rattle.std.proofs.lemmas.Bool.{eqb-true}
 use Rattle.std.proofs.lemmas.List.{reverse-append}
+use Rattle.ocr_base.proofs.Booleans.{same as number_same}
 use Rattle.ocr_guid.specs.Target.{EventCall}
 use mathlib.Core.Option.{some, some-injective, some-ne-none}
 use lib.ListN.{get_elem?}
@@ -43,7 +44,7 @@ use Rattle.ocr_facts.specs.Clerks.{EntryLaw, OcrTerms, OcrView, of_terms}
 use Rattle.ocr_facts.specs.Ocr.{MayFollow, counts, creates, meaning, part_of, slots_meant}
 use Rattle.ocr_facts.proofs.Runs.{reverse_snoc, run_is}
 use Rattle.ocr_facts.proofs.Sending.{readied_sends, settled_sends}
-use Rattle.ocr_facts.proofs.Slots.{chosen_on, number_same}
+use Rattle.ocr_facts.proofs.Slots.{chosen_on}
 use Rattle.ocr_finish.specs.Scope.{ScopeCall}
 
 -- LISTS OF PARTS

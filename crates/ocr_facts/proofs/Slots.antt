@@ -3,6 +3,7 @@ use Rattle.std.proofs.Common.{◌≡◌, ℕ, ◌<◌, List, [], ◌∷◌, reve
 use Rattle.std.proofs.lemmas.Grind.{common_steps}
 use Rattle.std.proofs.lemmas.Bool.{eqb-true}
 use Rattle.std.proofs.lemmas.List.{reverse-reverse}
+use Rattle.ocr_base.proofs.Booleans.{same as number_same}
 use Rattle.ocr_slots.specs.Slots as slot
 use Rattle.ocr_guid.specs.declared.Code.{Code}
 use Rattle.ocr_meaning.specs.Holds.{is_done}
@@ -83,9 +84,6 @@ or_on false b is = cc is
 pub chosen_on : {A : Type 0} (b : Bool) (x y : A) → b ≡ true → (if b then x else y) ≡ x
 chosen_on true x y is = refl
 chosen_on false x y is = cc is
-
-pub number_same : (n : ℕ) → (n == n) ≡ true
-number_same n = grind (arith, common_steps)
 
 -- what a creation says of the slots of the EDT that it makes
 created_slots : (s : history.Setting) (past : History) (u home from pc dc fl : ℕ) (ps ds : List ℕ) (o : Bool) (a : Answer) (w : List (ℕ × ℕ)) (n : ℕ) → IsRun s (Call u home (call.EdtCreate from pc ps dc ds fl o) a w ∷ past)

@@ -3,6 +3,7 @@ use Rattle.std.proofs.Common.{◌≡◌, ℕ, ◌≤◌, List, [], ◌∷◌, �
 use Rattle.std.proofs.lemmas.Grind.{common_steps}
 use Rattle.std.proofs.lemmas.Bool.{eqb-true}
 use Rattle.std.proofs.lemmas.List.{reverse-reverse}
+use Rattle.ocr_base.proofs.Booleans.{same as number_same}
 use Rattle.ocr_acquire.specs.declared.Mode.{Mode}
 use Rattle.ocr_acquire.specs.Mode.{mode_in}
 use Rattle.ocr_slots.specs.Slots as slot
@@ -53,9 +54,6 @@ fresh_awaits (Some (MadeEdt f ps n)) i = refl
 fresh_awaits other i = refl
 
 -- WHO IS LET WAIT comes last in the queue
-pub number_same : (n : ℕ) → (n == n) ≡ true
-number_same n = grind (arith, common_steps)
-
 pushed_queue : (x : Part) (t : ℕ) (m : Mode) → IsBlock x (IsRefused t m) → queue_on (with_block x (λ st. block_steps.after_ask st t m)) ≡ queue_on x ++ (t, m) ∷ []
 pushed_queue (part.Block st) t m refused = refused_queue t m st refused
 pushed_queue other t m refused = absurd refused

@@ -1,6 +1,7 @@
 -- Who stands in the queue of a kept block waits.
 use Rattle.std.proofs.Common.{◌≡◌, ℕ, ◌≤◌, ◌==◌, true, List, [], ◌∷◌, reverse, is_some, refl, sym, ◌∙◌, ap, subst, arith}
 use Rattle.std.proofs.lemmas.Grind.{common_steps}
+use Rattle.ocr_base.proofs.Booleans.{same as number_same}
 use Rattle.ocr_acquire.specs.Mode.{mode_in}
 use Rattle.ocr_parts.specs.declared.part.Part.{Part}
 use Rattle.ocr_parts.specs.declared.part.Part.TheVariants as part
@@ -23,9 +24,6 @@ one_claim n = grind (arith, common_steps)
 
 pub has_claim : (n : ℕ) (claims : List ℕ) → claims ≡ n ∷ [] → 1 ≤ times n claims
 has_claim n claims is = subst (λ (l : List ℕ). 1 ≤ times n l) (sym is) (one_claim n)
-
-number_same : (n : ℕ) → (n == n) ≡ true
-number_same n = grind (arith, common_steps)
 
 no_claim : (n : ℕ) → less_one n (n ∷ []) ≡ []
 no_claim n = rw (number_same n) refl

@@ -1,12 +1,13 @@
 -- Parts of a hand that are found and replaced.
 use Rattle.std.proofs.Common.{◌≡◌, ◌≢◌, ℕ, ◌==◌, true, false, if◌then◌else◌, List, [], ◌∷◌, length, Option, Some, refl, ap, subst, arith}
 use Rattle.std.proofs.lemmas.Bool.{eqb-true}
+use Rattle.ocr_base.proofs.Booleans.{same as number_same}
 use Rattle.ocr_slots.specs.declared.Slot.{Slot}
 use Rattle.ocr_parts.specs.declared.part.Core.{Core}
 use Rattle.ocr_parts.specs.declared.part.Part.{Part}
 use Rattle.ocr_parts.specs.declared.part.Part.TheVariants as part
 use Rattle.ocr_rule.specs.Sums.{find, replace}
-use Rattle.ocr_clerks.proofs.Hands.{apart_is, number_same}
+use Rattle.ocr_clerks.proofs.Hands.{apart_is}
 
 abbrev Hands : Type 0
 Hands = List (ℕ × Option Part)

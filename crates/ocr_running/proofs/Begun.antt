@@ -1,5 +1,6 @@
 -- What the Start of an EDT tells whoever keeps its face and its core.
 use Rattle.std.proofs.Common.{◌≡◌, ℕ, List, [], ◌∷◌, length, true, Option, Some, None, refl, sym, ◌∙◌, ap, subst}
+use Rattle.ocr_base.proofs.Booleans.{same as number_same}
 use Rattle.ocr_acquire.specs.declared.Mode.{Mode}
 use Rattle.ocr_acquire.specs.Mode.{mode_in}
 use Rattle.ocr_datablock.specs.Block as block
@@ -28,7 +29,6 @@ use Rattle.ocr_quiet.proofs.Edts.{edts_law}
 use Rattle.ocr_standing.specs.Kept.{AreSet, IsFilled, filled}
 use Rattle.ocr_standing.proofs.Filled.{filled_law, many}
 use Rattle.ocr_facts.specs.Facts.{HasBegun, IsCount, holds_by, stale_in}
-use Rattle.ocr_facts.proofs.Slots.{number_same}
 use Rattle.ocr_finish.specs.Scope.{ScopeCall}
 use Rattle.ocr_edt.specs.declared.Identity.{Identity}
 

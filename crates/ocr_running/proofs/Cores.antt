@@ -1,6 +1,7 @@
 -- The core of a running EDT after its entries, and the list of parts that has it first.
 use Rattle.std.proofs.Common.{◌≡◌, ℕ, ◌+◌, ◌/◌, Bool, true, false, not, ◌==◌, if◌then◌else◌, List, [], ◌∷◌, is_some, refl, ap, sym, ◌∙◌, subst}
 use Rattle.std.proofs.lemmas.Bool.{eqb-true}
+use Rattle.ocr_base.proofs.Booleans.{same as number_same}
 use Rattle.ocr_edt.specs.declared.Edt.{Edt}
 use Rattle.ocr_edt.specs.declared.Edt.TheVariants as phase
 use Rattle.ocr_meaning.specs.Holds.{after_call, is_done}
@@ -19,7 +20,6 @@ use Rattle.ocr_parts.specs.Parts.{Parts}
 use Rattle.ocr_parts.specs.Taken.{as_core, has, is_within, keys, look, parts_in}
 use Rattle.ocr_parts.proofs.After.{deps_core, linked_core}
 use Rattle.ocr_parts.proofs.Held.{holds_law}
-use Rattle.ocr_facts.proofs.Slots.{number_same}
 use Rattle.ocr_running.specs.Serving.{holds_in}
 
 -- A STEP of a running core leaves it running

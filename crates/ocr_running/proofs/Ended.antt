@@ -3,6 +3,7 @@ use Rattle.std.proofs.Common.{◌≡◌, ◌⊎◌, inl, inr, ⊎_elim, ℕ, ◌
 use Rattle.std.specs.List.{All}
 use Rattle.std.proofs.lemmas.Bool.{eqb-true}
 use Rattle.std.proofs.lemmas.Grind.{common_steps}
+use Rattle.ocr_base.proofs.Booleans.{same as number_same}
 use Rattle.ocr_code.specs.declared.checked.Checked.{Checked}
 use Rattle.ocr_meaning.specs.Behaviour.{Ends}
 use Rattle.ocr_meaning.specs.Body.{Body, says}
@@ -30,7 +31,6 @@ use Rattle.ocr_facts.specs.Clerks.{AreAtHand, IsStep, OcrView}
 use Rattle.ocr_facts.specs.Ocr.{ends, meaning, starts, touches}
 use Rattle.ocr_facts.proofs.Owed.{hand_counted}
 use Rattle.ocr_facts.proofs.Places.{named_place, places_good}
-use Rattle.ocr_facts.proofs.Slots.{number_same}
 use Rattle.ocr_clerks.specs.Entering.{CanMake, Hand, OcrKnown}
 use Rattle.ocr_clerks.specs.Work.{AtWork, EntersAs, EntersKept, HasAllAtHand, IsIdle, KeepsLoose, OcrTable, RunsNone, in_hand}
 use Rattle.ocr_clerks.proofs.Entries.{turns_keys}

@@ -1,6 +1,7 @@
 -- What the entry of a call leaves.
 use Rattle.std.specs.Prelude.{IfOk, OnOk}
 use Rattle.std.proofs.Common.{◌≡◌, ℕ, ◌+◌, true, List, [], ◌∷◌, ◌++◌, Option, Result, Ok, Err, refl, ap, sym, ◌∙◌, subst}
+use Rattle.ocr_base.proofs.Booleans.{same as number_same}
 use Rattle.ocr_meaning.specs.Body.{Body}
 use Rattle.ocr_meaning.specs.Holds.{after_call}
 use Rattle.ocr_meaning.specs.declared.call.Answer.{Answer}
@@ -19,7 +20,6 @@ use Rattle.ocr_rule.specs.Rule.{RunsIn}
 use Rattle.ocr_rule.specs.Sums.{as_some, keys, less_all}
 use Rattle.ocr_facts.specs.Clerks.{OcrView}
 use Rattle.ocr_facts.specs.Ocr.{counts, ends, makes, starts, wakes}
-use Rattle.ocr_facts.proofs.Slots.{number_same}
 use Rattle.ocr_clerks.specs.Entering.{CanMake, OcrKnown}
 use Rattle.ocr_clerks.specs.Work.{EntersAs, EntersKept, OcrTable, RunsOnly}
 use Rattle.ocr_clerks.proofs.Entries.{turns_keys}

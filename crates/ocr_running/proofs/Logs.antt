@@ -3,6 +3,7 @@ use Rattle.std.proofs.Common.{◌≡◌, ℕ, zero, suc, Bool, true, false, ◌=
 use Rattle.std.proofs.lemmas.List.{reverse-append}
 use mathlib.Core.Option.{some, some-ne-none}
 use lib.ListN.{get_elem?}
+use Rattle.ocr_base.proofs.Booleans.{same as number_same}
 use Rattle.ocr_meaning.specs.declared.call.Answer.{Answer}
 use Rattle.ocr_meaning.specs.declared.call.Call as body
 use Rattle.ocr_history.specs.declared.entry.Entry.{Entry}
@@ -17,7 +18,6 @@ use Rattle.ocr_rule.proofs.Totals.{among_append, entries_append}
 use Rattle.ocr_facts.specs.Clerks.{OcrTerms, OcrView}
 use Rattle.ocr_facts.specs.Ocr.{ends, starts}
 use Rattle.ocr_facts.specs.declared.fact.Fact.{Fact}
-use Rattle.ocr_facts.proofs.Slots.{number_same}
 use Rattle.ocr_running.specs.Serving.{IsKnown, Serves, own_log}
 
 or_false : (a b : Bool) → b ≡ false → (a || b) ≡ a

@@ -2,6 +2,7 @@
 use Rattle.std.proofs.Common.{◌≡◌, ℕ, ◌+◌, ◌≤◌, Bool, true, false, ◌==◌, if◌then◌else◌, List, [], ◌∷◌, length, Option, Some, None, refl, ap, sym, ◌∙◌, subst, arith}
 use Rattle.std.proofs.lemmas.Bool.{eqb-true}
 use Rattle.std.proofs.lemmas.Grind.{common_steps}
+use Rattle.ocr_base.proofs.Booleans.{same as number_same}
 use Rattle.ocr_code.specs.declared.checked.Checked.{Checked}
 use Rattle.ocr_history.specs.declared.entry.Entry.{Entry}
 use Rattle.ocr_parts.specs.declared.part.Core.{Core}
@@ -17,7 +18,6 @@ use Rattle.ocr_rule.specs.Steps.{deed, logged}
 use Rattle.ocr_rule.specs.Sums.{find, keys, one_at, replace, weigh}
 use Rattle.ocr_facts.specs.Clerks.{OcrTerms, OcrView}
 use Rattle.ocr_facts.specs.Ocr.{meaning}
-use Rattle.ocr_facts.proofs.Slots.{number_same}
 use Rattle.ocr_clerks.specs.Entering.{Hand, OcrKnown}
 use Rattle.ocr_clerks.specs.Work.{AtWork, EntersAs, EntersKept, OcrTable, Stays, in_hand}
 use Rattle.ocr_clerks.proofs.Going.{stays_self}

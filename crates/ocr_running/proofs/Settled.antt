@@ -2,6 +2,7 @@
 use Rattle.std.proofs.Common.{◌≡◌, ℕ, ◌≤◌, ◌<◌, ◌+◌, List, [], ◌∷◌, drop, length, get_or, Option, refl, ap, sym, ◌∙◌, subst, arith}
 use Rattle.std.proofs.lemmas.List.{drop_more}
 use Rattle.std.proofs.Math.ListN.{drop_of_length-le}
+use Rattle.ocr_base.proofs.Booleans.{same as number_same}
 use Rattle.ocr_history.specs.declared.entry.Entry.{Entry}
 use Rattle.ocr_parts.specs.declared.part.Part.{Part}
 use Rattle.ocr_meaning.specs.Body.{Body}
@@ -14,7 +15,6 @@ use Rattle.ocr_rule.specs.Words.{counting_made, resuming}
 use Rattle.ocr_rule.specs.declared.debts.Debts.{Debts}
 use Rattle.ocr_facts.specs.Clerks.{OcrTerms, OcrView}
 use Rattle.ocr_facts.specs.Ocr.{meaning}
-use Rattle.ocr_facts.proofs.Slots.{number_same}
 use Rattle.ocr_clerks.specs.Entering.{OcrKnown}
 use Rattle.ocr_clerks.specs.Work.{AtWork, OcrTable, RunsOnly, Stays}
 use Rattle.ocr_clerks.proofs.Going.{Calm, stays_both, stays_still, work_still}

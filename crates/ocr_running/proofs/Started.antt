@@ -4,6 +4,7 @@ use Rattle.std.specs.List.{All}
 use Rattle.std.proofs.lemmas.Bool.{eqb-true}
 use Rattle.std.proofs.lemmas.List.Elements.{All-cons, All-nil}
 use Rattle.std.proofs.lemmas.Grind.{common_steps}
+use Rattle.ocr_base.proofs.Booleans.{same as number_same}
 use Rattle.ocr_acquire.specs.declared.Mode.{Mode}
 use Rattle.ocr_code.specs.Checked.{checked_tree}
 use Rattle.ocr_code.specs.declared.checked.Checked.{Checked}
@@ -32,7 +33,6 @@ use Rattle.ocr_facts.specs.Ocr.{ends, starts, touches}
 use Rattle.ocr_facts.specs.declared.fact.Fact.{Fact}
 use Rattle.ocr_facts.specs.declared.fact.Fact.TheVariants.{Count, IsSet, Began}
 use Rattle.ocr_facts.proofs.Places.{named_place, within_is}
-use Rattle.ocr_facts.proofs.Slots.{number_same}
 use Rattle.ocr_clerks.specs.Entering.{CanMake, Hand, OcrKnown}
 use Rattle.ocr_clerks.specs.Work.{AtWork, CanRun, EntersAs, EntersKept, OcrTable, RunsOnly, in_hand, ready_with}
 use Rattle.ocr_clerks.proofs.Counters.{none_counted}

@@ -4,6 +4,7 @@ use Rattle.std.specs.Prelude.{slice_index_or}
 use Rattle.std.proofs.lemmas.Bool.{eqb-true}
 use Rattle.std.proofs.lemmas.Grind.{common_steps}
 use mathlib.Core.Option.{some-injective, some-ne-none}
+use Rattle.ocr_base.proofs.Booleans.{same as number_same}
 use Rattle.ocr_acquire.specs.declared.Mode.{Mode}
 use Rattle.ocr_code.specs.Checked.{checked_tree}
 use Rattle.ocr_tree.specs.Runnable.{IsRunnable}
@@ -31,7 +32,6 @@ use Rattle.ocr_facts.specs.declared.fact.Fact.{Fact}
 use Rattle.ocr_facts.specs.declared.fact.Fact.TheVariants.{Count, IsSet, Began}
 use Rattle.ocr_facts.proofs.Entered.{fitting_parts}
 use Rattle.ocr_facts.proofs.Runs.{reverse_snoc, run_is}
-use Rattle.ocr_facts.proofs.Slots.{number_same}
 use Rattle.ocr_running.specs.Serving.{IsKnown}
 use Rattle.ocr_running.proofs.Begun.{start_facts}
 use Rattle.ocr_running.proofs.Parts.{core_of}

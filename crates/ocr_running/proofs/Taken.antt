@@ -1,5 +1,6 @@
 -- One part more, taken and lifted behind those that a call names.
 use Rattle.std.proofs.Common.{◌≡◌, ℕ, suc, ◌+◌, ◌≤◌, ◌==◌, true, false, if◌then◌else◌, List, [], ◌∷◌, ◌++◌, length, Option, Some, None, Result, Ok, Err, is_ok, is_err, refl, ap, sym, ◌∙◌, subst, arith}
+use Rattle.ocr_base.proofs.Booleans.{same as number_same}
 use Rattle.ocr_code.specs.declared.checked.Checked.{Checked}
 use Rattle.ocr_parts.specs.declared.part.Part.{Part}
 use Rattle.ocr_parts.specs.declared.part.Part.TheVariants as part
@@ -10,7 +11,6 @@ use Rattle.ocr_rule.proofs.Numbered.{weigh_keys}
 use Rattle.ocr_rule.proofs.Totals.{one_here, weigh_append}
 use Rattle.ocr_facts.specs.Clerks.{OcrTerms, OcrView}
 use Rattle.ocr_facts.specs.Ocr.{meaning}
-use Rattle.ocr_facts.proofs.Slots.{number_same}
 use Rattle.ocr_clerks.specs.Entering.{OcrKnown}
 use Rattle.ocr_clerks.specs.Work.{AtWork, OcrTable, Took, lifted}
 use Rattle.ocr_clerks.proofs.Going.{work_still}

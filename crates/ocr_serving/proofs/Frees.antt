@@ -2,7 +2,7 @@
 use Rattle.std.proofs.Common.{◌≡◌, ◌≢◌, ◌⊎◌, inl, inr, ⊎_elim, ℕ, ◌+◌, ◌≤◌, true, false, ◌==◌, if◌then◌else◌, List, [], ◌∷◌, ◌++◌, reverse, Option, Some, is_some, refl, ap, sym, ◌∙◌, subst, arith}
 use Rattle.std.proofs.lemmas.Bool.{eqb-true}
 use Rattle.std.proofs.lemmas.List.Elements.{All-cons, All-nil}
-use Rattle.ocr_base.proofs.Booleans.{eqb_flips}
+use Rattle.ocr_base.proofs.Booleans.{eqb_flips, same as number_same}
 use Rattle.ocr_acquire.specs.declared.Mode.{Mode}
 use Rattle.ocr_acquire.specs.Mode.{mode_in}
 use Rattle.ocr_code.specs.declared.checked.Checked.{Checked}
@@ -39,7 +39,6 @@ use Rattle.ocr_facts.specs.Clerks.{AreAtHand, OcrView, of_terms}
 use Rattle.ocr_facts.specs.Ocr.{ends, meaning, starts, touches, wakes}
 use Rattle.ocr_facts.proofs.Owed.{hand_counted}
 use Rattle.ocr_facts.proofs.Places.{named_place, within_is}
-use Rattle.ocr_facts.proofs.Slots.{number_same}
 use Rattle.ocr_clerks.specs.Entering.{CanMake, Hand, OcrKnown}
 use Rattle.ocr_clerks.specs.Work.{AtWork, EntersKept, HasAllAtHand, OcrTable, RunsOnly, in_hand}
 use Rattle.ocr_clerks.proofs.Entries.{turns_keys}

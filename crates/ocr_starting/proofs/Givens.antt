@@ -1,6 +1,7 @@
 -- What the body of an EDT is given is what the Start told.
 use Rattle.std.proofs.Common.{◌≡◌, ℕ, ◌+◌, ◌<◌, ◌≤◌, ◌==◌, Bool, true, false, List, [], ◌∷◌, length, Option, Some, refl, ap, sym, ◌∙◌, subst, arith}
 use Rattle.std.proofs.lemmas.Grind.{common_steps}
+use Rattle.ocr_base.proofs.Booleans.{same as number_same}
 use Rattle.ocr_acquire.specs.declared.Mode.{Mode}
 use Rattle.ocr_acquire.specs.Mode.{mode_in}
 use Rattle.ocr_code.specs.Checked.{checked_tree}
@@ -21,7 +22,6 @@ use Rattle.ocr_standing.specs.Kept.{filled, plan_from}
 use Rattle.ocr_rule.specs.Sums.{find}
 use Rattle.ocr_facts.specs.Clerks.{OcrView}
 use Rattle.ocr_facts.specs.Facts.{body_by, holds_by, stale_in}
-use Rattle.ocr_facts.proofs.Slots.{number_same}
 use Rattle.ocr_clerks.specs.Entering.{OcrKnown}
 use Rattle.ocr_clerks.specs.Work.{AtWork, CanRun, OcrTable, ready_with}
 use Rattle.ocr_running.specs.Running.{IsBegun, Runs, first_in, holds_at}

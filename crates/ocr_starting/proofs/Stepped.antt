@@ -1,5 +1,6 @@
 -- A clerk that changed the core at hand alone.
 use Rattle.std.proofs.Common.{◌≡◌, ℕ, ◌+◌, List, [], ◌∷◌, length, Option, Some, None, refl, ap, sym, ◌∙◌, subst}
+use Rattle.ocr_base.proofs.Booleans.{same as number_same}
 use Rattle.ocr_code.specs.declared.checked.Checked.{Checked}
 use Rattle.ocr_meaning.specs.Body.{Body}
 use Rattle.ocr_parts.specs.declared.loans.Kept.{Kept}
@@ -14,7 +15,6 @@ use Rattle.ocr_rule.specs.Steps.{Sees}
 use Rattle.ocr_rule.specs.Sums.{find, replace}
 use Rattle.ocr_facts.specs.Clerks.{OcrTerms, OcrView}
 use Rattle.ocr_facts.specs.Ocr.{meaning}
-use Rattle.ocr_facts.proofs.Slots.{number_same}
 use Rattle.ocr_clerks.specs.Entering.{OcrKnown}
 use Rattle.ocr_clerks.specs.Work.{AtWork, OcrTable, RunsOnly, Stays}
 use Rattle.ocr_clerks.proofs.Going.{stays_self}

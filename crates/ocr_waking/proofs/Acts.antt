@@ -5,6 +5,7 @@ use Rattle.std.proofs.lemmas.Bool.{eqb-true}
 use Rattle.std.proofs.lemmas.Grind.{common_steps}
 use mathlib.Core.Option.{some, some-ne-none}
 use lib.ListN.{get_elem?}
+use Rattle.ocr_base.proofs.Booleans.{same as number_same}
 use Rattle.ocr_acquire.specs.declared.Mode.{Mode}
 use Rattle.ocr_code.specs.Checked.{checked_tree}
 use Rattle.ocr_tree.specs.Runnable.{IsRunnable}
@@ -30,7 +31,6 @@ use Rattle.ocr_facts.specs.declared.fact.Fact.{Fact}
 use Rattle.ocr_facts.specs.declared.fact.Fact.TheVariants.{IsSet}
 use Rattle.ocr_rule.specs.Rule.{FactsOf, Fits}
 use Rattle.ocr_clerks.specs.Work.{KnowsPayloads, ready_with}
-use Rattle.ocr_clerks.proofs.Hands.{number_same}
 use Rattle.ocr_clerks.proofs.Seen.{face_is}
 
 -- THE SLOTS are set, whatever the history is, and this is the plan

@@ -1,6 +1,7 @@
 -- What a worker keeps once its EDT has acquired a block or passed it by.
 use Rattle.std.proofs.Common.{◌≡◌, ◌≢◌, ℕ, ◌+◌, ◌≤◌, false, ◌||◌, List, [], ◌∷◌, ◌++◌, take, Option, Some, None, refl, ap, sym, ◌∙◌, subst}
 use Rattle.std.specs.List.{All}
+use Rattle.ocr_base.proofs.Booleans.{same as number_same}
 use Rattle.ocr_edt.specs.declared.Edt.{Edt}
 use Rattle.ocr_edt.specs.declared.Edt.TheVariants as phase
 use Rattle.ocr_history.specs.declared.entry.Entry.TheVariants.{Acquire, StaleAcquire, Wait}
@@ -24,7 +25,6 @@ use Rattle.ocr_rule.proofs.Histories.{ran}
 use Rattle.ocr_clerks.specs.Entering.{Hand, OcrKnown}
 use Rattle.ocr_clerks.specs.Work.{EntersKept, HasTakenOn, KeepsFaces, ready_with}
 use Rattle.ocr_clerks.proofs.Entries.{turns_keys}
-use Rattle.ocr_clerks.proofs.Hands.{number_same}
 use Rattle.ocr_waking.specs.Waking.{Meets, entry_by, two_faces}
 use Rattle.ocr_waking.specs.declared.acting.Act.{Act}
 use Rattle.ocr_waking.specs.declared.acting.Act.TheVariants as act

@@ -3,6 +3,7 @@ use Rattle.std.proofs.Common.{◌≡◌, ℕ, ◌+◌, ◌≤◌, Bool, true, fa
 use Rattle.std.proofs.lemmas.Bool.{eqb-true}
 use lib.ListN.{get_elem?}
 use mathlib.Core.Option.{some}
+use Rattle.ocr_base.proofs.Booleans.{same as number_same}
 use Rattle.ocr_code.specs.Checked.{checked_tree}
 use Rattle.ocr_code.specs.declared.checked.Checked.{Checked}
 use Rattle.ocr_tree.specs.Runnable.{IsRunnable}
@@ -26,7 +27,7 @@ use Rattle.ocr_rule.specs.Sums.{HasAll, as_some, keys, one_at, weigh}
 use Rattle.ocr_clerks.specs.Entering.{CanMake, Hand, OcrKnown}
 use Rattle.ocr_clerks.specs.Work.{AtWork, HasAllAtHand, HasTakenOn, OcrTable, in_hand, ready_with}
 use Rattle.ocr_clerks.proofs.Counters.{CountNothing, none_counted}
-use Rattle.ocr_clerks.proofs.Hands.{in_hand_some, number_same, some_keys}
+use Rattle.ocr_clerks.proofs.Hands.{in_hand_some, some_keys}
 use Rattle.ocr_waking.specs.Waking.{IsAble, IsLet, Meets, entry_by, two_faces}
 use Rattle.ocr_waking.specs.declared.acting.Act.{Act}
 use Rattle.ocr_waking.specs.declared.acting.Act.TheVariants as act

@@ -1,5 +1,6 @@
 -- A core that was made ready at hand, with the face of its EDT and a block.
 use Rattle.std.proofs.Common.{◌≡◌, ◌≢◌, ℕ, ◌+◌, Bool, true, false, List, [], ◌∷◌, Option, Some, None, refl, ap, sym, ◌∙◌, subst}
+use Rattle.ocr_base.proofs.Booleans.{same as number_same}
 use Rattle.ocr_datablock.specs.Block as block
 use Rattle.ocr_slots.specs.declared.Slot.{Slot}
 use Rattle.ocr_parts.specs.declared.part.Core.{Core}
@@ -12,7 +13,6 @@ use Rattle.ocr_facts.specs.Clerks.{OcrTerms, OcrView}
 use Rattle.ocr_rule.specs.Sums.{as_some, keys, replace}
 use Rattle.ocr_clerks.specs.Entering.{Hand, OcrKnown}
 use Rattle.ocr_clerks.specs.Work.{KnowsPayloads, ready_with}
-use Rattle.ocr_clerks.proofs.Hands.{number_same}
 use Rattle.ocr_waking.specs.Meeting.{CarriesOut, pair_of}
 use Rattle.ocr_readying.specs.Readying.{PutAs}
 use Rattle.ocr_waking.specs.Waking.{IsAble, Meets, two_faces}

@@ -2,6 +2,7 @@
 use Rattle.std.proofs.Common.{◌≡◌, ◌≢◌, ℕ, ◌+◌, ◌≤◌, ◌==◌, true, false, not, nat_lt, List, [], ◌∷◌, ◌++◌, length, reverse, take, Option, Some, None, is_some, refl, ap, sym, ◌∙◌, subst}
 use Rattle.std.proofs.lemmas.List.Elements.{All-cons, All-nil}
 use lib.ListN.{get_elem?}
+use Rattle.ocr_base.proofs.Booleans.{same as number_same}
 use Rattle.ocr_acquire.specs.declared.Mode.{Mode}
 use Rattle.ocr_code.specs.declared.checked.Checked.{Checked}
 use Rattle.ocr_edt.specs.declared.Edt.{Edt}
@@ -31,7 +32,7 @@ use Rattle.ocr_rule.specs.Steps.{Sees}
 use Rattle.ocr_rule.specs.Sums.{as_some, entries, find, is_among, replace}
 use Rattle.ocr_clerks.specs.Entering.{OcrKnown}
 use Rattle.ocr_clerks.specs.Work.{AtWork, CanRun, KeepsFaces, KnowsPayloads, OcrTable, Took, ready_with}
-use Rattle.ocr_clerks.proofs.Hands.{apart_is, number_same}
+use Rattle.ocr_clerks.proofs.Hands.{apart_is}
 use Rattle.ocr_clerks.proofs.Seen.{core_apart, core_is}
 use Rattle.ocr_parking.proofs.Parked.{has_claim}
 use Rattle.ocr_waking.specs.Meeting.{HoldsCore, next_by}

@@ -6,6 +6,7 @@ use Rattle.std.specs.Option.{option_or}
 use Rattle.std.proofs.lemmas.List.Elements.{All-cons, All-nil}
 use mathlib.Core.Option.{some, some-injective, some-ne-none}
 use lib.ListN.{get_elem?}
+use Rattle.ocr_base.proofs.Booleans.{same as number_same}
 use Rattle.ocr_acquire.specs.declared.Mode.{Mode}
 use Rattle.ocr_acquire.specs.Mode.{mode_in}
 use Rattle.ocr_code.specs.declared.checked.Checked.{Checked}
@@ -30,7 +31,7 @@ use Rattle.ocr_rule.specs.Sums.{as_some, entries, find, is_among, keys}
 use Rattle.ocr_rule.specs.Words.{SeesReady}
 use Rattle.ocr_clerks.specs.Entering.{OcrKnown}
 use Rattle.ocr_clerks.specs.Work.{AtWork, HasTakenOn, KeepsFaces, OcrTable, Stays, Took}
-use Rattle.ocr_clerks.proofs.Hands.{number_same, took_more}
+use Rattle.ocr_clerks.proofs.Hands.{took_more}
 use Rattle.ocr_clerks.proofs.Seen.{core_apart, within_bounds}
 use Rattle.ocr_parking.proofs.Parked.{has_claim}
 use Rattle.ocr_parking.proofs.Unstarted.{unstarted_log}

@@ -2,6 +2,7 @@
 use Rattle.std.proofs.Common.{◌≡◌, ◌≢◌, ℕ, ◌+◌, ◌≤◌, Bool, true, false, nat_lt, if◌then◌else◌, List, [], ◌∷◌, reverse, Option, Some, None, is_some, refl, ap, sym, ◌∙◌, subst, arith}
 use mathlib.Core.Option.{some}
 use lib.ListN.{get_elem?}
+use Rattle.ocr_base.proofs.Booleans.{same as number_same}
 use Rattle.ocr_acquire.specs.declared.Mode.{Mode}
 use Rattle.ocr_acquire.specs.Mode.{mode_in}
 use Rattle.ocr_history.specs.declared.entry.Entry.{Entry}
@@ -29,7 +30,6 @@ use Rattle.ocr_facts.proofs.Runs.{run_is}
 use Rattle.ocr_facts.proofs.Slots.{started_is}
 use Rattle.ocr_facts.proofs.Waits.{waits_is}
 use Rattle.ocr_clerks.specs.Entering.{OcrKnown}
-use Rattle.ocr_clerks.proofs.Hands.{number_same}
 use Rattle.ocr_clerks.proofs.Seen.{core_is, core_place, face_is}
 use Rattle.ocr_waking.specs.Meeting.{KnowsThree, pair_of}
 use Rattle.ocr_waking.specs.Waking.{Learns}

@@ -1,6 +1,7 @@
 -- What a block lets an EDT do is told by who holds it and by what it can be granted in.
 use Rattle.std.proofs.Common.{◌≡◌, inl, inr, ◌≢◌, ℕ, ◌==◌, if◌then◌else◌, List, Bool, true, false, Option, Some, None, is_some, refl, ap, sym, ◌∙◌, subst}
 use Rattle.std.proofs.lemmas.Bool.{eqb-true}
+use Rattle.ocr_base.proofs.Booleans.{same as number_same}
 use Rattle.ocr_acquire.specs.declared.Mode.{Mode}
 use Rattle.ocr_acquire.specs.Mode.{is_null, mode_in}
 use Rattle.ocr_datablock.specs.Block as block
@@ -11,7 +12,6 @@ use Rattle.ocr_parts.specs.Kinds.{IsBlock}
 use Rattle.ocr_parts.specs.LegalOn.{IsRefused, IsTaken}
 use Rattle.ocr_slots.specs.declared.Slot.{Slot}
 use Rattle.ocr_clerks.specs.Work.{ready_with}
-use Rattle.ocr_clerks.proofs.Hands.{number_same}
 use Rattle.ocr_waking.specs.Meeting.{LetsSome, StandsAtNext, mode_at, next_by}
 use Rattle.ocr_waking.specs.Waking.{IsAble, IsLet, LetsAny}
 use Rattle.ocr_waking.specs.declared.acting.Act.{Act}

@@ -6,6 +6,7 @@ use Rattle.std.proofs.lemmas.List.{append-nil}
 use Rattle.std.proofs.lemmas.List.Elements.{All-cons, All-nil}
 use mathlib.Core.Option.{some}
 use lib.ListN.{get_elem?}
+use Rattle.ocr_base.proofs.Booleans.{same as number_same}
 use Rattle.ocr_acquire.specs.declared.Mode.{Mode}
 use Rattle.ocr_acquire.specs.Mode.{mode_in}
 use Rattle.ocr_datablock.specs.Block as block
@@ -32,7 +33,7 @@ use Rattle.ocr_code.specs.declared.checked.Checked.{Checked}
 use Rattle.ocr_rule.specs.Words.{SeesReady}
 use Rattle.ocr_clerks.specs.Work.{AtWork, EntersKept, HasTakenOn, KeepsFaces, OcrTable, RunsNone, RunsOnly, Stays, ready_with}
 use Rattle.ocr_clerks.proofs.Going.{stays_still}
-use Rattle.ocr_clerks.proofs.Hands.{apart_is, number_same}
+use Rattle.ocr_clerks.proofs.Hands.{apart_is}
 use Rattle.ocr_clerks.proofs.Seen.{core_apart, within_bounds}
 use Rattle.ocr_parking.specs.Parking.{IsLetWait}
 use Rattle.ocr_waking.specs.Meeting.{CanAct, CarriesOut, IsUnbegun, WantsOther, pair_of}

@@ -1,5 +1,6 @@
 -- A worker takes the face of its EDT and a block.
 use Rattle.std.proofs.Common.{◌≡◌, ◌≢◌, ℕ, ◌+◌, ◌==◌, Bool, true, false, List, [], ◌∷◌, ◌++◌, length, Option, Some, None, refl, ap, sym, ◌∙◌, subst}
+use Rattle.ocr_base.proofs.Booleans.{same as number_same}
 use Rattle.ocr_facts.specs.Clerks.{OcrTerms, OcrView}
 use Rattle.ocr_facts.specs.Ocr.{ends, meaning, starts}
 use Rattle.ocr_acquire.specs.declared.Mode.{Mode}
@@ -24,7 +25,7 @@ use Rattle.ocr_parts.specs.Taken.{is_within}
 use Rattle.std.specs.Option.{IfNone, IfSome}
 use mathlib.Core.Option.{some}
 use lib.ListN.{get_elem?}
-use Rattle.ocr_clerks.proofs.Hands.{apart_is, number_same}
+use Rattle.ocr_clerks.proofs.Hands.{apart_is}
 use Rattle.ocr_clerks.proofs.Seen.{core_apart}
 use Rattle.ocr_waking.specs.Waking.{KeepsFace, Learns}
 use Rattle.ocr_readying.proofs.Putting.{core_same, edt_same, first_same, item_same}

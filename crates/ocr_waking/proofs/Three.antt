@@ -2,6 +2,7 @@
 use Rattle.std.proofs.Common.{◌≡◌, ◌≢◌, ℕ, ◌+◌, Bool, true, false, ◌==◌, nat_lt, if◌then◌else◌, List, [], ◌∷◌, refl, sym, subst, arith}
 use Rattle.std.proofs.lemmas.Grind.{common_steps}
 use Rattle.std.proofs.lemmas.Bool.{eqb-true}
+use Rattle.ocr_base.proofs.Booleans.{same as number_same}
 use Rattle.ocr_acquire.specs.declared.Mode.{Mode}
 use Rattle.ocr_datablock.specs.Block as block
 use Rattle.ocr_slots.specs.declared.Slot.{Slot}
@@ -14,7 +15,7 @@ use Rattle.ocr_parts.specs.Footprint.{and_core, and_face}
 use Rattle.ocr_parts.specs.Kinds.{on_core}
 use Rattle.ocr_parts.specs.Taken.{as_face, core_in, face_in, has, is_within, look, parts_in}
 use Rattle.ocr_rule.specs.Sums.{one_at, sum_of, weigh}
-use Rattle.ocr_clerks.proofs.Hands.{apart_is, number_same}
+use Rattle.ocr_clerks.proofs.Hands.{apart_is}
 use Rattle.ocr_clerks.proofs.Seen.{core_apart}
 use Rattle.ocr_waking.specs.Waking.{two_faces}
 
