@@ -1,7 +1,8 @@
 #!/usr/bin/env bash
 # How many times faster 4 workers are than one where EDTs do much and share nothing: 200 EDTs of about 900,000 units of fuel
 # each, by the clock, the best of three runs. Fails where they are less than 3.4 times as fast; so it tells something only on
-# an idle machine of at least 4 cores.
+# an idle machine of at least 4 cores. Four runs at once by one worker each, of a quarter of the EDTs, share nothing: what
+# they take tells how far the machine itself goes.
 #
 # Build the program first: cd crates/ocr && rt run -- run < stdin, which leaves it as crates/ocr/out/ocr.
 # Then, in any folder: bench/coarse.sh [PROGRAM]
@@ -15,22 +16,43 @@ program=${1:-$here/../crates/ocr/out/ocr}
 work=$(mktemp -d)
 trap 'rm -rf "$work"' EXIT
 
-# A turn is 8 units.
-cat >"$work/text" <<END
+# text EDTS: a turn is 8 units
+text() {
+    cat <<END
 fn counts { let i = 0; while i < 112499 { i = i + 1; } }
 fn mainEdt {
   let t = ocrEdtTemplateCreate(counts, 0, 0);
   let k = 0;
-  while k < 200 { ocrEdtCreate(t, 0, [], 0, [], 0); k = k + 1; }
+  while k < $1 { ocrEdtCreate(t, 0, [], 0, [], 0); k = k + 1; }
 }
 END
+}
+text 200 >"$work/whole"
+text 50 >"$work/quarter"
 
-# the time of the fastest of three runs by so many workers, in nanoseconds
+# run WORKERS
+run() {
+    "$program" run --workers "$1" <"$work/whole"
+}
+
+# four runs at once, each of a quarter, by one worker
+apart() {
+    local pids=() pid
+    for _ in 1 2 3 4; do
+        "$program" run --workers 1 <"$work/quarter" &
+        pids+=($!)
+    done
+    for pid in "${pids[@]}"; do
+        wait "$pid"
+    done
+}
+
+# best COMMAND..: the time of the fastest of three, in nanoseconds
 best() {
     local start taken best=0
     for _ in 1 2 3; do
         start=$(date +%s%N)
-        "$program" run --workers "$1" <"$work/text" || exit # ends the script where the run does not end well
+        "$@" || exit # ends the script where a run does not end well
         taken=$(($(date +%s%N) - start))
         if ((best == 0 || taken < best)); then
             best=$taken
@@ -39,12 +61,16 @@ best() {
     echo "$best"
 }
 
-one=$(best 1)
-four=$(best 4)
+seconds() {
+    awk -v n="$1" 'BEGIN { printf "%.3f", n / 1e9 }'
+}
+
+one=$(best run 1)
+four=$(best run 4)
+apart=$(best apart)
 times=$(awk -v a="$one" -v b="$four" 'BEGIN { printf "%.2f", a / b }')
 printf '%7s %8s\n' workers seconds
-printf '%7d %8s\n' 1 "$(awk -v n="$one" 'BEGIN { printf "%.3f", n / 1e9 }')" \
-    4 "$(awk -v n="$four" 'BEGIN { printf "%.3f", n / 1e9 }')"
+printf '%7s %8s\n' 1 "$(seconds "$one")" 4 "$(seconds "$four")" '4 x 1' "$(seconds "$apart")"
 echo "4 workers are $times times as fast"
 if awk -v t="$times" -v least="$least" 'BEGIN { exit !(t < least) }'; then
     echo "  less than $least times, on $(nproc) cores"
