@@ -5,7 +5,7 @@ use Rattle.ocr_tests_turns.proofs.threads.run.Goals as goal
 pub returns : goal.returns
 returns g c =
     let told = c.in_ok-closing.ensures in let entries = c.entries-entries in let terms = c.in_ok-turns.turns.1 in
-    subst (IsOneRun entries.result) (sym c.logs.ensures) (record {
+    subst (IsOneRun entries.result) (sym c.into_parts-logs.ensures) (record {
       setting = terms.setting.value;
       limit = terms.limit;
       history = told.0.history;
