@@ -30,6 +30,3 @@ impl fmt::Display for Failed {
 }
 
 impl Error for Failed {}
-
-#[cfg(test)]
-mod tests;

@@ -11,10 +11,11 @@ use Rattle.ocr_history.specs.Output.{ending_of}
 use Rattle.ocr_words.specs.Wanted.{IsAsked, given_in, value}
 use Rattle.ocr_words.specs.declared.wanted.Wanted.{Wanted}
 use Rattle.ocr_words.specs.declared.wanted.Wanted.TheVariants as want
-use Rattle.ocr_run.specs.declared.text.TextFault.{TextFault}
-use Rattle.ocr_run.specs.Lines.{ending_line}
+use Rattle.ocr_execute.specs.declared.text.TextFault.{TextFault}
+use Rattle.ocr_execute.specs.Lines.{ending_line}
 use Rattle.ocr_run.specs.Headline as headline
-use Rattle.ocr_run.specs.Wants.{IsMet, shut_down, stuck, aborted, faulted, out_of_memory, limited, IsServable, IsAnsweredAs, IsReadAs}
+use Rattle.ocr_execute.specs.Ending.{IsMet, shut_down, stuck, aborted, faulted, out_of_memory, limited}
+use Rattle.ocr_run.specs.Wants.{IsServable, IsAnsweredAs, IsReadAs}
 use Rattle.ocr_run.specs.Headline.{IsHeadline, IsCheck, IsTold, IsStatus, IsStatusOf, IsCaused, IsWritten, whole, front, nothing, CameTo, is_silent, ran, refused, no_program, read_failed, write_failed, IsAllOf, IsLine, of_run, of_check, words_refused, text_too_big, text_refused, read_fault, write_fault, want_of_memory}
 
 -- a line that was written whole, or a front of it

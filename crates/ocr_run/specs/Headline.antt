@@ -6,43 +6,15 @@ use Rattle.ocr_io.specs.Source.{Took}
 use Rattle.ocr_tree.specs.Tree.{FunctionTree}
 use Rattle.ocr_history.specs.declared.entry.Entry.{Entry}
 use Rattle.ocr_history.specs.History.{history_of}
-use Rattle.ocr_parts.specs.Legal.{IsRun}
-use Rattle.ocr_parts.specs.Runs.{StartsSet, LeavesOpen, IsQuiet}
-use Rattle.ocr_history.specs.Edts.{StartsOnce}
 use Rattle.ocr_history.specs.Output.{ending_of}
 use Rattle.ocr_words.specs.Wanted.{IsAsked}
 use Rattle.ocr_words.specs.declared.wanted.Options.{Options}
 use Rattle.ocr_words.specs.declared.wanted.Wanted.{Wanted}
 use Rattle.ocr_words.specs.declared.wanted.Wanted.TheVariants as want
-use Rattle.ocr_run.specs.declared.text.TextFault.{TextFault}
-use Rattle.ocr_crew.specs.Ended.{setting_of, IsFinished}
-use Rattle.ocr_crew.specs.Limits.{IsLimited}
-use Rattle.ocr_run.specs.Lines.{ending_line, fault_line}
-use Rattle.ocr_writing.specs.Output.{output_of}
-use Rattle.ocr_run.specs.ProgramText.{IsProgramText, IsCanonicalOf, IsNoProgram, most_bytes}
-
--- this is the journal of a run of the program by workers, with these options and arguments, that
--- came to its end and kept the limits, this text is the run's output, and this is its status
-pub record IsRunOf (program : List FunctionTree) (options : Options) (args : List ℕ)
-    (journal : List Entry) (text : List ℕ) (status : ℕ) : Type 0 where
-  pub run : IsRun (setting_of program args options.objects) (history_of journal)
-  pub finished : IsFinished (setting_of program args options.objects) (history_of journal)
-  pub once : StartsOnce (history_of journal)
-  pub set : StartsSet (setting_of program args options.objects) (history_of journal)
-  pub left : IsQuiet (setting_of program args options.objects) (history_of journal)
-      → LeavesOpen (setting_of program args options.objects) (history_of journal)
-  pub limited : IsLimited (setting_of program args options.objects) options.workers options.events
-      (history_of journal)
-  pub output : text ≡ output_of (setting_of program args options.objects) (history_of journal)
-      options.reports
-  pub ending : status ≡ ending_of (history_of journal)
-
--- these bytes are a program, and this is a run of it
-pub record IsExecuted (options : Options) (args bytes : List ℕ) (journal : List Entry)
-    (text : List ℕ) (status : ℕ) : Type 0 where
-  pub program : List FunctionTree
-  pub is_program : IsProgramText bytes program
-  pub of : IsRunOf program options args journal text status
+use Rattle.ocr_execute.specs.declared.text.TextFault.{TextFault}
+use Rattle.ocr_execute.specs.Executed.{IsExecuted}
+use Rattle.ocr_execute.specs.Lines.{ending_line, fault_line}
+use Rattle.ocr_execute.specs.ProgramText.{IsProgramText, IsCanonicalOf, IsNoProgram, most_bytes}
 
 -- the output of a run with this ending was written: whole, or a front of it where a write failed;
 -- nothing for want of memory
@@ -122,8 +94,7 @@ IsComplete want.Check journal status = status ≡ 0
 IsComplete (want.Load number options) journal status = CameTo journal status
 
 -- the statuses of runs come exactly from their ends: quiet or a shutdown, quiet with EDTs left, an
--- abort, a fault in a
--- body, a limit
+-- abort, a fault in a body, a limit
 pub record IsCaused (is_check : Type 0) (journal : Option (List Entry)) (status : ℕ) : Type 0 where
   pub ended : (is_check → ⊥) → IsStatusOf journal status 0
   pub stuck : IsStatusOf journal status 4

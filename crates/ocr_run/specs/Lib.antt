@@ -1,5 +1,2 @@
 pub mod Headline
-pub mod Lines
-pub mod ProgramText
 pub mod Wants
-pub mod Messages

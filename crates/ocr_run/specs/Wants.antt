@@ -1,16 +1,10 @@
 -- What is wanted, as the top call hands it on.
 use Rattle.std.specs.Prelude.{◌≤◌, ℕ, List, Option, length}
 use Rattle.ocr_history.specs.declared.entry.Entry.{Entry}
-use Rattle.ocr_words.specs.declared.wanted.Options.{Options}
 use Rattle.ocr_words.specs.declared.wanted.Wanted.{Wanted}
 use Rattle.ocr_words.specs.declared.wanted.Wanted.TheVariants as want
+use Rattle.ocr_execute.specs.Executed.{AreWithin}
 use Rattle.ocr_run.specs.Headline.{IsAnswered, IsRead}
-
--- the options of a run are within their ranges
-pub record AreWithin (options : Options) : Type 0 where
-  pub workers : (1 ≤ options.workers) × (options.workers ≤ 64)
-  pub objects : (2 ≤ options.objects) × (options.objects ≤ 65536)
-  pub events : (1 ≤ options.events) × (options.events ≤ 16000000)
 
 -- a run within its bounds, or a check
 abbrev pub IsServable : Wanted → Type 0
@@ -33,12 +27,3 @@ IsReadAs (want.Run options args) left_old left_new old new fault status journal 
     IsRead options args left_old left_new old new fault status journal
 IsReadAs want.Check left_old left_new old new fault status journal = ⊥
 IsReadAs (want.Load number options) left_old left_new old new fault status journal = ⊥
-
--- the statuses of runs that came to their end
-pub data IsMet : ℕ → Type 0 where
-  shut_down : IsMet 0
-  stuck : IsMet 4
-  aborted : IsMet 5
-  faulted : IsMet 6
-  out_of_memory : IsMet 9
-  limited : IsMet 10

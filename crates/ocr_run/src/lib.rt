@@ -1,14 +1,10 @@
 //! Runs a task program by workers: from the words and the bytes in to the bytes out.
 #![tactic(auto)]
 
-mod ending;
-mod execute;
-mod lines;
-mod text;
 mod top;
 
 pub use ocr_clerks::{Gate, NoGate};
 pub use ocr_crew::Merged;
+pub use ocr_execute::{TextFault, text_laws};
 pub use ocr_words::{Options, Reports, Wanted, WordsStop, command};
-pub use text::{TextFault, text_laws};
 pub use top::{Ended, ocr_main};

@@ -1,5 +1,5 @@
-//! Tests of task texts, which cross crates: where a text stops, what its
-//! canonical text is, and which names the editors know.
+//! Tests of task texts: how one is cut into tokens, where it stops, what its canonical text is, and
+//! which names the editors know.
 #![tactic(auto)]
 
 #[cfg(test)]
@@ -14,3 +14,5 @@ mod reading;
 mod stencil;
 #[cfg(test)]
 mod stops;
+#[cfg(test)]
+mod tokens;

@@ -9,6 +9,3 @@ mod wanted;
 
 pub use command_line::command;
 pub use wanted::{Options, Reports, Wanted, WordsStop};
-
-#[cfg(test)]
-mod tests;

@@ -1,0 +1,48 @@
+-- What a run came to.
+use Rattle.std.proofs.Common.{◌≡◌, ◌∙◌, sym, subst, refl, ℕ, List, Result, Ok, Err}
+use Rattle.std.specs.Prelude.{IfOk}
+use Rattle.ocr_tree.specs.Tree.{FunctionTree}
+use Rattle.ocr_history.specs.declared.entry.Entry.{Entry}
+use Rattle.ocr_history.specs.History.{Setting, history_of}
+use Rattle.ocr_parts.proofs.Starts.{start_law, set_law}
+use Rattle.ocr_quiet.proofs.Sleeping.{quiet_law}
+use Rattle.ocr_crew.specs.Ended.{IsWhole, setting_of}
+use Rattle.ocr_words.specs.declared.wanted.Options.{Options}
+use Rattle.ocr_words.specs.declared.wanted.Reports.{Reports}
+use Rattle.ocr_execute.specs.declared.execute.Executed.{Executed}
+use Rattle.ocr_execute.specs.Ending.{end_of, end_status}
+use Rattle.ocr_execute.specs.Executed.{IsRunOf}
+use Rattle.ocr_writing.specs.Output.{output_of}
+use Rattle.ocr_execute.proofs.Ends.{status_of_end}
+
+-- the text tells the run whatever its setting is
+abbrev IsTextOf : List FunctionTree → List ℕ → Reports → List Entry → List ℕ → Type 0
+IsTextOf program args reports journal text =
+    (s : Setting) → s.program ≡ program → s.args ≡ args → text ≡ output_of s (history_of journal) reports
+
+run_here : (program : List FunctionTree) (options : Options) (args : List ℕ) (journal : List Entry) (text : List ℕ) (status : ℕ)
+    → IsWhole (setting_of program args options.objects) options.workers options.events journal
+    → IsTextOf program args options.reports journal text → status ≡ end_status (end_of (history_of journal)) → IsRunOf program options args journal text status
+run_here program options args journal text status is told ends =
+    let s = setting_of program args options.objects in
+    let past = history_of journal in
+    record {
+      run = is.run;
+      finished = is.finished;
+      once = start_law s past is.run;
+      set = set_law s past is.run;
+      left = λ quiet. quiet_law s past quiet is.run;
+      limited = is.limited;
+      output = told s refl refl;
+      ending = ends ∙ sym (status_of_end past);
+    }
+
+pub run_of : (E : Type 0) (program : List FunctionTree) (options : Options) (args : List ℕ) (journal : List Entry) (result : Result Executed E)
+    → IsWhole (setting_of program args options.objects) options.workers options.events journal
+    → IfOk result (λ e. e.journal ≡ journal) → IfOk result (λ e. IsTextOf program args options.reports journal e.text.items)
+    → IfOk result (λ e. e.status ≡ end_status (end_of (history_of journal)))
+    → IfOk result (λ e. IsRunOf program options args e.journal e.text.items e.status)
+run_of E program options args journal (Ok e) is same told ends =
+    subst (λ (j : List Entry). IsRunOf program options args j e.text.items e.status) (sym same)
+    (run_here program options args journal e.text.items e.status is told ends)
+run_of E program options args journal (Err why) is same told ends = tt

@@ -1,0 +1,5 @@
+pub mod Ending
+pub mod Executed
+pub mod Lines
+pub mod Messages
+pub mod ProgramText

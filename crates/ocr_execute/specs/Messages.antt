@@ -1,0 +1,10 @@
+-- What `{}` prints of a text that is no program.
+use Rattle.std.specs.Prelude.{ℕ, List, ◌++◌, codes, decimal}
+use Rattle.ocr_check.specs.Messages.{fault_text as breach_text}
+use Rattle.ocr_execute.specs.declared.text.TextFault.{TextFault}
+use Rattle.ocr_execute.specs.declared.text.TextFault.TheVariants.{Lexical, Syntax, Breach}
+
+abbrev pub fault_text : TextFault → List ℕ
+fault_text (Lexical place) = codes "no token begins at byte " ++ decimal place
+fault_text (Syntax place) = codes "no program goes on at byte " ++ decimal place
+fault_text (Breach fault) = breach_text fault

@@ -1,0 +1,112 @@
+// From the bytes of a program to the output of its run.
+ghost use Rattle.std.specs.Prelude.{◌≡◌, ◌≤◌, IfOk, IfErr, length};
+ghost use Rattle.ocr_code.specs.Checked.{checked_tree};
+ghost use Rattle.ocr_history.specs.History as history;
+ghost use Rattle.ocr_history.specs.History.{history_of};
+ghost use Rattle.ocr_execute.specs.Ending.{IsMet, end_of, end_status};
+ghost use Rattle.ocr_execute.specs.Executed.{AreWithin, IsExecuted, IsRunOf};
+ghost use Rattle.ocr_execute.specs.Lines.{ending_line};
+ghost use Rattle.ocr_execute.specs.ProgramText.{IsTextStop, most_bytes};
+ghost use Rattle.ocr_writing.specs.Output.{output_of};
+
+use crate::ending::ending_of;
+use crate::lines::line_of_ending;
+use crate::text::{TextStop, program_of};
+use ocr_base::NoMemory;
+use ocr_clerks::Gate;
+use ocr_crew::{Limits, Merged, run};
+use ocr_facts::Setting;
+use ocr_words::{Options, Reports};
+use ocr_writing::output_of;
+use std::alloc::Global;
+use std::sync::Wait;
+use std::thread::Threads;
+
+/// What a run came to: its journal, what it prints, its status, and the line that goes with it.
+#[derive(Drop)]
+pub struct Executed {
+    pub journal: Merged,
+    pub text: Vec<u8>,
+    pub status: u8,
+    pub line: Vec<u8>,
+}
+
+/// Runs the program that these bytes are, with these options and arguments; or tells the first
+/// thing that is wrong with the bytes.
+pub fn execute<R: Threads + Wait + Sync, G: Gate + Sync>(
+    rt: &R,
+    alloc: Global,
+    options: Options,
+    args: Vec<u64>,
+    bytes: &[u8],
+    gate: &G,
+) -> Result<Executed, TextStop>
+    requires size { length bytes.now ≤ most_bytes }
+    requires args { length args.items ≤ 32 }
+    requires options { AreWithin options }
+    ensures ran { IfOk result
+        (λ e. IsExecuted options args.items bytes.now e.journal e.text.items e.status) }
+    ensures line { IfOk result (λ e. e.line.items ≡ ending_line (history_of e.journal)) }
+    ensures met { IfOk result (λ e. IsMet e.status) }
+    ensures stop { IfErr result (IsTextStop bytes.now) }
+{
+    let program = program_of(alloc, bytes)?;
+    let setting = Setting { program, args };
+    match run_checked(rt, alloc, options, &setting, gate) {
+        Ok(executed) => Ok(executed),
+        Err(_) => Err(TextStop::NoMemory),
+    }
+}
+
+// Runs a program that is ready to be run.
+fn run_checked<R: Threads + Wait + Sync, G: Gate + Sync>(
+    rt: &R,
+    alloc: Global,
+    options: Options,
+    setting: &Setting,
+    gate: &G,
+) -> Result<Executed, NoMemory>
+    requires args { length setting.now.args.items ≤ 32 }
+    requires options { AreWithin options }
+    ensures ran { IfOk result (λ e. IsRunOf (checked_tree setting.now.program) options
+        setting.now.args.items e.journal e.text.items e.status) }
+    ensures line { IfOk result (λ e. e.line.items ≡ ending_line (history_of e.journal)) }
+    ensures met { IfOk result (λ e. IsMet e.status) }
+{
+    let limits = Limits {
+        workers: options.workers,
+        objects: options.objects,
+        share: options.events,
+    };
+    setting.program.runnable_law();
+    let journal = run(rt, alloc, setting, limits, gate)?;
+    told(alloc, options.reports, setting, journal)
+}
+
+// What is told of a run with this journal.
+fn told(
+    alloc: Global,
+    reports: Reports,
+    setting: &Setting,
+    journal: Merged,
+) -> Result<Executed, NoMemory>
+    ensures journal { IfOk result (λ e. e.journal ≡ journal) }
+    ensures text { IfOk result (λ e. (s : history.Setting)
+        → s.program ≡ checked_tree setting.now.program → s.args ≡ setting.now.args.items
+        → e.text.items ≡ output_of s (history_of journal) reports) }
+    ensures status { IfOk result (λ e. e.status ≡ end_status (end_of (history_of journal))) }
+    ensures line { IfOk result (λ e. e.line.items ≡ ending_line (history_of journal)) }
+    ensures met { IfOk result (λ e. IsMet e.status) }
+{
+    let entries = journal.journal();
+    let ending = ending_of(alloc, entries.entries())?;
+    let line = line_of_ending(alloc, &ending)?;
+    let program = setting.program.program();
+    let text = output_of(alloc, program, setting.args.as_slice(), entries, reports)?;
+    Ok(Executed {
+        journal,
+        text,
+        status: ending.status(),
+        line,
+    })
+}

@@ -1,0 +1,12 @@
+//! Runs the program that a text is: from its bytes to the journal, what is printed, the status and
+//! the line; or tells the first thing that is wrong with them.
+#![tactic(auto)]
+
+mod ending;
+mod execute;
+mod lines;
+mod text;
+
+pub use execute::{Executed, execute};
+pub use lines::line_of_fault;
+pub use text::{TextFault, TextStop, canonical_of, text_laws};

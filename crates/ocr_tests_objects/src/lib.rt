@@ -1,0 +1,26 @@
+//! Tests of the objects, each by its calls alone: modes and plans, slots, templates, EDTs, finish
+//! scopes, events of each kind, and data blocks with who holds one, who waits for it, and its loans.
+#![tactic(auto)]
+
+#[cfg(test)]
+mod acquire;
+#[cfg(test)]
+mod any_event;
+#[cfg(test)]
+mod blocks;
+#[cfg(test)]
+mod channel_event;
+#[cfg(test)]
+mod edt;
+#[cfg(test)]
+mod event;
+#[cfg(test)]
+mod finish;
+#[cfg(test)]
+mod latch;
+#[cfg(test)]
+mod sent;
+#[cfg(test)]
+mod slots;
+#[cfg(test)]
+mod template;
