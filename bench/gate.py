@@ -1,7 +1,8 @@
 #!/usr/bin/env python3
 """Runs the merge gate, `rt ci`, or its part for the crates named, and tells what it cost: processor minutes of each
 crate's proofs, edits and tests. What an earlier run has proved is kept and costs nothing: for a whole sum, begin with
-nothing kept.
+nothing kept. Behind it stand the processor seconds of `rt selftest`, the kit's own example, which is the same work
+everywhere: by it tables of two machines can be compared.
 
 A sampler reads /proc twice a second. The processor time of a process is what it had when it was last seen, so at most
 half a second of each is missed. A check that tries an edit is told from the others by the folder that it, or what it
@@ -66,6 +67,14 @@ def descendants(of):
             yield (pid, born[pid]), words, seconds[pid]
 
 
+def reference():
+    """The processor seconds that the kit's own example takes on this machine."""
+    before = os.times()
+    subprocess.run(["rt", "selftest"], stdout=subprocess.DEVNULL, stderr=subprocess.DEVNULL, check=True)
+    after = os.times()
+    return sum(after[2:4]) - sum(before[2:4])
+
+
 def main():
     log = sys.argv[1] if len(sys.argv) > 1 else "gate.log"
     seen = {}
@@ -93,6 +102,7 @@ def main():
     with open(log) as it:
         last = it.read().rstrip().splitlines()[-1:] or [""]
     print(f"\n{last[0]}; {(time.time() - start) / 60:.0f} minutes on {os.cpu_count()} cores")
+    print(f"rt selftest: {reference():.0f} processor seconds")
     passed = re.fullmatch(r"\d+ passed, 0 failed", last[0])
     return gate.returncode or (0 if passed else 1)
 

@@ -9,7 +9,7 @@ use Rattle.ocr_quiet.proofs.Sleeping.{quiet_law}
 use Rattle.ocr_crew.specs.Ended.{IsWhole, setting_of}
 use Rattle.ocr_words.specs.declared.wanted.Options.{Options}
 use Rattle.ocr_words.specs.declared.wanted.Reports.{Reports}
-use Rattle.ocr_execute.specs.declared.execute.Executed.{Executed}
+use Rattle.ocr_execute.specs.declared.executed.Executed.{Executed}
 use Rattle.ocr_execute.specs.Ending.{end_of, end_status}
 use Rattle.ocr_execute.specs.Executed.{IsRunOf}
 use Rattle.ocr_writing.specs.Output.{output_of}

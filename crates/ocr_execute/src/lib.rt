@@ -3,10 +3,10 @@
 #![tactic(auto)]
 
 mod ending;
-mod execute;
+mod executed;
 mod lines;
 mod text;
 
-pub use execute::{Executed, execute};
+pub use executed::{Executed, execute};
 pub use lines::line_of_fault;
 pub use text::{TextFault, TextStop, canonical_of, text_laws};

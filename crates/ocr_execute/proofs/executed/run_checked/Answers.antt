@@ -1,6 +1,6 @@
 use Rattle.ocr_code.specs.Checked.{checked_tree}
 use Rattle.ocr_execute.proofs.Runs.{run_of}
-use Rattle.ocr_execute.proofs.execute.run_checked.Goals as goal
+use Rattle.ocr_execute.proofs.executed.run_checked.Goals as goal
 
 pub returns-clause-ran : goal.returns-clause-ran
 returns-clause-ran g c =
