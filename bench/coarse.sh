@@ -1,8 +1,9 @@
 #!/usr/bin/env bash
 # How many times faster 4 workers are than one where EDTs do much and share nothing: 200 EDTs of about 900,000 units of fuel
-# each, by the clock, the best of three runs. Fails where they are less than 3.4 times as fast; so it tells something only on
-# an idle machine of at least 4 cores. Four runs at once by one worker each, of a quarter of the EDTs, share nothing: what
-# they take tells how far the machine itself goes.
+# each, by the clock, the middle one of 15 runs, which take turns: processors change their speed from run to run, and the
+# fastest run of one worker alone has one that four at once never have. Fails where they are less than 3.4 times as fast; so
+# it tells something only on an idle machine of at least 4 cores. Four runs at once by one worker each, of a quarter of the
+# EDTs, share nothing: what they take tells how far the machine itself goes.
 #
 # Build the program first: cd crates/ocr && rt run -- run < stdin, which leaves it as crates/ocr/out/ocr.
 # Then, in any folder: bench/coarse.sh [PROGRAM]
@@ -47,27 +48,31 @@ apart() {
     done
 }
 
-# best COMMAND..: the time of the fastest of three, in nanoseconds
-best() {
-    local start taken best=0
-    for _ in 1 2 3; do
-        start=$(date +%s%N)
-        "$@" || exit # ends the script where a run does not end well
-        taken=$(($(date +%s%N) - start))
-        if ((best == 0 || taken < best)); then
-            best=$taken
-        fi
-    done
-    echo "$best"
+# taken COMMAND..: what it takes, in nanoseconds
+taken() {
+    local start
+    start=$(date +%s%N)
+    "$@" || exit # ends the script where a run does not end well
+    echo "$(($(date +%s%N) - start))"
+}
+
+# middle FILE: the middle one of its 15 numbers
+middle() {
+    sort -n "$1" | sed -n 8p
 }
 
 seconds() {
     awk -v n="$1" 'BEGIN { printf "%.3f", n / 1e9 }'
 }
 
-one=$(best run 1)
-four=$(best run 4)
-apart=$(best apart)
+for _ in {1..15}; do
+    taken run 1 >>"$work/one"
+    taken run 4 >>"$work/four"
+    taken apart >>"$work/apart"
+done
+one=$(middle "$work/one")
+four=$(middle "$work/four")
+apart=$(middle "$work/apart")
 times=$(awk -v a="$one" -v b="$four" 'BEGIN { printf "%.2f", a / b }')
 printf '%7s %8s\n' workers seconds
 printf '%7s %8s\n' 1 "$(seconds "$one")" 4 "$(seconds "$four")" '4 x 1' "$(seconds "$apart")"
