@@ -1,5 +1,5 @@
 //! Tests of the objects, each by its calls alone: modes and plans, slots, templates, EDTs, finish
-//! scopes, events of each kind, and data blocks with who holds one, who waits for it, and its loans.
+//! scopes, events of each kind, and data blocks with who holds one, who waits for it, and loans.
 #![tactic(auto)]
 
 #[cfg(test)]

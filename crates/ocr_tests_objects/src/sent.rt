@@ -3,6 +3,7 @@ use ocr_base::Seq;
 use ocr_guid::Guid;
 use ocr_guid::target::{Satisfied, Target};
 
+/// Slot 0 of an EDT of this number, as a target.
 pub fn slot(object: u64) -> Target {
     Target {
         object: Guid(object),
@@ -11,6 +12,7 @@ pub fn slot(object: u64) -> Target {
     }
 }
 
+/// The targets that an event sends to where it fires.
 pub fn targets(answer: Satisfied) -> Option<Seq<Target>> {
     match answer {
         Satisfied::Fired(targets) => Some(targets),
