@@ -1,9 +1,9 @@
 #!/usr/bin/env bash
 # How many times faster 4 workers are than one where EDTs do much and share nothing: 200 EDTs of about 900,000 units of fuel
-# each, by the clock, the middle one of 15 runs, which take turns: processors change their speed from run to run, and the
-# fastest run of one worker alone has one that four at once never have. Fails where they are less than 3.4 times as fast; so
-# it tells something only on an idle machine of at least 4 cores. Four runs at once by one worker each, of a quarter of the
-# EDTs, share nothing: what they take tells how far the machine itself goes.
+# each, by the clock, the middle one of 15 runs, which take turns. Fails where they are less than 3.4 times as fast; so it
+# tells something only on an idle machine of at least 4 cores, where no other program takes one of them, not even a virtual
+# machine's host. What one worker takes while three more programs like it run, which share nothing, tells how fast a processor
+# is while all are at work: where that takes longer than one worker alone, no four workers can be 4 times as fast.
 #
 # Build the program first: cd crates/ocr && rt run -- run < stdin, which leaves it as crates/ocr/out/ocr.
 # Then, in any folder: bench/coarse.sh [PROGRAM]
@@ -17,43 +17,35 @@ program=${1:-$here/../crates/ocr/out/ocr}
 work=$(mktemp -d)
 trap 'rm -rf "$work"' EXIT
 
-# text EDTS: a turn is 8 units
-text() {
-    cat <<END
+# a turn is 8 units
+cat >"$work/edts" <<END
 fn counts { let i = 0; while i < 112499 { i = i + 1; } }
 fn mainEdt {
   let t = ocrEdtTemplateCreate(counts, 0, 0);
   let k = 0;
-  while k < $1 { ocrEdtCreate(t, 0, [], 0, [], 0); k = k + 1; }
+  while k < 200 { ocrEdtCreate(t, 0, [], 0, [], 0); k = k + 1; }
 }
 END
-}
-text 200 >"$work/whole"
-text 50 >"$work/quarter"
 
-# run WORKERS
-run() {
-    "$program" run --workers "$1" <"$work/whole"
-}
-
-# four runs at once, each of a quarter, by one worker
-apart() {
-    local pids=() pid
-    for _ in 1 2 3 4; do
-        "$program" run --workers 1 <"$work/quarter" &
-        pids+=($!)
-    done
-    for pid in "${pids[@]}"; do
-        wait "$pid"
-    done
-}
-
-# taken COMMAND..: what it takes, in nanoseconds
+# taken WORKERS: what a run takes, in nanoseconds
 taken() {
     local start
     start=$(date +%s%N)
-    "$@" || exit # ends the script where a run does not end well
+    "$program" run --workers "$1" <"$work/edts" || exit # ends the script where a run does not end well
     echo "$(($(date +%s%N) - start))"
+}
+
+# what a run of one worker takes beside three like it, in nanoseconds: the mean of the four
+beside() {
+    local one pids=()
+    for one in 1 2 3 4; do
+        taken 1 >"$work/beside.$one" &
+        pids+=($!)
+    done
+    for one in "${pids[@]}"; do
+        wait "$one"
+    done
+    awk '{ sum += $1 } END { printf "%d\n", sum / NR }' "$work"/beside.[1-4]
 }
 
 # middle FILE: the middle one of its 15 numbers
@@ -61,23 +53,31 @@ middle() {
     sort -n "$1" | sed -n 8p
 }
 
-seconds() {
-    awk -v n="$1" 'BEGIN { printf "%.3f", n / 1e9 }'
+# times ONE FOUR: how many times as fast
+times() {
+    awk -v a="$1" -v b="$2" 'BEGIN { printf "%.2f", a / b }'
+}
+
+# row NAME NANOSECONDS
+row() {
+    awk -v name="$1" -v n="$2" 'BEGIN { printf "%-24s %8.3f\n", name, n / 1e9 }'
 }
 
 for _ in {1..15}; do
-    taken run 1 >>"$work/one"
-    taken run 4 >>"$work/four"
-    taken apart >>"$work/apart"
+    taken 1 >>"$work/one"
+    taken 4 >>"$work/four"
+    beside >>"$work/beside"
 done
 one=$(middle "$work/one")
 four=$(middle "$work/four")
-apart=$(middle "$work/apart")
-times=$(awk -v a="$one" -v b="$four" 'BEGIN { printf "%.2f", a / b }')
-printf '%7s %8s\n' workers seconds
-printf '%7s %8s\n' 1 "$(seconds "$one")" 4 "$(seconds "$four")" '4 x 1' "$(seconds "$apart")"
-echo "4 workers are $times times as fast"
-if awk -v t="$times" -v least="$least" 'BEGIN { exit !(t < least) }'; then
+beside=$(middle "$work/beside")
+printf '%-24s %8s\n' workers seconds
+row '1, alone' "$one"
+row '1, beside three others' "$beside"
+row '4' "$four"
+alone=$(times "$one" "$four")
+echo "4 workers are $alone times as fast as one alone, $(times "$beside" "$four") times as fast as one beside three others"
+if awk -v t="$alone" -v least="$least" 'BEGIN { exit !(t < least) }'; then
     echo "  less than $least times, on $(nproc) cores"
     exit 1
 fi
