@@ -1,9 +1,10 @@
 #!/usr/bin/env bash
 # How many times faster 4 workers are than one where EDTs do much and share nothing: 200 EDTs of about 900,000 units of fuel
-# each, by the clock, the middle one of 15 runs, which take turns. Fails where they are less than 3.4 times as fast; so it
-# tells something only on an idle machine of at least 4 cores, where no other program takes one of them, not even a virtual
-# machine's host. What one worker takes while three more programs like it run, which share nothing, tells how fast a processor
-# is while all are at work: where that takes longer than one worker alone, no four workers can be 4 times as fast.
+# each, by the clock, the middle one of 15 runs, which take turns. Fails where they are less than 3.4 times as fast. It tells
+# something only on an idle machine of at least 4 cores; so between the runs bench/taken.py looks how much of its processors
+# something else takes, a virtual machine's host, say, and with more than 10 thousandths of them it fails too, whatever the
+# times. What one worker takes while three more programs like it run, which share nothing, tells how fast a processor is while
+# all are at work.
 #
 # Build the program first: cd crates/ocr && rt run -- run < stdin, which leaves it as crates/ocr/out/ocr.
 # Then, in any folder: bench/coarse.sh [PROGRAM]
@@ -11,6 +12,7 @@
 set -euo pipefail
 
 least=3.4
+most=10
 
 here=$(cd "$(dirname "$0")" && pwd)
 program=${1:-$here/../crates/ocr/out/ocr}
@@ -67,6 +69,7 @@ for _ in {1..15}; do
     taken 1 >>"$work/one"
     taken 4 >>"$work/four"
     beside >>"$work/beside"
+    "$here/taken.py" 0.3 >>"$work/taken"
 done
 one=$(middle "$work/one")
 four=$(middle "$work/four")
@@ -76,7 +79,13 @@ row '1, alone' "$one"
 row '1, beside three others' "$beside"
 row '4' "$four"
 alone=$(times "$one" "$four")
+gone=$(awk '{ sum += $1 } END { printf "%d", sum / NR + 0.5 }' "$work/taken")
 echo "4 workers are $alone times as fast as one alone, $(times "$beside" "$four") times as fast as one beside three others"
+echo "something else took $gone thousandths of the processors"
+if [ "$gone" -gt "$most" ]; then
+    echo "  more than $most: the machine is not idle, and the times say nothing"
+    exit 1
+fi
 if awk -v t="$alone" -v least="$least" 'BEGIN { exit !(t < least) }'; then
     echo "  less than $least times, on $(nproc) cores"
     exit 1
