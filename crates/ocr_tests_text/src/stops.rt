@@ -18,6 +18,17 @@ fn repeated(
     Ok(text)
 }
 
+fn stop_of_repeated(
+    alloc: Global,
+    front: &[u8],
+    piece: &[u8],
+    times: u32,
+    end: &[u8],
+) -> Result<Option<Stop>, AllocError> {
+    let text = repeated(alloc, front, piece, times, end)?;
+    Ok(stop_of(alloc, text.as_slice()))
+}
+
 // A function that lets this many names.
 fn lets(alloc: Global, count: u8, end: &[u8]) -> Result<Vec<u8>, AllocError> {
     let mut text = b"fn mainEdt { ".to_vec(alloc)?;
@@ -58,12 +69,12 @@ fn texts_stop_at_their_first_fault(rt: HostRuntime) {
 #[test]
 fn levels_and_tokens_are_counted(rt: HostRuntime) -> Result<(), AllocError> {
     let alloc = rt.alloc();
-    let deep = repeated(alloc, b"fn mainEdt {", b"if 1 {", 64, b"")?;
-    assert_eq!(rt; stop_of(alloc, deep.as_slice()), Some(Stop::Syntax(395)));
-    let long = repeated(alloc, b"fn mainEdt { print ", b"1+", 128, b"1; }")?;
-    assert_eq!(rt; stop_of(alloc, long.as_slice()), Some(Stop::Syntax(275)));
-    let round = repeated(alloc, b"fn mainEdt { print ", b"(", 200, b"1 }")?;
-    assert_eq!(rt; stop_of(alloc, round.as_slice()), Some(Stop::Syntax(221)));
+    let deep = stop_of_repeated(alloc, b"fn mainEdt {", b"if 1 {", 64, b"")?;
+    assert_eq!(rt; deep, Some(Stop::Syntax(395)));
+    let long = stop_of_repeated(alloc, b"fn mainEdt { print ", b"1+", 128, b"1; }")?;
+    assert_eq!(rt; long, Some(Stop::Syntax(275)));
+    let round = stop_of_repeated(alloc, b"fn mainEdt { print ", b"(", 200, b"1 }")?;
+    assert_eq!(rt; round, Some(Stop::Syntax(221)));
     Ok(())
 }
 
@@ -130,8 +141,8 @@ fn programs_with_all_calls_are_taken(rt: HostRuntime) {
     }
 }
 
-// A creation of an EDT with this many parameters and dependences.
-fn creation(alloc: Global, params: u32, deps: u32) -> Result<Vec<u8>, AllocError> {
+// Where a creation of an EDT with this many parameters and dependences stops.
+fn stop_of_creation(alloc: Global, params: u32, deps: u32) -> Result<Option<Stop>, AllocError> {
     let front = repeated(
         alloc,
         b"fn mainEdt { ocrEdtCreate(1, 0, [",
@@ -139,29 +150,33 @@ fn creation(alloc: Global, params: u32, deps: u32) -> Result<Vec<u8>, AllocError
         params,
         b"1], 0, [",
     )?;
-    repeated(alloc, front.as_slice(), b"1,", deps, b"1], 0); }")
+    stop_of_repeated(alloc, front.as_slice(), b"1,", deps, b"1], 0); }")
 }
 
 #[test]
 fn lists_have_at_most_16_and_32_members(rt: HostRuntime) -> Result<(), AllocError> {
-    let alloc = rt.alloc();
-    let enough = creation(alloc, 15, 31)?;
-    assert_eq!(rt; stop_of(alloc, enough.as_slice()), None);
-    let many = creation(alloc, 16, 0)?;
-    assert_eq!(rt; stop_of(alloc, many.as_slice()), Some(Stop::Rule(6, 1)));
-    let many = creation(alloc, 0, 32)?;
-    assert_eq!(rt; stop_of(alloc, many.as_slice()), Some(Stop::Rule(6, 1)));
+    assert_eq!(rt; stop_of_creation(rt.alloc(), 15, 31)?, None);
+    assert_eq!(rt;
+        stop_of_creation(rt.alloc(), 16, 0)?,
+        Some(Stop::Rule(6, 1))
+    );
+    assert_eq!(rt;
+        stop_of_creation(rt.alloc(), 0, 32)?,
+        Some(Stop::Rule(6, 1))
+    );
     Ok(())
+}
+
+fn stop_of_lets(alloc: Global, count: u8, end: &[u8]) -> Result<Option<Stop>, AllocError> {
+    let text = lets(alloc, count, end)?;
+    Ok(stop_of(alloc, text.as_slice()))
 }
 
 #[test]
 fn a_function_lets_64_names(rt: HostRuntime) -> Result<(), AllocError> {
-    let alloc = rt.alloc();
-    let enough = lets(alloc, 64, b"}")?;
-    assert_eq!(rt; stop_of(alloc, enough.as_slice()), None);
-    let many = lets(alloc, 65, b"}")?;
-    assert_eq!(rt; stop_of(alloc, many.as_slice()), Some(Stop::Rule(7, 1)));
-    let again = lets(alloc, 64, b"let aa = 1; }")?;
-    assert_eq!(rt; stop_of(alloc, again.as_slice()), Some(Stop::Rule(3, 1)));
+    assert_eq!(rt; stop_of_lets(rt.alloc(), 64, b"}")?, None);
+    assert_eq!(rt; stop_of_lets(rt.alloc(), 65, b"}")?, Some(Stop::Rule(7, 1)));
+    let again = stop_of_lets(rt.alloc(), 64, b"let aa = 1; }")?;
+    assert_eq!(rt; again, Some(Stop::Rule(3, 1)));
     Ok(())
 }

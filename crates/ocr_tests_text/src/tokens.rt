@@ -1,50 +1,43 @@
 use ocr_text::{LexFault, Token, TokenKind, TokensStop, number_value, tokens};
-use std::test::Fail;
+use std::alloc::Global;
 
 fn token(kind: TokenKind, start: usize, end: usize) -> Token {
     Token { kind, start, end }
 }
 
-fn cut(rt: &HostRuntime, text: &str) -> Result<Vec<Token>, Fail> {
-    Ok(tokens(rt.alloc(), text.as_bytes()).map_err(|_| "the text has no tokens")?)
+fn is_cut_into(alloc: Global, text: &str, wanted: &[Token]) -> bool {
+    match tokens(alloc, text.as_bytes()) {
+        Ok(cut) => cut.as_slice() == wanted,
+        Err(_) => false,
+    }
 }
 
 #[test]
-fn cuts_texts(rt: HostRuntime) -> Result<(), Fail> {
+fn cuts_texts(rt: HostRuntime) {
+    let alloc = rt.alloc();
     let (number, name, symbol) = (TokenKind::Number, TokenKind::Name, TokenKind::Symbol);
-    assert!(rt; cut(&rt, "")?.is_empty());
-
-    let operator = cut(&rt, "a1<=2")?;
-    let want = [token(name, 0, 2), token(symbol, 2, 4), token(number, 4, 5)];
-    assert_eq!(rt; operator.as_slice(), want.as_slice());
-
-    let symbols = cut(&rt, "<<=!")?;
-    let want = [
+    let nothing: [Token; 0] = [];
+    assert!(rt; is_cut_into(alloc, "", nothing.as_slice()));
+    let operator = [token(name, 0, 2), token(symbol, 2, 4), token(number, 4, 5)];
+    assert!(rt; is_cut_into(alloc, "a1<=2", operator.as_slice()));
+    let symbols = [
         token(symbol, 0, 2),
         token(symbol, 2, 3),
         token(symbol, 3, 4),
     ];
-    assert_eq!(rt; symbols.as_slice(), want.as_slice());
-
-    let digits = cut(&rt, "1a")?;
-    assert_eq!(rt;
-        digits.as_slice(),
-        [token(number, 0, 1), token(name, 1, 2)].as_slice()
-    );
-
-    let comment = cut(&rt, "#a \0#\n\t _")?;
-    let want = [
+    assert!(rt; is_cut_into(alloc, "<<=!", symbols.as_slice()));
+    let digits = [token(number, 0, 1), token(name, 1, 2)];
+    assert!(rt; is_cut_into(alloc, "1a", digits.as_slice()));
+    let comment = [
         token(TokenKind::Comment, 0, 5),
         token(TokenKind::Blank, 5, 8),
         token(name, 8, 9),
     ];
-    assert_eq!(rt; comment.as_slice(), want.as_slice());
-
-    let zeros = cut(&rt, "0000000000000000000000007")?;
-    assert_eq!(rt; zeros.as_slice(), [token(number, 0, 25)].as_slice());
-    let greatest = cut(&rt, "18446744073709551615")?;
-    assert_eq!(rt; greatest.as_slice(), [token(number, 0, 20)].as_slice());
-    Ok(())
+    assert!(rt; is_cut_into(alloc, "#a \0#\n\t _", comment.as_slice()));
+    let zeros = [token(number, 0, 25)];
+    assert!(rt; is_cut_into(alloc, "0000000000000000000000007", zeros.as_slice()));
+    let greatest = [token(number, 0, 20)];
+    assert!(rt; is_cut_into(alloc, "18446744073709551615", greatest.as_slice()));
 }
 
 #[test]
