@@ -75,36 +75,45 @@ def reference():
     return sum(after[2:4]) - sum(before[2:4])
 
 
+def measured(names, out):
+    """Runs the gate, and returns its status and the processor seconds of each process below it."""
+    seen = {}
+    gate = subprocess.Popen(["rt", "ci", *names], cwd=ROOT, stdout=out, stderr=subprocess.STDOUT)
+    while gate.poll() is None:
+        for process, words, seconds in descendants(gate.pid):
+            name = os.path.basename(words[0]) if words else ""
+            # one that has just begun has the words of the process that began it, and so has one that has just ended
+            what = kind_of(words) or seen.get(process, [None])[0]
+            what = what or (("other", "other") if not name.startswith("rt") else None)
+            if what:
+                seen[process] = (what, seconds)
+        time.sleep(0.5)
+    return gate.returncode, seen
+
+
 def main():
     log = sys.argv[1] if len(sys.argv) > 1 else "gate.log"
-    seen = {}
     start = time.time()
     with open(log, "w") as out:
-        gate = subprocess.Popen(["rt", "ci", *sys.argv[2:]], cwd=ROOT, stdout=out, stderr=subprocess.STDOUT)
-        while gate.poll() is None:
-            for process, words, seconds in descendants(gate.pid):
-                name = os.path.basename(words[0]) if words else ""
-                what = kind_of(words) or (("other", "other") if not name.startswith("rt") else None)
-                if what:
-                    seen[process] = (what, seconds)
-            time.sleep(0.5)
+        status, seen = measured(sys.argv[2:], out)
     minutes = collections.Counter()
     for what, seconds in seen.values():
         minutes[what] += seconds / 60
-    crates = sorted({crate for crate, _ in minutes if crate != "other"})
+    kinds = ("proof", "edits", "tests")
     print("| Crate | Proof | Edits | Tests | Sum |\n|---|---|---|---|---|")
-    for crate in crates:
-        row = [minutes[crate, kind] for kind in ("proof", "edits", "tests")]
+    for crate in sorted({crate for crate, _ in minutes if crate != "other"}):
+        row = [minutes[crate, kind] for kind in kinds]
         print(f"| `{crate}` | " + " | ".join(f"{it:.1f}" for it in [*row, sum(row)]) + " |")
     other = minutes["other", "other"]
     print(f"| other | | | | {other:.1f} |")
-    print(f"| **all** | | | | **{sum(minutes.values()):.1f}** |")
+    sums = [sum(it for (_, of), it in minutes.items() if of == kind) for kind in kinds]
+    print("| **all** | " + " | ".join(f"**{it:.1f}**" for it in [*sums, sum(minutes.values())]) + " |")
     with open(log) as it:
         last = it.read().rstrip().splitlines()[-1:] or [""]
     print(f"\n{last[0]}; {(time.time() - start) / 60:.0f} minutes on {os.cpu_count()} cores")
     print(f"rt selftest: {reference():.0f} processor seconds")
-    passed = re.fullmatch(r"\d+ passed, 0 failed", last[0])
-    return gate.returncode or (0 if passed else 1)
+    passed = re.match(r"\d+ passed, 0 failed", last[0])
+    return status or (0 if passed else 1)
 
 
 if __name__ == "__main__":
