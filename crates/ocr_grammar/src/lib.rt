@@ -14,7 +14,7 @@ pub use laws::grammar_laws;
 pub use levels::{UNARY_LEVEL, level};
 pub use lexeme::{Lexeme, Word};
 pub use lexing::read_token;
-pub use limits::{MOST_BLOCKS, MOST_TOKENS};
+pub use limits::{MOST_BLOCKS, MOST_TOKENS, Tally, is_over, tally_after};
 pub use words::{
     call_text, constant_text, lexeme_of_name, operator_text, sign_text, symbol, word_text,
 };

@@ -8,7 +8,7 @@ use Rattle.ocr_grammar.specs.declared.lexeme.Lexeme.{Lexeme}
 use Rattle.ocr_grammar.specs.Grammar.{IsProgram, GoesOn}
 use Rattle.ocr_grammar.specs.Parsing.{IsTree, IsFault}
 use Rattle.ocr_grammar.specs.Lexing.{lexemes_of, places_of, IsTreeOf, IsSyntaxFault}
-use Rattle.ocr_program.proofs.Exact.{one_tree}
+use Rattle.ocr_steps.proofs.Exact.{one_tree}
 
 -- what goes on goes on from an earlier place
 earlier : (ts : List Lexeme) (program : List FunctionTree) (n : ℕ) (rest : List Lexeme) → IsProgram (ts ++ rest) program

@@ -13,8 +13,8 @@ use Rattle.ocr_grammar.specs.Lexing.{lexeme_of, lexeme_onto, lexemes_of, place_o
 use Rattle.ocr_syntax.specs.Machine.{State, reads, step, next, start, Functions, program_of}
 use Rattle.ocr_syntax.specs.Fitting.{IsFittingState}
 use Rattle.ocr_program.proofs.Fitting.{step_fitting}
-use Rattle.ocr_program.proofs.Sound.{read_is_program}
-use Rattle.ocr_program.proofs.Exact.{reads_append, goes_on, stops, no_program}
+use Rattle.ocr_steps.proofs.Sound.{read_is_program}
+use Rattle.ocr_steps.proofs.Exact.{reads_append, goes_on, stops, no_program}
 
 -- these tokens are read to this state, and within the limits
 pub record Read (front : List Lexeme) (s : State) (y : Tally) : Type 0 where

@@ -8,10 +8,9 @@ ghost use Rattle.ocr_program.specs.Answers.{Answers, IsFaultOrNoMemory, IsTreeOr
 ghost use Rattle.ocr_syntax.specs.Machine as machine;
 ghost use Rattle.ocr_syntax.specs.View.{state_of};
 
-use crate::limits::{Tally, is_over, tally_after};
-use crate::steps::step;
 use ocr_base::NoMemory;
-use ocr_grammar::read_token;
+use ocr_grammar::{Tally, is_over, read_token, tally_after};
+use ocr_steps::step;
 use ocr_syntax::State;
 use ocr_text::Token;
 use ocr_tree::Program;

@@ -1,4 +1,4 @@
-use Rattle.ocr_program.specs.Counting.{tally_of}
+use Rattle.ocr_grammar.specs.Counting.{tally_of}
 use Rattle.ocr_syntax.specs.View.{state_of}
 use Rattle.ocr_program.proofs.Places.{Progress}
 use Rattle.ocr_program.proofs.parsing.read.Given as goal

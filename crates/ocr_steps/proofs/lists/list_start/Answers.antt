@@ -1,7 +1,7 @@
 use Rattle.std.proofs.Common.{◌∙◌, sym}
 use Rattle.ocr_syntax.specs.View.{args_of, slots_after, site_of, position_of}
-use Rattle.ocr_program.proofs.Marks.{list_goes}
-use Rattle.ocr_program.proofs.lists.list_start.Goals as goal
+use Rattle.ocr_steps.proofs.Marks.{list_goes}
+use Rattle.ocr_steps.proofs.lists.list_start.Goals as goal
 
 pub returns : goal.returns
 returns c =

@@ -20,7 +20,7 @@ use Rattle.ocr_syntax.specs.Joined.{with, ended_by}
 use Rattle.ocr_syntax.specs.Machine as m
 use Rattle.ocr_syntax.specs.Machine.{State, Position, Purpose, Indexed, Stack, Bottom, CallSite, InExpression, AsStatement, Left, Prefix, Round, Index, Argument, Member, FlagsArgument, Operand, AfterOperand, Held, fold_of, reads, step, operator, at_operand_end, after, at_right_operand, start, Functions}
 use Rattle.ocr_syntax.proofs.Joined.{with_none, with_more}
-use Rattle.ocr_program.proofs.Complete.{floor, level_low}
+use Rattle.ocr_steps.proofs.Complete.{floor, level_low}
 
 -- the arguments so far, where those of the slots left stand next
 abbrev Before : CallName → Arguments → List ArgumentKind → List Lexeme → List Lexeme → Type 0

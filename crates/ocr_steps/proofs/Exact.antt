@@ -13,8 +13,8 @@ use Rattle.ocr_grammar.specs.Grammar.{IsProgram, GoesOn}
 use Rattle.ocr_syntax.specs.Joined.{with, ended_by}
 use Rattle.ocr_syntax.specs.Machine as m
 use Rattle.ocr_syntax.specs.Machine.{State, Position, Purpose, Stack, Bottom, CallSite, InExpression, AsStatement, Left, Prefix, Round, Index, Argument, Member, FlagsArgument, Operand, AfterOperand, Held, fold_of, reads, step, operator, at_operand_end, after, start, Functions, program_of}
-use Rattle.ocr_program.proofs.Complete.{Stands, at_place, after_choice, fold_left, reads_program}
-use Rattle.ocr_program.proofs.Sound.{read_is_program}
+use Rattle.ocr_steps.proofs.Complete.{Stands, at_place, after_choice, fold_left, reads_program}
+use Rattle.ocr_steps.proofs.Sound.{read_is_program}
 
 reads_none : (ts : List Lexeme) → reads None ts ≡ None
 reads_none [] = refl

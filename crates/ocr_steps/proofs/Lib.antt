@@ -1,0 +1,4 @@
+pub mod Marks
+pub mod Complete
+pub mod Sound
+pub mod Exact
