@@ -7,7 +7,8 @@ use Rattle.ocr_history.specs.declared.entry.What.{What}
 use Rattle.ocr_history.specs.Weight.{weight_of}
 use Rattle.ocr_parts.specs.declared.part.Part.{Part}
 use Rattle.ocr_parts.specs.declared.part.Part.TheVariants as part
-use Rattle.ocr_parts.specs.Effects.{changed, readied, settled, settled_parts}
+use Rattle.ocr_parts.specs.Effects.{changed, settled, settled_parts}
+use Rattle.ocr_parts.specs.Progress.{readied}
 use Rattle.ocr_parts.specs.Footprint.{Covers}
 use Rattle.ocr_parts.specs.LegalOn.{IsLegalOn}
 use Rattle.ocr_parts.specs.Messages.{resumes, sends}

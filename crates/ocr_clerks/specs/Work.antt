@@ -26,7 +26,7 @@ use Rattle.ocr_parts.specs.declared.part.Core.{Core}
 use Rattle.ocr_parts.specs.declared.part.Part.{Part}
 use Rattle.ocr_parts.specs.declared.part.Part.TheVariants as part
 use Rattle.ocr_parts.specs.Legal.{IsSaid, IsStop}
-use Rattle.ocr_parts.specs.Effects.{made_ready, with_phase}
+use Rattle.ocr_parts.specs.Progress.{made_ready, with_phase}
 use Rattle.ocr_parts.specs.Kinds.{is_acquiring_edt, next_in, progress_in}
 use Rattle.ocr_parts.specs.Taken.{is_within}
 use Rattle.ocr_quiet.specs.Waits.{awaits_in}

@@ -6,6 +6,7 @@ use std::sync::Wait;
 /// A place that a worker passes before each entry and before it ends the run, and at the end of
 /// each idle round, with its number and its clerk. A gate may hold it there.
 pub trait Gate {
+    /// Comes back when this worker may go on. Its clerk is only looked at.
     fn pass<R: Wait>(&self, rt: &R, worker: u32, clerk: &Clerk<Ocr>);
 }
 

@@ -13,14 +13,19 @@ pub trait Machine {
     /// What legality rests on besides the history.
     type Setting;
 
+    /// What stands at a place.
     type Part: Drop;
 
+    /// A step of the machine.
     type Entry: Drop;
 
+    /// What an entry leaves to be delivered by a later one.
     type Message: Drop;
+
     /// A standing fact, which no later entry undoes. Only clauses read its values.
     type Fact;
 
+    /// What entries mean: which are legal after which, and what they change, send and tell.
     ghost meaning: { Meaning Self.Setting Self.Entry Self.Part Self.Message Self.Fact };
 
     /// The part of a number that is not made.
@@ -49,7 +54,9 @@ pub trait Machine {
     fn delivers(entry: &Self::Entry) -> Option<(u64, u32)>
         ensures { result ≡ meaning.delivers entry.now };
 
+    /// The laws on which the table rests.
     ghost laws: { Lawful meaning };
 
+    /// The laws on which the countdown of slots rests.
     ghost counting_laws: { CountingLaws meaning };
 }

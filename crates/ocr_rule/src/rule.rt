@@ -28,6 +28,7 @@ pub trait Told<E, P, N, F> {
     ghost use Rattle.std.specs.Prelude.{Option};
     ghost use Rattle.ocr_rule.specs.Steps.{Deed};
 
+    /// What it will write.
     ghost deed: { Option (Deed E P N F) };
 }
 
@@ -52,6 +53,7 @@ impl<M: Machine, W: Told<M::Entry, M::Part, M::Message, M::Fact>> Play<
 pub trait Stops<E, F> {
     ghost use Rattle.std.specs.Prelude.{List, Option};
 
+    /// The entry, and the facts.
     ghost stop: { Option (E × List F) };
 }
 
