@@ -7,17 +7,17 @@ use std::fmt;
 /// Which reports are written after a run, in the order of these fields.
 #[derive(Clone, Copy, PartialEq, Eq, Debug)]
 pub struct Reports {
-    /// The number of entries of each kind.
+    /// How many EDTs were made, have started and have not, and how many stale uses there are.
     pub summary: bool,
-    /// The EDTs that never started.
+    /// The EDTs that have not started, with their open slots.
     pub left: bool,
-    /// The uses of destroyed blocks.
+    /// The stale uses: those of destroyed objects.
     pub stale: bool,
-    /// The calls and deliveries that were refused.
+    /// The deliveries that were refused, but for those on destroyed events.
     pub refused: bool,
     /// The accesses of a word that no order separates.
     pub races: bool,
-    /// The words of the blocks at the end.
+    /// The blocks, each with its length, and whether it is destroyed and held.
     pub blocks: bool,
     /// All entries.
     pub journal: bool,
