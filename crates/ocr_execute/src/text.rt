@@ -7,6 +7,7 @@ ghost use Rattle.ocr_code.specs.Checked.{checked_tree};
 ghost use Rattle.ocr_grammar.specs.Lexing.{IsTreeOf};
 ghost use Rattle.ocr_execute.specs.ProgramText.{IsProgramText, IsCanonicalOf, IsTextStop, TextLaw, most_bytes};
 
+use ocr_base::NoMemory;
 use ocr_canonical::print_program;
 use ocr_check::{CheckFault, CheckStop, check};
 use ocr_code::Checked;
@@ -54,6 +55,22 @@ pub enum TextStop {
     /// Memory was refused.
     NoMemory,
 }
+
+impl fmt::Display for TextStop {
+    ghost use Rattle.std.specs.Prelude.{Some};
+    ghost use Rattle.ocr_execute.specs.Messages.{stop_text};
+
+    ghost output = { λ stop. Some (stop_text stop) };
+
+    fn fmt<W: fmt::Write>(&self, f: &mut fmt::Formatter<W>) -> fmt::Result {
+        match self {
+            TextStop::Fault(fault) => fault.fmt(f),
+            TextStop::NoMemory => NoMemory.fmt(f),
+        }
+    }
+}
+
+impl Error for TextStop {}
 
 fn cut(alloc: Global, bytes: &[u8]) -> Result<Vec<Token>, TextStop>
     ensures tokens { IfOk result (λ found. AreTokens bytes.now found.items) }
