@@ -23,7 +23,8 @@ use Rattle.ocr_parts.specs.Codes.{code_of}
 use Rattle.ocr_parts.specs.Taken.{as_face, face_in, has, is_within, look, parts_in, put}
 use Rattle.ocr_parts.specs.Taken as taken
 use Rattle.ocr_slots.specs.Slots.{state_of}
-use Rattle.ocr_parts.specs.Effects.{changed, new_core, new_face, with_core, with_face}
+use Rattle.ocr_parts.specs.Effects.{changed, new_core, new_face}
+use Rattle.ocr_parts.specs.Progress.{with_core, with_face}
 use Rattle.ocr_parts.specs.Kinds.{home_on}
 use Rattle.ocr_parts.specs.Parts.{Parts, new_identity}
 use Rattle.ocr_hand.specs.AtHand.{AtHand, Becomes, HasCore, HasFace, listed, with_part}

@@ -25,7 +25,8 @@ use Rattle.ocr_history.specs.Made.{creator_of}
 use Rattle.ocr_parts.specs.declared.part.Part.{Part}
 use Rattle.ocr_parts.specs.declared.part.Part.TheVariants as part
 use Rattle.ocr_parts.specs.Calls.{is_object, mode_named, slot_target, target_of}
-use Rattle.ocr_parts.specs.Effects.{brought, called, changed, deps_linked, doomed_template, granted, hold_ended, joined, joins, linked_if, new_core, new_face, new_output, new_scope, next_mode_on, readied_on, with_beside, with_core, with_face}
+use Rattle.ocr_parts.specs.Effects.{brought, called, changed, deps_linked, doomed_template, granted, hold_ended, joined, joins, new_core, new_face, new_output, new_scope, with_beside}
+use Rattle.ocr_parts.specs.Progress.{linked_if, next_mode_on, readied_on, with_core, with_face}
 use Rattle.ocr_finish.specs.Scope as scope
 use Rattle.ocr_parts.specs.Footprint.{on_face}
 use Rattle.ocr_parts.specs.Kinds.{IsBlock, is_acquiring, is_acquiring_edt, home_on, is_edt_face, loan_on, with_block, with_links, with_template, with_event, with_scope}

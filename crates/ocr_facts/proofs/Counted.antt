@@ -18,7 +18,8 @@ use Rattle.ocr_history.specs.History.{History}
 use Rattle.ocr_history.specs.Made.{depc_in, edt_from, is_edt, made, made_beside, makes}
 use Rattle.ocr_parts.specs.Calls.{depc_of, set_calls, set_step}
 use Rattle.ocr_parts.specs.Calls as calls
-use Rattle.ocr_parts.specs.Effects.{changed, next_mode_on, readied_on}
+use Rattle.ocr_parts.specs.Effects.{changed}
+use Rattle.ocr_parts.specs.Progress.{next_mode_on, readied_on}
 use Rattle.ocr_parts.specs.LegalOn.{IsRefused}
 use Rattle.ocr_parts.specs.Messages.{resumes}
 use Rattle.ocr_parts.specs.Parts.{parts_of}

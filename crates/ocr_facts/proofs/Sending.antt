@@ -14,7 +14,8 @@ use Rattle.ocr_edt.specs.declared.Identity.{Identity}
 use Rattle.ocr_parts.specs.declared.part.Part.{Part}
 use Rattle.ocr_parts.specs.declared.part.Part.TheVariants as part
 use Rattle.ocr_parts.specs.Calls.{is_given, is_object, slot_target, target_of}
-use Rattle.ocr_parts.specs.Effects.{linked_if, readied, settled, settled_parts}
+use Rattle.ocr_parts.specs.Effects.{settled, settled_parts}
+use Rattle.ocr_parts.specs.Progress.{linked_if, readied}
 use Rattle.ocr_parts.specs.Kinds.{identity_on, is_edt_face}
 use Rattle.ocr_parts.specs.Messages.{dep_sends, linked_by, payload_of_end, sends, sent_by, sent_by_end, sent_by_message}
 use Rattle.ocr_parts.specs.Parts.{Parts}

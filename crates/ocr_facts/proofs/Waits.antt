@@ -21,7 +21,8 @@ use Rattle.ocr_parts.specs.declared.part.Core.{Core}
 use Rattle.ocr_parts.specs.declared.part.Part.{Part}
 use Rattle.ocr_parts.specs.declared.part.Part.TheVariants as part
 use Rattle.ocr_parts.specs.Calls.{depc_of, edt_calls, loans_of, open_slots, plan_of, set_calls}
-use Rattle.ocr_parts.specs.Effects.{changed, made_ready, next_mode_on, readied_on, ready_at, with_phase}
+use Rattle.ocr_parts.specs.Effects.{changed}
+use Rattle.ocr_parts.specs.Progress.{made_ready, next_mode_on, readied_on, ready_at, with_phase}
 use Rattle.ocr_parts.specs.Kinds.{IsBlock, is_acquiring, is_acquiring_edt, is_running, on_core, with_block, work_in}
 use Rattle.ocr_parts.specs.LegalOn.{IsRefused}
 use Rattle.ocr_parts.specs.Legal.{IsRun, IsLegal}

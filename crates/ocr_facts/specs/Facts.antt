@@ -17,7 +17,8 @@ use Rattle.ocr_parts.specs.declared.part.Part.{Part}
 use Rattle.ocr_parts.specs.declared.part.Part.TheVariants as part
 use Rattle.ocr_parts.specs.Bodies.{body_of, body_with, hold_of}
 use Rattle.ocr_parts.specs.Calls.{depc_of, depv_in, payload_of, payloads_of}
-use Rattle.ocr_parts.specs.Effects.{settled_core, started_edt, with_phase}
+use Rattle.ocr_parts.specs.Effects.{settled_core, started_edt}
+use Rattle.ocr_parts.specs.Progress.{with_phase}
 use Rattle.ocr_parts.specs.Kinds.{core_progress, kept_on, mode_on}
 use Rattle.ocr_parts.specs.Legal.{IsCreating}
 use Rattle.ocr_parts.specs.Taken.{look}

@@ -13,7 +13,8 @@ use Rattle.ocr_meaning.specs.declared.call.Answer.{Answer}
 use Rattle.ocr_parts.specs.declared.part.Part.{Part}
 use Rattle.ocr_parts.specs.declared.part.Part.TheVariants as part
 use Rattle.ocr_parts.specs.Calls.{is_given, is_object, slot_target}
-use Rattle.ocr_parts.specs.Effects.{with_face, with_core, with_named, with_beside, new_output, new_scope, linked_if, linked_to, deps_linked}
+use Rattle.ocr_parts.specs.Effects.{with_named, with_beside, new_output, new_scope, deps_linked}
+use Rattle.ocr_parts.specs.Progress.{with_face, with_core, linked_if, linked_to}
 use Rattle.ocr_parts.specs.Kinds.{is_edt_face, with_links, is_event, with_event}
 use Rattle.ocr_parts.specs.Messages.{what_to, linked, linked_by, dep_sends, sent_by, sent_by_message, sends}
 use Rattle.ocr_parts.specs.Parts.{Parts}

@@ -19,7 +19,8 @@ use Rattle.ocr_template.specs.declared.Template.{Template}
 use Rattle.ocr_parts.specs.declared.part.Core.{Core}
 use Rattle.ocr_parts.specs.declared.part.Part.{Part}
 use Rattle.ocr_parts.specs.declared.part.Part.TheVariants as part
-use Rattle.ocr_parts.specs.Effects.{core_with, with_face, with_core, with_named, called, joins, joined, brought, changed}
+use Rattle.ocr_parts.specs.Effects.{with_named, called, joins, joined, brought, changed}
+use Rattle.ocr_parts.specs.Progress.{core_with, with_face, with_core}
 use Rattle.ocr_parts.specs.Kinds.{with_block, with_links, with_template, with_event, with_scope, on_core}
 use Rattle.ocr_any_event.specs.declared.AnyEvent.{AnyEvent}
 use Rattle.ocr_parts.specs.Parts.{Parts}

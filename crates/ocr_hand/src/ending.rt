@@ -3,7 +3,8 @@ ghost use Rattle.std.specs.Prelude.{◌≡◌, ◌≢◌, true, false, is_some, 
 ghost use Rattle.ocr_acquire.specs.Mode.{mode_in};
 ghost use Rattle.ocr_datablock.specs.Steps.{after_release, after_doom};
 ghost use Rattle.ocr_parts.specs.Calls.{is_number};
-ghost use Rattle.ocr_parts.specs.Effects.{with_face, with_core, with_phase, ended_edt, dropping_core, returned, hold_ended, ended};
+ghost use Rattle.ocr_parts.specs.Effects.{ended_edt, dropping_core, returned, hold_ended, ended};
+ghost use Rattle.ocr_parts.specs.Progress.{with_face, with_core, with_phase};
 ghost use Rattle.ocr_parts.specs.Kinds.{IsBlock, with_block, on_core, is_running, is_destroyed, loan_on, identity_on};
 ghost use Rattle.ocr_parts.specs.LegalOn.{IsEnding, IsDooming, IsEndOn, IsLoanBack};
 ghost use Rattle.ocr_parts.specs.Loans.{loan_in};

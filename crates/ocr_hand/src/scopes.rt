@@ -1,7 +1,8 @@
 // Who joins finish scopes and who leaves them.
 ghost use Rattle.std.specs.Prelude.{◌≡◌, ◌++◌, IfOk, true};
 ghost use Rattle.ocr_finish.specs.Scope.{after_join, after_leave};
-ghost use Rattle.ocr_parts.specs.Effects.{with_face, joins, joined};
+ghost use Rattle.ocr_parts.specs.Effects.{joins, joined};
+ghost use Rattle.ocr_parts.specs.Progress.{with_face};
 ghost use Rattle.ocr_parts.specs.Kinds.{with_scope, home_on};
 ghost use Rattle.ocr_parts.specs.LegalOn.{IsJoinable, HasMember};
 ghost use Rattle.ocr_parts.specs.Messages.{satisfy_some, leave_some, sent_if_done, sent_by_leave, sent_by_end};

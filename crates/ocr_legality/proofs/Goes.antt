@@ -14,7 +14,7 @@ use Rattle.ocr_parts.specs.declared.part.Part.TheVariants as part
 use Rattle.ocr_parts.specs.Calls.{plan_of, open_slots}
 use Rattle.ocr_parts.specs.Parts.{Parts, parts_of}
 use Rattle.ocr_parts.specs.Kinds.{IsBlock, is_held_by, on_core, is_acquiring_edt, is_acquiring}
-use Rattle.ocr_parts.specs.Effects.{with_phase, made_ready, ready_at, next_on, next_mode_on}
+use Rattle.ocr_parts.specs.Progress.{with_phase, made_ready, ready_at, next_on, next_mode_on}
 use Rattle.ocr_parts.specs.Legal.{IsRun}
 use Rattle.ocr_parts.proofs.Lent.{ready_core}
 use Rattle.ocr_table.specs.Table.{face_on, core_on, IsOf}

@@ -3,7 +3,8 @@ ghost use Rattle.std.specs.Prelude.{◌≡◌, ℕ, List, true, is_some, Some, N
 ghost use Rattle.ocr_acquire.specs.Mode.{mode_in};
 ghost use Rattle.ocr_acquire.specs.declared.Mode.{Mode};
 ghost use Rattle.ocr_edt.specs.declared.Edt.TheVariants as phase;
-ghost use Rattle.ocr_parts.specs.Effects.{with_face, with_core, with_phase, acquired_edt, waiting_edt, started_edt, awoken, acquiring_core, next_on, next_mode_on, granted, asked_if, lent_if, acquired, waited, passed_by};
+ghost use Rattle.ocr_parts.specs.Effects.{acquired_edt, waiting_edt, started_edt, awoken, acquiring_core, granted, asked_if, lent_if, acquired, waited, passed_by};
+ghost use Rattle.ocr_parts.specs.Progress.{with_face, with_core, with_phase, next_on, next_mode_on};
 ghost use Rattle.ocr_parts.specs.Kinds.{IsBlock, with_block, words_on, size_on, on_core, progress_in, is_acquiring};
 ghost use Rattle.ocr_parts.specs.LegalOn.{IsAcquireOn, IsWaitOn, IsStartOn, IsTaken, IsRefused};
 ghost use Rattle.ocr_parts.specs.Loans.{given_loan, kept_of};

@@ -32,7 +32,8 @@ use Rattle.ocr_parts.specs.declared.part.Part.TheVariants as part
 use Rattle.ocr_parts.specs.Calls.{mode_next, mode_named, target_of, plan_of, block_calls, link_calls, event_calls, scope_calls}
 use Rattle.ocr_parts.specs.Parts.{Parts, face, parts_of}
 use Rattle.ocr_parts.specs.Kinds.{IsBlock, is_edt_face, with_links, on_core, progress_in, core_progress, next_in, size_on, words_on}
-use Rattle.ocr_parts.specs.Effects.{awoken, acquired_edt, acquiring_core, acquired, next_on, with_face, with_phase, made_ready, ready_at, next_mode_on, joined, called, dropped_edt, dropping_core, holding_edt, creating_core, holding_core, ended_edt, new_core}
+use Rattle.ocr_parts.specs.Effects.{awoken, acquired_edt, acquiring_core, acquired, joined, called, dropped_edt, dropping_core, holding_edt, creating_core, holding_core, ended_edt, new_core}
+use Rattle.ocr_parts.specs.Progress.{next_on, with_face, with_phase, made_ready, ready_at, next_mode_on}
 use Rattle.ocr_parts.specs.Legal.{IsRun, IsLegal}
 use Rattle.ocr_parts.proofs.After.{after_law, linked_core, deps_core}
 use Rattle.ocr_parts.proofs.Lent.{ready_core}

@@ -39,7 +39,8 @@ use Rattle.ocr_history.specs.Made.{Made, MadeBlock, MadeTemplate, MadeEdt, MadeE
 use Rattle.ocr_parts.specs.Calls.{is_object, slot_target, target_of, link_if, dep_targets, event_step, deliver_step, join_step, leave_step, dep_links, first_links, link_calls, block_calls, edt_calls, loans_of, contents_of, with_plan, awake, plan_of, next_member, mode_next, mode_named, ask_calls, lend_calls, end_calls, kept_now, doom_calls, event_calls, scope_calls}
 use Rattle.ocr_parts.specs.Parts.{Parts, identity_of, new_identity, face, core, parts_of}
 use Rattle.ocr_parts.specs.Codes.{Sort, Source, Target, ATemplate, code_or, slot_most, satisfy_code, brings_block, wanted_source, wanted_sources, link_code, dependence_code, code_of, is_any, is_its_own, is_missing, is_of_other_kind, is_refused_as_stale, number_code, wanted}
-use Rattle.ocr_parts.specs.Effects.{with_face, linked_if, deps_linked, brought, joined, new_scope, new_output, with_phase, made_ready, waiting_edt, started_edt, holding_edt, ended_edt, next_on, granted, hold_ended, new_face, new_core, dropping_core, acquiring_core, ended, called, changed, ready_at, readied_on, creating_core, awoken, doomed_template, stale_edt}
+use Rattle.ocr_parts.specs.Effects.{deps_linked, brought, joined, new_scope, new_output, waiting_edt, started_edt, holding_edt, ended_edt, granted, hold_ended, new_face, new_core, dropping_core, acquiring_core, ended, called, changed, creating_core, awoken, doomed_template, stale_edt}
+use Rattle.ocr_parts.specs.Progress.{with_face, linked_if, with_phase, made_ready, next_on, ready_at, readied_on}
 use Rattle.ocr_parts.specs.LegalOn.{IsSatisfiable, delivery_code, HasMember, IsDeliverOn, IsTaken, IsEnding, IsFresh, IsNamed, IsJoinable, IsCallOn, IsLegalOn, IsDooming}
 use Rattle.ocr_parts.specs.Legal.{IsRun}
 use Rattle.ocr_parts.specs.Laws.{AfterLaw, kept_lent}

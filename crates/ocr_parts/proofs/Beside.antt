@@ -14,7 +14,8 @@ use Rattle.ocr_parts.specs.declared.part.Part.TheVariants as part
 use Rattle.ocr_parts.specs.Calls.{is_object, slot_target}
 use Rattle.ocr_parts.specs.Parts.{Parts}
 use Rattle.ocr_parts.specs.Kinds.{is_event, with_event, with_scope}
-use Rattle.ocr_parts.specs.Effects.{with_face, with_named, with_beside, new_scope, new_output, joined, called}
+use Rattle.ocr_parts.specs.Effects.{with_named, with_beside, new_scope, new_output, joined, called}
+use Rattle.ocr_parts.specs.Progress.{with_face}
 use Rattle.ocr_parts.specs.LegalOn.{IsFresh, IsBeside, last_of, IsJoinable, IsCallOn}
 use Rattle.ocr_parts.proofs.Choices.{at_same}
 use Rattle.ocr_parts.proofs.After.{dep_fold, deps_face}

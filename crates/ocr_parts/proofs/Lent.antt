@@ -20,7 +20,7 @@ use Rattle.ocr_parts.specs.Calls.{is_number, ask_calls, lend_calls, end_calls, b
 use Rattle.ocr_parts.proofs.Fresh.{new_fresh, made_old}
 use Rattle.ocr_parts.proofs.Within.{made_none}
 use Rattle.ocr_parts.specs.Parts.{face, core, parts_of, identity_of}
-use Rattle.ocr_parts.specs.Effects.{with_phase, made_ready, ready_at}
+use Rattle.ocr_parts.specs.Progress.{with_phase, made_ready, ready_at}
 use Rattle.ocr_parts.specs.LegalOn.{IsFresh, IsShared, IsTaken, IsCallOn}
 use Rattle.ocr_parts.specs.Laws.{IsLentTo, LentLaw}
 use Rattle.ocr_parts.proofs.Blocks.{asked_borrower, asked_contents}

@@ -14,7 +14,8 @@ use Rattle.ocr_parts.specs.declared.part.Part.TheVariants as part
 use Rattle.ocr_parts.specs.Calls.{is_given, is_object, slot_target, target_of, mode_next, mode_named}
 use Rattle.ocr_parts.specs.Parts.{Parts, new_identity, core, face}
 use Rattle.ocr_parts.specs.Codes.{Source, satisfy_code, brings_block, wanted_sources, is_any, release_code, dependence_code, Sort, creation_code, is_its_own, is_missing, is_of_other_kind, is_refused_as_stale, number_code, wanted}
-use Rattle.ocr_parts.specs.Effects.{with_face, linked_if, brought, joins, joined, new_scope, with_phase, next_on, granted, hold_ended, dropping_core, acquiring_core, waiting_edt, started_edt, ended_edt, new_face, new_core, ended, called, settled, settled_parts, creating_core, awoken, doomed_template, stale_edt}
+use Rattle.ocr_parts.specs.Effects.{brought, joins, joined, new_scope, granted, hold_ended, dropping_core, acquiring_core, waiting_edt, started_edt, ended_edt, new_face, new_core, ended, called, settled, settled_parts, creating_core, awoken, doomed_template, stale_edt}
+use Rattle.ocr_parts.specs.Progress.{with_face, linked_if, with_phase, next_on}
 use Rattle.ocr_parts.specs.LegalOn.{IsSatisfiable, delivery_code, HasMember, IsBeside, IsScoped, last_of, HasOutput, IsJoinable, IsHome, IsDeliverOn, IsShared, IsTaken, IsRefused, IsLoanBack, IsHeld, IsEnding, IsNamed, IsAnswered, IsLegalOn, IsLoaded, IsAgreed, IsDooming}
 use Rattle.ocr_parts.specs.Messages.{what_to, satisfied, linked, linked_by, dep_sends, sent_by, sent_by_leave, sent_by_message, payload_of_end, sent_by_end, resumed_by, resumes, resumed_by_doom}
 use Rattle.ocr_parts.specs.Footprint.{is_brought_to, names_beside, names_face, makes_core, on_face, on_core_of, IsAlike, is_wanted}

@@ -16,7 +16,8 @@ use Rattle.ocr_history.specs.declared.entry.Entry.TheVariants.{Call, Acquire, Wa
 use Rattle.ocr_history.specs.History.{History, Setting}
 use Rattle.ocr_history.specs.Made.{Made, MadeEdt, is_new, is_edt_made}
 use Rattle.ocr_parts.specs.Calls.{edt_step, edt_calls, with_plan, awake, plan_of, asks_in, slots_now}
-use Rattle.ocr_parts.specs.Effects.{made_ready, awoken, acquired_edt, waiting_edt, started_edt, holding_edt, dropped_edt, ended_edt, stale_edt}
+use Rattle.ocr_parts.specs.Effects.{awoken, acquired_edt, waiting_edt, started_edt, holding_edt, dropped_edt, ended_edt, stale_edt}
+use Rattle.ocr_parts.specs.Progress.{made_ready}
 use Rattle.ocr_meaning.specs.Holds.{is_done}
 use Rattle.ocr_parts.specs.Kinds.{is_acquiring_edt, next_in, progress_in, work_in, identity_on}
 use Rattle.ocr_parts.specs.Parts.{core}

@@ -20,7 +20,8 @@ use Rattle.ocr_parts.specs.declared.part.Part.TheVariants as part
 use Rattle.ocr_parts.specs.Calls.{is_object, slot_target, target_of, mode_named, mode_next}
 use Rattle.ocr_edt.specs.declared.Identity.{Identity}
 use Rattle.ocr_parts.specs.Parts.{Parts, new_identity}
-use Rattle.ocr_parts.specs.Effects.{new_face, with_beside, linked_if, deps_linked, brought, joined, with_face, with_core, with_phase, next_on, granted, returned, hold_ended, new_core, dropping_core, acquiring_core, waiting_edt, started_edt, ended_edt, ended, called, settled_core, settled, settled_parts, acquired_edt, awoken, core_with, creating_core, holding_core, stale_edt}
+use Rattle.ocr_parts.specs.Effects.{new_face, with_beside, deps_linked, brought, joined, granted, returned, hold_ended, new_core, dropping_core, acquiring_core, waiting_edt, started_edt, ended_edt, ended, called, settled_core, settled, settled_parts, acquired_edt, awoken, creating_core, holding_core, stale_edt}
+use Rattle.ocr_parts.specs.Progress.{linked_if, with_face, with_core, with_phase, next_on, core_with}
 use Rattle.ocr_parts.specs.Laws.{SettledLaw}
 use Rattle.ocr_datablock.specs.Steps.{after_ask, after_release, after_doom}
 use Rattle.ocr_parts.specs.Kinds.{home_on, is_edt_face, with_links, core_progress, loan_on, next_in, on_core, size_on, with_block, words_on}

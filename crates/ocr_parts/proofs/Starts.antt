@@ -20,7 +20,8 @@ use Rattle.ocr_history.specs.History.{History, Setting}
 use Rattle.ocr_history.specs.declared.entry.Entry.{Entry}
 use Rattle.ocr_meaning.specs.Holds.{is_done}
 use Rattle.ocr_parts.specs.Calls.{plan_of}
-use Rattle.ocr_parts.specs.Effects.{brought, joined, acquired_edt, acquiring_core, awoken, called, changed, creating_core, dropped_edt, dropping_core, edt_in, ended_edt, holding_core, holding_edt, made_ready, new_core, next_mode_on, readied, ready_at, started_edt, waiting_edt, with_phase, stale_edt}
+use Rattle.ocr_parts.specs.Effects.{brought, joined, acquired_edt, acquiring_core, awoken, called, changed, creating_core, dropped_edt, dropping_core, ended_edt, holding_core, holding_edt, new_core, started_edt, waiting_edt, stale_edt}
+use Rattle.ocr_parts.specs.Progress.{edt_in, made_ready, next_mode_on, readied, ready_at, with_phase}
 use Rattle.ocr_parts.specs.Kinds.{home_on, is_acquiring, is_acquiring_edt, on_core, size_on, words_on}
 use Rattle.ocr_parts.specs.Laws.{SetLaw, StartLaw}
 use Rattle.ocr_parts.specs.Legal.{IsLegal, IsRun}

@@ -10,50 +10,36 @@ use Rattle.ocr_slots.specs.Steps.{after_link}
 use Rattle.ocr_datablock.specs.Block as block
 use Rattle.ocr_datablock.specs.Steps.{after_ask, after_release, after_doom, after_store, after_lend, with_words}
 use Rattle.ocr_datablock.specs.Lent.{Loan}
-use Rattle.ocr_guid.specs.declared.target.Target.{Target}
 use Rattle.ocr_any_event.specs.AnyEvent as event
 use Rattle.ocr_edt.specs.declared.Identity.{Identity}
 use Rattle.ocr_edt.specs.declared.Edt.{Edt}
 use Rattle.ocr_edt.specs.declared.Edt.TheVariants as phase
-use Rattle.ocr_edt.specs.Steps.{after_ready, after_acquired, after_start, after_hold, after_drop_hold}
+use Rattle.ocr_edt.specs.Steps.{after_acquired, after_start, after_hold, after_drop_hold}
 use Rattle.ocr_finish.specs.Scope as scope
 use Rattle.ocr_meaning.specs.Holds.{is_done}
 use Rattle.ocr_meaning.specs.declared.call.Call as body
 use Rattle.ocr_meaning.specs.declared.call.Call.TheVariants as call
 use Rattle.ocr_meaning.specs.declared.call.Answer.{Answer}
 use Rattle.ocr_history.specs.declared.entry.Entry.{Entry}
-use Rattle.ocr_history.specs.declared.entry.Entry.TheVariants.{Call, Deliver, Acquire, Wait, StaleAcquire, Start, Free, End, Stop}
-use Rattle.ocr_history.specs.declared.entry.Stop.TheVariants as by
+use Rattle.ocr_history.specs.declared.entry.Entry.TheVariants.{Call, Deliver, Acquire, Wait, StaleAcquire, Start, Free, End}
 use Rattle.ocr_history.specs.declared.entry.What.{What}
 use Rattle.ocr_history.specs.declared.entry.What.TheVariants as what
-use Rattle.ocr_history.specs.History.{History, Setting}
 use Rattle.ocr_history.specs.declared.objects.TheConstants.{OUTPUT_KIND, OUTPUT_FLAGS}
 use Rattle.ocr_history.specs.Made.{creator_of, names_new}
-use Rattle.ocr_parts.specs.declared.loans.Kept.{Kept}
 use Rattle.ocr_parts.specs.declared.part.Core as core_type
 use Rattle.ocr_parts.specs.declared.part.Part.{Part}
 use Rattle.ocr_parts.specs.declared.part.Part.TheVariants as part
 use Rattle.ocr_parts.specs.Loans.{with_kept, without_kept, kept_of, kept_created, settled_loans}
-use Rattle.ocr_parts.specs.Calls.{dep_links, is_object, slot_target, target_of, plan_of, mode_named, mode_next}
+use Rattle.ocr_parts.specs.Calls.{dep_links, is_object, slot_target, target_of, mode_named}
 use Rattle.ocr_parts.specs.Parts.{Parts, new_identity}
-use Rattle.ocr_parts.specs.Kinds.{with_block, words_on, size_on, is_held_by, with_links, with_template, with_event, with_scope, is_edt_face, on_core, home_on, core_progress, next_in, loan_on}
+use Rattle.ocr_parts.specs.Kinds.{with_block, words_on, size_on, is_held_by, with_links, with_template, with_event, with_scope, is_edt_face, on_core, home_on, loan_on}
+use Rattle.ocr_parts.specs.Progress.{with_face, with_core, core_with, with_phase, next_mode_on, linked_if}
 
--- these parts, but for one
-abbrev pub with_face : Parts → ℕ → Part → Parts
-with_face f n x = record { face = λ g. if n == g then x else f.face g; core = f.core }
-
-abbrev pub with_core : Parts → ℕ → Part → Parts
-with_core f n x = record { face = f.face; core = λ t. if n == t then x else f.core t }
-
--- but for one where the number is not NULL_GUID
+-- these parts, but for one where the number is not NULL_GUID
 abbrev pub with_named : Parts → ℕ → Part → Parts
 with_named f n x = record { face = λ g. if names_new n g then x else f.face g; core = f.core }
 
 -- THE STEPS of an EDT.
-abbrev pub made_ready : List (ℕ × Mode) → Edt → Edt
-made_ready members (phase.Filling i) = phase.Acquiring (after_ready i members)
-made_ready members other = other
-
 abbrev pub awoken : Edt → Edt
 awoken (phase.Waiting s) = phase.Acquiring s
 awoken other = other
@@ -86,13 +72,6 @@ abbrev pub ended_edt : Edt → Edt
 ended_edt (phase.Running s) = phase.Ended s.identity
 ended_edt other = other
 
-abbrev pub core_with : core_type.Core → Edt → List (ℕ × Kept) → core_type.Core
-core_with c e loans =
-    record { function = c.function; params = c.params; edt = e; loans = loans }
-
-abbrev pub with_phase : (Edt → Edt) → core_type.Core → core_type.Core
-with_phase step c = core_with c (step c.edt) c.loans
-
 -- the creator of a block of so many words holds it, unless the flag says that it does not
 abbrev pub holding_core : ℕ → ℕ → core_type.Core → core_type.Core
 holding_core d size c = core_with c (holding_edt d c.edt) (with_kept d (kept_created size) c.loans)
@@ -106,13 +85,6 @@ dropping_core d c = core_with c (dropped_edt d c.edt) (without_kept d c.loans)
 abbrev pub acquiring_core : ℕ → Mode → ℕ → List ℕ → core_type.Core → core_type.Core
 acquiring_core d m size words c =
     core_with c (acquired_edt (awoken c.edt)) (with_kept d (kept_of m size words) c.loans)
-
--- the block that an EDT acquires next, with its mode
-abbrev pub next_on : Parts → ℕ → Option (ℕ × Mode)
-next_on f t = next_in (core_progress (f.core t))
-
-abbrev pub next_mode_on : Parts → ℕ → Mode
-next_mode_on f t = mode_next (next_on f t)
 
 -- A BLOCK is granted, and in EW its words go out on loan
 abbrev pub asked_if : ℕ → Mode → block.State → block.State
@@ -171,15 +143,6 @@ ended step f t d w =
     with_core
     (with_face f d (with_block (f.face d) (hold_ended step t w (loan_on (f.core t) d))))
     t (on_core (f.core t) (dropping_core d))
-
--- an event as a source is linked to its target
-abbrev pub linked_to : ℕ → Target → Parts → Parts
-linked_to d t f = with_face f d (with_event (f.face d) (λ st. event.after_link st t))
-
--- where the source is named
-abbrev pub linked_if : Bool → ℕ → Target → Parts → Parts
-linked_if true d t f = linked_to d t f
-linked_if false d t f = f
 
 -- the events that are given to the slots of a new EDT, slot by slot
 abbrev pub deps_linked : ℕ → ℕ → List ℕ → Parts → Parts
@@ -267,35 +230,6 @@ changed (Start t) f = with_core f t (on_core (f.core t) (with_phase started_edt)
 changed (Free t d w) f = ended after_release f t d w
 changed (End t g) f = with_core f t (on_core (f.core t) (with_phase ended_edt))
 changed other f = f
-
--- READY: the plan is made of the payloads by whoever takes the EDT on
-abbrev pub ready_at : ℕ → List (ℕ × Mode) → Parts → Parts
-ready_at t members f = with_core f t (on_core (f.core t) (with_phase (made_ready members)))
-
-abbrev pub readied : List (ℕ × Mode) → Entry → Parts → Parts
-readied members (Acquire t d) f = ready_at t members f
-readied members (Wait t d) f = ready_at t members f
-readied members (StaleAcquire t d) f = ready_at t members f
-readied members (Start t) f = ready_at t members f
-readied members other f = f
-
--- the EDT of an entry; 0 for an entry that belongs to none
-abbrev pub edt_in : Entry → ℕ
-edt_in (Call t home c a w) = t
-edt_in (Acquire t d) = t
-edt_in (Wait t d) = t
-edt_in (StaleAcquire t d) = t
-edt_in (Start t) = t
-edt_in (Free t d w) = t
-edt_in (End t g) = t
-edt_in (Stop (by.Shutdown t)) = t
-edt_in (Stop (by.Abort t code)) = t
-edt_in (Stop (by.Fault t why)) = t
-edt_in other = 0
-
--- with the plan of its EDT
-abbrev pub readied_on : Setting → History → Entry → Parts → Parts
-readied_on s past e f = readied (plan_of s past (edt_in e)) e f
 
 -- SETTLED: without what was stored in loans, which no entry tells yet
 abbrev pub settled_core : core_type.Core → core_type.Core

@@ -24,7 +24,8 @@ use Rattle.ocr_parts.specs.Calls.{next_member, block_calls, contents_of, loans_o
 use Rattle.ocr_parts.specs.Parts.{Parts, parts_of}
 use Rattle.ocr_parts.specs.Kinds.{counted_on}
 use Rattle.ocr_parts.specs.Codes.{code_of}
-use Rattle.ocr_parts.specs.Effects.{changed, readied_on, settled_parts}
+use Rattle.ocr_parts.specs.Effects.{changed, settled_parts}
+use Rattle.ocr_parts.specs.Progress.{readied_on}
 use Rattle.ocr_parts.specs.LegalOn.{IsLegalOn, IsCallOn}
 use Rattle.ocr_parts.specs.Bodies.{holds_on}
 use Rattle.ocr_parts.specs.Messages.{sends, resumes}

@@ -22,7 +22,7 @@ use Rattle.ocr_history.specs.Weight.{weight_of}
 use Rattle.ocr_parts.specs.Calls.{open_slots}
 use Rattle.ocr_parts.specs.Parts.{parts_of}
 use Rattle.ocr_parts.specs.Codes.{code_of}
-use Rattle.ocr_parts.specs.Effects.{edt_in, readied_on}
+use Rattle.ocr_parts.specs.Progress.{edt_in, readied_on}
 use Rattle.ocr_parts.specs.Messages.{pending}
 use Rattle.ocr_parts.specs.LegalOn.{IsLegalOn}
 use Rattle.ocr_parts.specs.Bodies.{says_next}

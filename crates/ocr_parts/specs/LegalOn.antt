@@ -24,7 +24,7 @@ use Rattle.ocr_parts.specs.Calls.{is_number}
 use Rattle.ocr_parts.specs.Parts.{Parts}
 use Rattle.ocr_parts.specs.Kinds.{IsBlock, work_of, is_running, holds_of, mode_on, loan_on, is_acquiring, home_on}
 use Rattle.ocr_parts.specs.Codes.{code_of, code_or, slot_most}
-use Rattle.ocr_parts.specs.Effects.{next_on, next_mode_on}
+use Rattle.ocr_parts.specs.Progress.{next_on, next_mode_on}
 
 -- A CALL. A number that nothing has yet
 pub record IsFresh (limit : ℕ) (f : Parts) (g : ℕ) : Type 0 where

@@ -11,5 +11,6 @@ pub mod LegalOn
 pub mod Loans
 pub mod Messages
 pub mod Parts
+pub mod Progress
 pub mod Runs
 pub mod Taken

@@ -23,7 +23,7 @@ use Rattle.ocr_history.specs.History.{History, Setting}
 use Rattle.ocr_parts.specs.declared.part.Part.{Part}
 use Rattle.ocr_parts.specs.declared.part.Part.TheVariants as part
 use Rattle.ocr_parts.specs.Calls.{is_given, is_object, slot_target, target_of}
-use Rattle.ocr_parts.specs.Effects.{linked_if}
+use Rattle.ocr_parts.specs.Progress.{linked_if}
 use Rattle.ocr_parts.specs.Kinds.{is_block, is_edt_face, identity_on}
 use Rattle.ocr_parts.specs.Parts.{Parts, parts_of}
 

@@ -8,7 +8,8 @@ ghost use Rattle.ocr_edt.specs.Edt.{identity_of};
 ghost use Rattle.ocr_edt.specs.Phases.{Work};
 ghost use Rattle.ocr_edt.specs.declared.Edt.TheVariants as phase;
 ghost use Rattle.ocr_guid.specs.Target.{on_destroy};
-ghost use Rattle.ocr_parts.specs.Effects.{core_with, dropped_edt, dropping_core, ended_edt, holding_core, holding_edt, made_ready, started_edt, with_phase};
+ghost use Rattle.ocr_parts.specs.Effects.{dropped_edt, dropping_core, ended_edt, holding_core, holding_edt, started_edt};
+ghost use Rattle.ocr_parts.specs.Progress.{core_with, made_ready, with_phase};
 ghost use Rattle.ocr_parts.specs.Loans.{IsStorable, kept_in, loan_in, settled_loans, with_kept, with_loan};
 ghost use Rattle.ocr_datablock.specs.Lent.{after_list_writes, after_store};
 

@@ -14,7 +14,7 @@ use Rattle.ocr_parts.specs.Calls.{plan_of, open_slots, link_calls, block_calls, 
 use Rattle.ocr_history.specs.Edts.{is_started, is_ended, IsRunning}
 use Rattle.ocr_parts.specs.Parts.{Parts, identity_of, core, parts_of}
 use Rattle.ocr_parts.specs.Kinds.{on_core, progress_in, core_progress, next_in, IsBlock, is_acquiring, is_acquiring_edt}
-use Rattle.ocr_parts.specs.Effects.{with_phase, made_ready, next_on}
+use Rattle.ocr_parts.specs.Progress.{with_phase, made_ready, next_on}
 use Rattle.ocr_parts.specs.LegalOn.{IsTaken}
 use Rattle.ocr_parts.specs.Legal.{IsRun, IsLegal}
 use Rattle.ocr_quiet.specs.Waits.{standing, queue_on, awaits_in, awaits, holders_on, is_gone_on}

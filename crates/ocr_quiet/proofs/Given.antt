@@ -16,7 +16,8 @@ use Rattle.ocr_meaning.specs.Holds.{is_done}
 use Rattle.ocr_parts.specs.Calls.{plan_of, asks_of, asks_in, slots_now, depc_of, set_step, set_calls, link_calls}
 use Rattle.ocr_parts.specs.Kinds.{is_block, on_core, home_on}
 use Rattle.ocr_parts.specs.Parts.{Parts, plain_identity, new_identity, core, parts_of}
-use Rattle.ocr_parts.specs.Effects.{with_phase, made_ready, awoken, acquired_edt, waiting_edt, started_edt, holding_edt, dropped_edt, ended_edt, new_core, creating_core, holding_core, dropping_core, acquiring_core, called, joined, brought, changed, ready_at, readied_on, stale_edt}
+use Rattle.ocr_parts.specs.Effects.{awoken, acquired_edt, waiting_edt, started_edt, holding_edt, dropped_edt, ended_edt, new_core, creating_core, holding_core, dropping_core, acquiring_core, called, joined, brought, changed, stale_edt}
+use Rattle.ocr_parts.specs.Progress.{with_phase, made_ready, ready_at, readied_on}
 use Rattle.ocr_parts.specs.Legal.{IsRun}
 use Rattle.ocr_quiet.specs.Waits.{rest_in, rest_on, AreBlocks}
 use Rattle.ocr_parts.proofs.After.{after_law, linked_core, deps_core}

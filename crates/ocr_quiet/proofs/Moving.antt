@@ -5,7 +5,7 @@ use Rattle.ocr_acquire.specs.declared.Mode.{Mode}
 use Rattle.ocr_acquire.specs.Mode.{mode_in}
 use Rattle.ocr_parts.specs.declared.part.Part.{Part}
 use Rattle.ocr_parts.specs.Parts.{Parts}
-use Rattle.ocr_parts.specs.Effects.{with_face, with_core}
+use Rattle.ocr_parts.specs.Progress.{with_face, with_core}
 use Rattle.ocr_quiet.specs.Waits.{standing, is_gone_on, queue_on, held_on, rest_on, awaits, IsHolding, IsOrdered, AreStanding}
 
 -- all but one EDT stand where they stood

@@ -15,7 +15,8 @@ use Rattle.ocr_history.specs.declared.entry.Entry.TheVariants.{Call, Deliver, Ac
 use Rattle.ocr_parts.specs.declared.part.Part.{Part}
 use Rattle.ocr_meaning.specs.Holds.{is_done}
 use Rattle.ocr_parts.specs.Parts.{Parts}
-use Rattle.ocr_parts.specs.Effects.{with_face, linked_if, deps_linked, brought, with_core, with_phase, awoken, next_on, hold_ended, dropping_core, ended, called, changed, doomed_template}
+use Rattle.ocr_parts.specs.Effects.{deps_linked, brought, awoken, hold_ended, dropping_core, ended, called, changed, doomed_template}
+use Rattle.ocr_parts.specs.Progress.{with_face, linked_if, with_core, with_phase, next_on}
 use Rattle.ocr_parts.specs.Kinds.{with_block, on_core, progress_in, core_progress, next_in, loan_on, IsBlock, is_running, work_in, is_block, is_edt_face}
 use Rattle.ocr_parts.specs.LegalOn.{IsCallOn, IsLegalOn}
 use Rattle.ocr_quiet.specs.Waits.{standing, is_gone_on, queue_on, held_in, rest_in, awaits_in, held_on, rest_on, awaits, IsHolding, IsOrdered, AreStanding, IsOnce}
@@ -45,7 +46,8 @@ use Rattle.ocr_parts.proofs.After.{not_stale, done_is}
 use Rattle.ocr_quiet.proofs.Choices.{done_kinds}
 use Rattle.ocr_finish.specs.Scope.{State, after_join, after_leave}
 use Rattle.ocr_parts.proofs.Beside.{named_keeps, joined_keeps, output_free, scope_free, edt_free}
-use Rattle.ocr_parts.specs.Effects.{with_face, with_named, with_beside, new_scope, new_output, joined}
+use Rattle.ocr_parts.specs.Effects.{with_named, with_beside, new_scope, new_output, joined}
+use Rattle.ocr_parts.specs.Progress.{with_face}
 use Rattle.ocr_parts.specs.Kinds.{home_on, with_scope}
 use Rattle.ocr_parts.specs.Parts.{new_identity}
 

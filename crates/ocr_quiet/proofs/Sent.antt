@@ -35,7 +35,8 @@ use Rattle.ocr_parts.specs.Calls.{is_given, is_object, slot_target, target_of, l
 use Rattle.ocr_parts.specs.Parts.{Parts, face, parts_of}
 use Rattle.ocr_parts.specs.Kinds.{is_block, is_event, is_edt_face, identity_on, home_on, with_block, with_links, with_template, with_event, with_scope}
 use Rattle.ocr_parts.specs.Codes.{Source, Target, ATemplate, AnEvent, ABlock, has_kind, is_any, is_of_other_kind, code_of, slot_most, is_unfit, dependence_code, brings_block, wanted_source, wanted_sources, wanted_payload}
-use Rattle.ocr_parts.specs.Effects.{with_face, with_named, with_beside, new_scope, new_output, joined, new_face, linked_if, deps_linked, called, brought, changed, readied_on}
+use Rattle.ocr_parts.specs.Effects.{with_named, with_beside, new_scope, new_output, joined, new_face, deps_linked, called, brought, changed}
+use Rattle.ocr_parts.specs.Progress.{with_face, linked_if, readied_on}
 use Rattle.ocr_parts.specs.LegalOn.{IsSatisfiable}
 use Rattle.ocr_parts.specs.Legal.{IsRun, IsLegal}
 use Rattle.ocr_parts.specs.Messages.{what_to, carried_by, satisfied, linked, linked_by, dep_sends, sent_by, satisfy_some, leave_some, sent_if_done, sent_by_leave, sent_by_message, payload_of_end, sent_by_end, sends, delivered, pending}

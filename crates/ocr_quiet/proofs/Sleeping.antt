@@ -18,7 +18,7 @@ use Rattle.ocr_parts.specs.Calls.{plan_of, asks_in, slots_now, open_slots, link_
 use Rattle.ocr_history.specs.Edts.{is_started, is_ended}
 use Rattle.ocr_parts.specs.Parts.{Parts, face, core, parts_of, identity_of}
 use Rattle.ocr_parts.specs.Kinds.{on_core, progress_in, core_progress, next_in, IsBlock, is_acquiring, is_acquiring_edt, is_block}
-use Rattle.ocr_parts.specs.Effects.{with_phase, made_ready, next_on}
+use Rattle.ocr_parts.specs.Progress.{with_phase, made_ready, next_on}
 use Rattle.ocr_parts.specs.LegalOn.{IsTaken, IsRefused}
 use Rattle.ocr_parts.specs.Legal.{IsRun}
 use Rattle.ocr_quiet.specs.Waits.{standing, is_gone_on, queue_on, held_on, rest_in, rest_on, awaits_in, awaits, IsHolding, IsOrdered, AreStanding, AreBlocks}

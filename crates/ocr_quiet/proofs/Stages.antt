@@ -22,7 +22,8 @@ use Rattle.ocr_history.specs.Edts.{is_started, is_ended}
 use Rattle.ocr_parts.specs.Parts.{Parts, plain_identity, new_identity, identity_of, face, core, parts_of}
 use Rattle.ocr_parts.proofs.Fresh.{made_old}
 use Rattle.ocr_edt.specs.declared.Identity.{Identity}
-use Rattle.ocr_parts.specs.Effects.{with_phase, made_ready, awoken, acquired_edt, waiting_edt, started_edt, holding_edt, dropped_edt, ended_edt, next_on, creating_core, holding_core, dropping_core, acquiring_core, new_core, called, joined, changed, ready_at, readied_on, stale_edt}
+use Rattle.ocr_parts.specs.Effects.{awoken, acquired_edt, waiting_edt, started_edt, holding_edt, dropped_edt, ended_edt, creating_core, holding_core, dropping_core, acquiring_core, new_core, called, joined, changed, stale_edt}
+use Rattle.ocr_parts.specs.Progress.{with_phase, made_ready, next_on, ready_at, readied_on}
 use Rattle.ocr_parts.specs.Kinds.{home_on, size_on, words_on, on_core, progress_in, core_progress, next_in, is_running, is_acquiring, is_acquiring_edt, work_in}
 use Rattle.ocr_parts.specs.LegalOn.{IsCallOn}
 use Rattle.ocr_parts.specs.Legal.{IsRun, IsLegal}

@@ -16,7 +16,8 @@ use Rattle.ocr_parts.specs.declared.part.Part.{Part}
 use Rattle.ocr_history.specs.Made.{creator_of}
 use Rattle.ocr_parts.specs.Calls.{mode_next}
 use Rattle.ocr_parts.specs.Parts.{Parts}
-use Rattle.ocr_parts.specs.Effects.{holding_core, with_face, with_core, with_phase, made_ready, awoken, acquired_edt, waiting_edt, started_edt, holding_edt, dropped_edt, ended_edt, next_on, granted, hold_ended, new_face, new_core, creating_core, dropping_core, acquiring_core, ended, acquired, waited, ready_at}
+use Rattle.ocr_parts.specs.Effects.{holding_core, awoken, acquired_edt, waiting_edt, started_edt, holding_edt, dropped_edt, ended_edt, granted, hold_ended, new_face, new_core, creating_core, dropping_core, acquiring_core, ended, acquired, waited}
+use Rattle.ocr_parts.specs.Progress.{with_face, with_core, with_phase, made_ready, next_on, ready_at}
 use Rattle.ocr_parts.specs.Kinds.{size_on, words_on, with_block, with_links, on_core, progress_in, core_progress, next_in, loan_on, IsBlock, is_running, is_acquiring, is_acquiring_edt, work_in, work_of, holds_of}
 use Rattle.ocr_parts.specs.LegalOn.{IsHeld, IsTaken, IsRefused, IsEnding}
 use Rattle.ocr_quiet.specs.Waits.{standing, is_gone_on, queue_on, held_in, rest_in, awaits_in, held_on, rest_on, awaits, IsHolding, IsOrdered, AreStanding, IsOnce}

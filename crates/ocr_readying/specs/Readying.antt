@@ -3,7 +3,8 @@ use Rattle.std.specs.Prelude.{◌≡◌, ◌≢◌, ℕ, List, Option, Some, Non
 use Rattle.ocr_parts.specs.declared.part.Core.{Core}
 use Rattle.ocr_parts.specs.declared.part.Part.{Part}
 use Rattle.ocr_parts.specs.declared.part.Part.TheVariants as part
-use Rattle.ocr_parts.specs.Effects.{started_edt, with_phase}
+use Rattle.ocr_parts.specs.Effects.{started_edt}
+use Rattle.ocr_parts.specs.Progress.{with_phase}
 use Rattle.ocr_parts.specs.Kinds.{is_acquiring_edt, next_in, progress_in}
 use Rattle.ocr_slots.specs.declared.Slot.{Slot}
 use Rattle.ocr_rule.specs.Sums.{find, replace}

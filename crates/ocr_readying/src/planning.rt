@@ -1,7 +1,7 @@
 // The block that an EDT acquires next, and its core made ready at hand, and started.
 ghost use Rattle.std.specs.Prelude.{◌≡◌, ◌+◌, length, Some, None, IfOk, OnOk, OnErr};
 ghost use Rattle.ocr_edt.specs.Phases.{first_of};
-ghost use Rattle.ocr_parts.specs.Effects.{made_ready};
+ghost use Rattle.ocr_parts.specs.Progress.{made_ready};
 ghost use Rattle.ocr_parts.specs.Kinds.{next_in, progress_in};
 ghost use Rattle.ocr_parts.specs.declared.part.Part.TheVariants as part;
 ghost use Rattle.ocr_standing.specs.Kept.{plan_from};

@@ -4,7 +4,7 @@ ghost use Rattle.ocr_acquire.specs.Plan.{IsWellFormed};
 ghost use Rattle.ocr_edt.specs.declared.Edt.TheVariants as phase;
 ghost use Rattle.ocr_edt.specs.declared.Identity.{Identity};
 ghost use Rattle.ocr_parts.specs.Calls.{asks_in, asks_of};
-ghost use Rattle.ocr_parts.specs.Effects.{made_ready};
+ghost use Rattle.ocr_parts.specs.Progress.{made_ready};
 ghost use Rattle.ocr_parts.specs.Kinds.{is_acquiring_edt, next_in, progress_in};
 ghost use Rattle.ocr_slots.specs.Slots.{slot_at};
 ghost use Rattle.ocr_standing.specs.Kept.{filled, plan_from};

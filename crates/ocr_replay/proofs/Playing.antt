@@ -34,7 +34,8 @@ use Rattle.ocr_meaning.specs.declared.call.Call.TheVariants as call
 use Rattle.ocr_meaning.specs.declared.call.Answer.{Answer}
 use Rattle.ocr_parts.specs.Bodies.{body_of, says_next, first_holds, hold_of}
 use Rattle.ocr_parts.specs.Calls.{edt_calls, loans_of, depv_of, plan_of}
-use Rattle.ocr_parts.specs.Effects.{with_phase, started_edt, made_ready}
+use Rattle.ocr_parts.specs.Effects.{started_edt}
+use Rattle.ocr_parts.specs.Progress.{with_phase, made_ready}
 use Rattle.ocr_parts.specs.Kinds.{is_running, is_acquiring, is_acquiring_edt, work_in, on_core, mode_on, kept_on, counted_on}
 use Rattle.ocr_parts.specs.Laws.{AfterLaw, CountedLaw}
 use Rattle.ocr_parts.specs.Legal.{IsRun, IsLegal, IsSaid, is_stop}

@@ -20,7 +20,8 @@ use Rattle.ocr_parts.specs.declared.part.Part.{Part}
 use Rattle.ocr_parts.specs.declared.part.Part.TheVariants as part
 use Rattle.ocr_parts.specs.Bodies.{body_with, first_holds, hold_of, holds_on}
 use Rattle.ocr_parts.specs.Calls.{block_calls, depv_in, edt_calls, event_calls, link_calls, loans_of, payloads_of, plan_of, slots_now, with_plan, scope_calls}
-use Rattle.ocr_parts.specs.Effects.{made_ready, ready_at, started_edt, with_phase}
+use Rattle.ocr_parts.specs.Effects.{started_edt}
+use Rattle.ocr_parts.specs.Progress.{made_ready, ready_at, with_phase}
 use Rattle.ocr_parts.specs.Kinds.{core_progress, holds_of, is_acquiring, is_acquiring_edt, kept_on, mode_on, on_core, progress_in, work_in, work_of}
 use Rattle.ocr_parts.specs.Legal.{IsLegal, IsRun}
 use Rattle.ocr_parts.specs.Parts.{Parts, core, face, parts_of, identity_of}

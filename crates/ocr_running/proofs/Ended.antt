@@ -16,7 +16,8 @@ use Rattle.ocr_edt.specs.declared.Identity.{Identity}
 use Rattle.ocr_parts.specs.declared.part.Part.{Part}
 use Rattle.ocr_parts.specs.declared.part.Part.TheVariants as part
 use Rattle.ocr_parts.specs.Footprint.{Covers, and_core}
-use Rattle.ocr_parts.specs.Effects.{changed, ended_edt, with_phase}
+use Rattle.ocr_parts.specs.Effects.{changed, ended_edt}
+use Rattle.ocr_parts.specs.Progress.{with_phase}
 use Rattle.ocr_parts.specs.Kinds.{holds_of, identity_on, work_of}
 use Rattle.ocr_parts.specs.Messages.{leave_some, payload_of_end, satisfy_some, sent_by_end}
 use Rattle.ocr_parts.specs.Taken.{face_in, is_within, parts_in}

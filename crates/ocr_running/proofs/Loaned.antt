@@ -8,7 +8,8 @@ use Rattle.ocr_parts.specs.declared.loans.Kept.{Kept}
 use Rattle.ocr_parts.specs.declared.part.Core.{Core}
 use Rattle.ocr_parts.specs.declared.part.Part.TheVariants as part
 use Rattle.ocr_parts.specs.Bodies.{hold_in, hold_of, writes_in}
-use Rattle.ocr_parts.specs.Effects.{core_with, settled_core}
+use Rattle.ocr_parts.specs.Effects.{settled_core}
+use Rattle.ocr_parts.specs.Progress.{core_with}
 use Rattle.ocr_parts.specs.Kinds.{mode_on}
 use Rattle.ocr_parts.specs.Loans.{kept_after, kept_in, loan_after, loan_in, settled_loan, settled_loans, with_loan}
 use Rattle.ocr_running.specs.Loans.{IsListed, core_after, is_apart}

@@ -8,7 +8,7 @@ use Rattle.ocr_history.specs.declared.entry.Entry.{Entry}
 use Rattle.ocr_parts.specs.declared.part.Core.{Core}
 use Rattle.ocr_parts.specs.declared.part.Part.{Part}
 use Rattle.ocr_parts.specs.declared.part.Part.TheVariants as part
-use Rattle.ocr_parts.specs.Effects.{with_core}
+use Rattle.ocr_parts.specs.Progress.{with_core}
 use Rattle.ocr_parts.specs.Kinds.{is_block, on_core}
 use Rattle.ocr_parts.specs.Messages.{payload_of_end}
 use Rattle.ocr_parts.specs.Parts.{Parts}

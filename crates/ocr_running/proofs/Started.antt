@@ -17,7 +17,8 @@ use Rattle.ocr_history.specs.declared.entry.Entry.TheVariants.{Start}
 use Rattle.ocr_parts.specs.declared.part.Core.{Core}
 use Rattle.ocr_parts.specs.declared.part.Part.{Part}
 use Rattle.ocr_parts.specs.declared.part.Part.TheVariants as part
-use Rattle.ocr_parts.specs.Effects.{changed, made_ready, ready_at, settled_core, started_edt, with_phase}
+use Rattle.ocr_parts.specs.Effects.{changed, settled_core, started_edt}
+use Rattle.ocr_parts.specs.Progress.{made_ready, ready_at, with_phase}
 use Rattle.ocr_parts.specs.Footprint.{and_core}
 use Rattle.ocr_parts.specs.Kinds.{is_acquiring_edt, is_running, on_core}
 use Rattle.ocr_parts.specs.Parts.{Parts}

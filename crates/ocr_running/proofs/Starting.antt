@@ -15,7 +15,8 @@ use Rattle.ocr_history.specs.History.{History}
 use Rattle.ocr_parts.specs.declared.part.Core.{Core}
 use Rattle.ocr_parts.specs.declared.part.Part.{Part}
 use Rattle.ocr_parts.specs.declared.part.Part.TheVariants as part
-use Rattle.ocr_parts.specs.Effects.{made_ready, ready_at, settled_core, with_phase}
+use Rattle.ocr_parts.specs.Effects.{settled_core}
+use Rattle.ocr_parts.specs.Progress.{made_ready, ready_at, with_phase}
 use Rattle.ocr_parts.specs.Footprint.{Covers}
 use Rattle.ocr_parts.specs.Kinds.{is_acquiring_edt, next_in, progress_in}
 use Rattle.ocr_parts.specs.LegalOn.{IsLegalOn}

@@ -4,7 +4,7 @@ use Rattle.ocr_acquire.specs.declared.Mode.{Mode}
 use Rattle.ocr_datablock.specs.Lent.{Loan}
 use Rattle.ocr_meaning.specs.Holds.{is_isolated}
 use Rattle.ocr_parts.specs.declared.part.Core.{Core}
-use Rattle.ocr_parts.specs.Effects.{core_with}
+use Rattle.ocr_parts.specs.Progress.{core_with}
 use Rattle.ocr_parts.specs.Loans.{with_loan}
 
 -- the core with the loan of a block after a step

@@ -12,7 +12,8 @@ use Rattle.ocr_history.specs.declared.entry.Entry.{Entry}
 use Rattle.ocr_parts.specs.declared.part.Core.{Core}
 use Rattle.ocr_parts.specs.declared.part.Part.{Part}
 use Rattle.ocr_parts.specs.declared.part.Part.TheVariants as part
-use Rattle.ocr_parts.specs.Effects.{settled_core, started_edt, with_phase}
+use Rattle.ocr_parts.specs.Effects.{settled_core, started_edt}
+use Rattle.ocr_parts.specs.Progress.{with_phase}
 use Rattle.ocr_parts.specs.Footprint.{makes_core}
 use Rattle.ocr_parts.specs.Kinds.{holds_of, is_running, work_of}
 use Rattle.ocr_parts.specs.Taken.{is_within, look}

@@ -3,7 +3,8 @@ ghost use Rattle.std.specs.Prelude.{◌≡◌, ◌∷◌, [], ℕ, List, Option,
 ghost use Rattle.ocr_parts.specs.declared.part.Core.{Core};
 ghost use Rattle.ocr_parts.specs.declared.part.Part.{Part};
 ghost use Rattle.ocr_parts.specs.declared.part.Part.TheVariants as part;
-ghost use Rattle.ocr_parts.specs.Effects.{ended_edt, with_phase};
+ghost use Rattle.ocr_parts.specs.Effects.{ended_edt};
+ghost use Rattle.ocr_parts.specs.Progress.{with_phase};
 ghost use Rattle.ocr_parts.specs.Kinds.{holds_of, identity_on, is_running, work_of};
 ghost use Rattle.ocr_running.specs.Running.{StepsFirst};
 

@@ -35,7 +35,8 @@ use Rattle.ocr_parts.specs.Parts.{Parts, new_identity}
 use Rattle.ocr_finish.specs.Scope as scope
 use Rattle.ocr_parts.proofs.Beside.{joined_keeps, beside_keeps, edt_free}
 use Rattle.ocr_parts.specs.Kinds.{IsBlock, home_on, with_scope, with_block, with_event, size_on, words_on, on_core, progress_in, core_progress, next_in, work_in, work_of, is_running, holds_of, kept_on, loan_on}
-use Rattle.ocr_parts.specs.Effects.{with_beside, new_scope, new_output, joined, with_face, with_core, with_phase, made_ready, awoken, acquired_edt, waiting_edt, started_edt, holding_edt, dropped_edt, ended_edt, holding_core, creating_core, dropping_core, acquiring_core, next_on, next_mode_on, asked_if, granted, returned, hold_ended, new_face, new_core, ended, linked_if, deps_linked, called, brought, acquired, waited, changed, ready_at, stale_edt}
+use Rattle.ocr_parts.specs.Effects.{with_beside, new_scope, new_output, joined, awoken, acquired_edt, waiting_edt, started_edt, holding_edt, dropped_edt, ended_edt, holding_core, creating_core, dropping_core, acquiring_core, asked_if, granted, returned, hold_ended, new_face, new_core, ended, deps_linked, called, brought, acquired, waited, changed, stale_edt}
+use Rattle.ocr_parts.specs.Progress.{with_face, with_core, with_phase, made_ready, next_on, next_mode_on, linked_if, ready_at}
 use Rattle.ocr_parts.specs.LegalOn.{IsLoanBack, IsEnding, IsGranted, IsTaken, IsCallOn, IsLegalOn, IsDooming}
 use Rattle.ocr_parts.proofs.Lent.{loan_kept}
 use Rattle.ocr_quiet.proofs.Standing.{in_front, push_own}

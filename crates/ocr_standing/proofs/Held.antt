@@ -21,7 +21,7 @@ use Rattle.ocr_parts.specs.declared.part.Part.TheVariants as part
 use Rattle.ocr_parts.specs.Calls.{plan_of, link_calls, block_calls, edt_calls, loans_of, event_calls, scope_calls}
 use Rattle.ocr_parts.specs.Parts.{Parts, plain_identity, identity_of, face, core, parts_of}
 use Rattle.ocr_parts.specs.Kinds.{IsBlock, is_held_by, on_core, work_in, work_of, is_running, holds_of, mode_on, kept_on, loan_on}
-use Rattle.ocr_parts.specs.Effects.{with_phase, made_ready, ready_at, readied_on}
+use Rattle.ocr_parts.specs.Progress.{with_phase, made_ready, ready_at, readied_on}
 use Rattle.ocr_parts.specs.LegalOn.{IsLoanBack, IsHeld}
 use Rattle.ocr_parts.specs.Legal.{IsRun}
 use Rattle.ocr_edt.specs.declared.Identity.{Identity}

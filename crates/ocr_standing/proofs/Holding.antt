@@ -15,7 +15,8 @@ use Rattle.ocr_parts.specs.Parts.{Parts}
 use Rattle.ocr_finish.specs.Scope as scope
 use Rattle.ocr_parts.specs.Kinds.{IsBlock, with_block, with_links, kept_on, with_template, with_event, with_scope}
 use Rattle.ocr_any_event.specs.declared.AnyEvent.{AnyEvent}
-use Rattle.ocr_parts.specs.Effects.{with_face, with_core, doomed_template}
+use Rattle.ocr_parts.specs.Effects.{doomed_template}
+use Rattle.ocr_parts.specs.Progress.{with_face, with_core}
 use Rattle.ocr_quiet.specs.Waits.{held_on}
 use Rattle.ocr_standing.specs.Held.{IsLoanKept, IsKeptWith, IsHeldSo, loans_on, AreKeptOnce, AreHeld}
 

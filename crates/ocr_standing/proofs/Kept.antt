@@ -12,7 +12,8 @@ use Rattle.ocr_parts.specs.Calls.{plan_of}
 use Rattle.ocr_parts.specs.Parts.{Parts, parts_of}
 use Rattle.ocr_parts.specs.Taken.{look, has, keys, parts_in, as_face, as_core, is_within, IsWithin, ArePartsOf}
 use Rattle.ocr_parts.specs.Kinds.{on_core, is_running, is_acquiring}
-use Rattle.ocr_parts.specs.Effects.{changed, readied, readied_on, ready_at, with_phase, made_ready, settled, settled_parts}
+use Rattle.ocr_parts.specs.Effects.{changed, settled, settled_parts}
+use Rattle.ocr_parts.specs.Progress.{readied, readied_on, ready_at, with_phase, made_ready}
 use Rattle.ocr_parts.specs.LegalOn.{IsLegalOn}
 use Rattle.ocr_parts.specs.Legal.{IsRun}
 use Rattle.ocr_parts.specs.Footprint.{on_face, on_core_of, is_touched, Covers, IsAlike}

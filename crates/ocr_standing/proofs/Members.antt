@@ -29,7 +29,7 @@ use Rattle.ocr_parts.specs.declared.part.Part.{Part}
 use Rattle.ocr_parts.specs.declared.part.Part.TheVariants as part
 use Rattle.ocr_parts.specs.Calls.{is_given, is_object, slot_target, target_of, edt_calls, loans_of, leave_step, scope_calls}
 use Rattle.ocr_parts.specs.Parts.{Parts, core, home_of_new, new_identity, identity_of, parts_of}
-use Rattle.ocr_parts.specs.Effects.{linked_if}
+use Rattle.ocr_parts.specs.Progress.{linked_if}
 use Rattle.ocr_parts.specs.Kinds.{is_edt_face, identity_on, is_running}
 use Rattle.ocr_parts.specs.Messages.{what_to, carried_by, satisfied, linked, linked_by, dep_sends, satisfy_some, leave_some, sent_by_leave, sent_by_message, payload_of_end, sent_if_done, sent_by_end, sends, pending}
 use Rattle.ocr_parts.specs.LegalOn.{IsFresh, IsBeside, HasMember, IsDeliverOn, IsCallOn, IsEndOn}

@@ -20,7 +20,7 @@ use Rattle.ocr_parts.specs.Calls.{open_slots, slots_now, plan_of, edt_step, edt_
 use Rattle.ocr_parts.specs.Parts.{parts_of}
 use Rattle.ocr_parts.specs.Kinds.{work_in, is_running, is_acquiring_edt, is_acquiring, next_in, progress_in, core_progress}
 use Rattle.ocr_parts.specs.Bodies.{first_holds, body_with, holds_on}
-use Rattle.ocr_parts.specs.Effects.{ready_at, next_on}
+use Rattle.ocr_parts.specs.Progress.{ready_at, next_on}
 use Rattle.ocr_parts.specs.Legal.{IsRun, IsLegal}
 use Rattle.ocr_quiet.specs.Marks.{stage_in, mark_in, mark}
 use Rattle.ocr_quiet.proofs.Choices.{off_from, or_right}

@@ -20,7 +20,7 @@ use Rattle.ocr_parts.specs.declared.part.Part.TheVariants as part
 use Rattle.ocr_parts.specs.Calls.{asks_in, slots_now, plan_of, with_plan, edt_calls, loans_of, link_calls, block_calls, event_calls, mode_next, next_member, open_slots, scope_calls}
 use Rattle.ocr_parts.specs.Parts.{Parts, face, core, identity_of, parts_of}
 use Rattle.ocr_parts.specs.Kinds.{IsBlock, is_block, on_core, progress_in, core_progress, next_in, is_acquiring, is_acquiring_edt}
-use Rattle.ocr_parts.specs.Effects.{with_phase, made_ready, ready_at, next_on, next_mode_on}
+use Rattle.ocr_parts.specs.Progress.{with_phase, made_ready, ready_at, next_on, next_mode_on}
 use Rattle.ocr_parts.specs.LegalOn.{IsTaken, IsRefused}
 use Rattle.ocr_parts.specs.Legal.{IsRun, IsLegal, IsOnParts}
 use Rattle.ocr_parts.proofs.Lent.{ready_core}

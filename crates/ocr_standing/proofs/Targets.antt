@@ -32,7 +32,8 @@ use Rattle.ocr_parts.specs.declared.part.Part.TheVariants as part
 use Rattle.ocr_parts.specs.Calls.{mode_named, is_given, is_object, slot_target, target_of, link_calls, block_calls, event_calls, scope_calls}
 use Rattle.ocr_parts.specs.Parts.{Parts, new_identity, face, parts_of}
 use Rattle.ocr_parts.specs.Kinds.{with_block, with_links, with_template, with_event, with_scope, is_event, is_edt_face, identity_on, home_on}
-use Rattle.ocr_parts.specs.Effects.{with_face, with_core, with_named, with_beside, new_scope, new_output, joins, joined, linked_if, deps_linked, called, brought, changed, readied_on, new_face, new_core}
+use Rattle.ocr_parts.specs.Effects.{with_named, with_beside, new_scope, new_output, joins, joined, deps_linked, called, brought, changed, new_face, new_core}
+use Rattle.ocr_parts.specs.Progress.{with_face, with_core, linked_if, readied_on}
 use Rattle.ocr_parts.specs.Messages.{what_to, carried_by, satisfied, linked, linked_by, dep_sends, sent_by, satisfy_some, leave_some, sent_if_done, sent_by_leave, sent_by_message, payload_of_end, sent_by_end, sends}
 use Rattle.ocr_parts.specs.LegalOn.{IsCallOn, IsLegalOn, last_of}
 use Rattle.ocr_parts.specs.Legal.{IsRun, IsLegal, IsOnParts}

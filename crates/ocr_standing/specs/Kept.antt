@@ -12,7 +12,8 @@ use Rattle.ocr_parts.specs.Calls.{asks_in, payload_of, payloads_of, open_slots, 
 use Rattle.ocr_parts.specs.Parts.{Parts, parts_of}
 use Rattle.ocr_parts.specs.Taken.{keys, parts_in, place_of, ArePartsOf}
 use Rattle.ocr_parts.specs.Footprint.{is_touched, Covers}
-use Rattle.ocr_parts.specs.Effects.{changed, readied, edt_in}
+use Rattle.ocr_parts.specs.Effects.{changed}
+use Rattle.ocr_parts.specs.Progress.{readied, edt_in}
 use Rattle.ocr_parts.specs.LegalOn.{IsLegalOn}
 use Rattle.ocr_parts.specs.Legal.{IsOnParts, IsRun, IsLegal}
 use Rattle.ocr_parts.specs.Runs.{IsWaking}

@@ -16,7 +16,7 @@ use Rattle.ocr_parts.specs.declared.part.Part.TheVariants as part
 use Rattle.ocr_parts.specs.Calls.{open_slots, plan_of, edt_calls}
 use Rattle.ocr_parts.specs.Parts.{parts_of}
 use Rattle.ocr_parts.specs.Kinds.{IsBlock, is_block, is_held_by, work_of, is_running, holds_of, mode_on}
-use Rattle.ocr_parts.specs.Effects.{ready_at, next_on}
+use Rattle.ocr_parts.specs.Progress.{ready_at, next_on}
 use Rattle.ocr_parts.specs.Bodies.{holds_on}
 use Rattle.ocr_parts.specs.LegalOn.{IsFreeOn, IsDooming, IsShared}
 use Rattle.ocr_parts.specs.Legal.{IsRun, IsLegal}

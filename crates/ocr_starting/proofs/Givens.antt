@@ -15,7 +15,8 @@ use Rattle.ocr_parts.specs.declared.part.Part.{Part}
 use Rattle.ocr_parts.specs.declared.part.Part.TheVariants as part
 use Rattle.ocr_parts.specs.Bodies.{body_with, hold_of}
 use Rattle.ocr_parts.specs.Calls.{depv_in}
-use Rattle.ocr_parts.specs.Effects.{made_ready, settled_core, started_edt, with_phase}
+use Rattle.ocr_parts.specs.Effects.{settled_core, started_edt}
+use Rattle.ocr_parts.specs.Progress.{made_ready, with_phase}
 use Rattle.ocr_parts.specs.Kinds.{core_progress, holds_of, is_acquiring_edt, is_running, progress_in, work_in}
 use Rattle.ocr_parts.specs.Loans.{kept_in, settled_loans}
 use Rattle.ocr_standing.specs.Kept.{filled, plan_from}

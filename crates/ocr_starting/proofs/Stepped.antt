@@ -7,7 +7,8 @@ use Rattle.ocr_parts.specs.declared.loans.Kept.{Kept}
 use Rattle.ocr_parts.specs.declared.part.Core.{Core}
 use Rattle.ocr_parts.specs.declared.part.Part.{Part}
 use Rattle.ocr_parts.specs.declared.part.Part.TheVariants as part
-use Rattle.ocr_parts.specs.Effects.{core_with, settled_core}
+use Rattle.ocr_parts.specs.Effects.{settled_core}
+use Rattle.ocr_parts.specs.Progress.{core_with}
 use Rattle.ocr_parts.specs.Loans.{settled_loan, settled_loans}
 use Rattle.ocr_datablock.specs.Lent.{Loan}
 use Rattle.ocr_rule.specs.Contract.{SameRoom}

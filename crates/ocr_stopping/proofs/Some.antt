@@ -13,7 +13,7 @@ use Rattle.ocr_history.specs.History.{History, Setting}
 use Rattle.ocr_parts.specs.declared.part.Part.{Part}
 use Rattle.ocr_parts.specs.declared.part.Part.TheVariants as part
 use Rattle.ocr_parts.specs.Calls.{plan_of}
-use Rattle.ocr_parts.specs.Effects.{ready_at, with_phase, made_ready, next_on}
+use Rattle.ocr_parts.specs.Progress.{ready_at, with_phase, made_ready, next_on}
 use Rattle.ocr_parts.specs.Kinds.{on_core, core_progress, next_in, is_acquiring}
 use Rattle.ocr_parts.specs.Legal.{IsRun, IsLegal, faulted}
 use Rattle.ocr_parts.specs.Messages.{pending}

@@ -23,7 +23,8 @@ use Rattle.ocr_parts.specs.declared.part.Core.{Core}
 use Rattle.ocr_parts.specs.declared.part.Part.{Part}
 use Rattle.ocr_parts.specs.declared.part.Part.TheVariants as part
 use Rattle.ocr_parts.specs.Calls.{link_calls, set_calls, set_step, depc_of, open_slots, payload_or_null, payloads_of, depv_of, depv_in, value_of_slot, edt_calls, loans_of, slots_now, plan_of, asks_in}
-use Rattle.ocr_parts.specs.Effects.{changed, readied, readied_on, edt_in, ready_at, with_core, with_phase, made_ready, next_on}
+use Rattle.ocr_parts.specs.Effects.{changed}
+use Rattle.ocr_parts.specs.Progress.{readied, readied_on, edt_in, ready_at, with_core, with_phase, made_ready, next_on}
 use Rattle.ocr_parts.specs.Kinds.{on_core, core_progress, next_in, is_running}
 use Rattle.ocr_parts.specs.Laws.{AfterLaw}
 use Rattle.ocr_parts.specs.LegalOn.{IsLegalOn}

@@ -6,7 +6,7 @@ ghost use Rattle.ocr_edt.specs.Phases.{first_of, is_named};
 ghost use Rattle.ocr_slots.specs.Slots.{payload_of, slot_at};
 ghost use Rattle.ocr_history.specs.History.{Setting, History};
 ghost use Rattle.ocr_parts.specs.Calls.{open_slots, payloads_of, plan_of, asks_in, depv_of, depv_in, value_of_slot, mode_or_null};
-ghost use Rattle.ocr_parts.specs.Effects.{edt_in, readied, ready_at, made_ready, with_phase, next_on};
+ghost use Rattle.ocr_parts.specs.Progress.{edt_in, readied, ready_at, made_ready, with_phase, next_on};
 ghost use Rattle.ocr_parts.specs.Kinds.{on_core, core_progress, next_in, is_running};
 ghost use Rattle.ocr_parts.specs.Parts.{parts_of};
 ghost use Rattle.ocr_parts.specs.declared.part.Part.TheVariants as part;

@@ -17,7 +17,7 @@ use Rattle.ocr_parts.specs.declared.part.Core.{Core}
 use Rattle.ocr_parts.specs.declared.part.Part.{Part}
 use Rattle.ocr_parts.specs.declared.part.Part.TheVariants as part
 use Rattle.ocr_parts.specs.Calls.{mode_next}
-use Rattle.ocr_parts.specs.Effects.{next_on, ready_at}
+use Rattle.ocr_parts.specs.Progress.{next_on, ready_at}
 use Rattle.ocr_parts.specs.Footprint.{Covers, on_core_of, on_face}
 use Rattle.ocr_parts.specs.Kinds.{IsBlock, core_progress, is_acquiring, is_acquiring_edt, next_in, progress_in}
 use Rattle.ocr_parts.specs.LegalOn.{IsRefused, IsTaken}

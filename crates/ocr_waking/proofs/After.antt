@@ -8,7 +8,8 @@ use Rattle.ocr_history.specs.declared.entry.Entry.TheVariants.{Acquire, StaleAcq
 use Rattle.ocr_parts.specs.declared.part.Core.{Core}
 use Rattle.ocr_parts.specs.declared.part.Part.{Part}
 use Rattle.ocr_parts.specs.declared.part.Part.TheVariants as part
-use Rattle.ocr_parts.specs.Effects.{acquired_edt, acquiring_core, awoken, changed, next_mode_on, ready_at, stale_edt, with_phase}
+use Rattle.ocr_parts.specs.Effects.{acquired_edt, acquiring_core, awoken, changed, stale_edt}
+use Rattle.ocr_parts.specs.Progress.{next_mode_on, ready_at, with_phase}
 use Rattle.ocr_parts.specs.Kinds.{size_on, words_on}
 use Rattle.ocr_parts.specs.Parts.{Parts}
 use Rattle.ocr_parts.specs.Taken.{as_core, parts_in}

@@ -14,7 +14,8 @@ use Rattle.ocr_parts.specs.declared.part.Core.{Core}
 use Rattle.ocr_parts.specs.declared.part.Part.{Part}
 use Rattle.ocr_parts.specs.declared.part.Part.TheVariants as part
 use Rattle.ocr_parts.specs.Calls.{plan_of}
-use Rattle.ocr_parts.specs.Effects.{made_ready, next_on, ready_at, settled, with_phase}
+use Rattle.ocr_parts.specs.Effects.{settled}
+use Rattle.ocr_parts.specs.Progress.{made_ready, next_on, ready_at, with_phase}
 use Rattle.ocr_parts.specs.Kinds.{core_progress, is_acquiring_edt, next_in, on_core, progress_in}
 use Rattle.ocr_parts.specs.Parts.{parts_of}
 use Rattle.ocr_parts.specs.Taken.{is_within}

@@ -16,7 +16,8 @@ use Rattle.ocr_history.specs.declared.entry.Entry.TheVariants.{Wait}
 use Rattle.ocr_parts.specs.declared.part.Part.{Part}
 use Rattle.ocr_parts.specs.declared.part.Part.TheVariants as part
 use Rattle.ocr_parts.specs.Calls.{mode_next}
-use Rattle.ocr_parts.specs.Effects.{changed, next_mode_on, ready_at}
+use Rattle.ocr_parts.specs.Effects.{changed}
+use Rattle.ocr_parts.specs.Progress.{next_mode_on, ready_at}
 use Rattle.ocr_parts.specs.Kinds.{core_progress, next_in, with_block}
 use Rattle.ocr_parts.specs.LegalOn.{IsRefused}
 use Rattle.ocr_parts.specs.Parts.{Parts}

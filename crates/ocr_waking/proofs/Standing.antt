@@ -16,7 +16,8 @@ use Rattle.ocr_parts.specs.declared.part.Core.{Core}
 use Rattle.ocr_parts.specs.declared.part.Part.{Part}
 use Rattle.ocr_parts.specs.declared.part.Part.TheVariants as part
 use Rattle.ocr_parts.specs.Calls.{block_calls, event_calls, link_calls, open_slots, plan_of, scope_calls}
-use Rattle.ocr_parts.specs.Effects.{made_ready, next_mode_on, next_on, ready_at, settled_core, with_phase}
+use Rattle.ocr_parts.specs.Effects.{settled_core}
+use Rattle.ocr_parts.specs.Progress.{made_ready, next_mode_on, next_on, ready_at, with_phase}
 use Rattle.ocr_parts.specs.Kinds.{IsBlock, core_progress, is_acquiring, next_in, on_core}
 use Rattle.ocr_parts.specs.LegalOn.{IsAcquireOn, IsRefused, IsStaleOn, IsTaken, IsWaitOn}
 use Rattle.ocr_parts.specs.Legal.{IsLegal, IsRun}

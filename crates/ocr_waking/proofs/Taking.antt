@@ -8,7 +8,7 @@ use Rattle.ocr_edt.specs.declared.Edt.{Edt}
 use Rattle.ocr_edt.specs.declared.Edt.TheVariants as phase
 use Rattle.ocr_edt.specs.Phases.{Progress, next_of}
 use Rattle.ocr_parts.specs.declared.part.Core.{Core}
-use Rattle.ocr_parts.specs.Effects.{made_ready}
+use Rattle.ocr_parts.specs.Progress.{made_ready}
 use Rattle.ocr_parts.specs.Kinds.{next_in, progress_in}
 use Rattle.ocr_quiet.specs.Waits.{awaits_in}
 use Rattle.ocr_standing.specs.Kept.{plan_from}

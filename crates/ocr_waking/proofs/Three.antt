@@ -10,7 +10,7 @@ use Rattle.ocr_history.specs.Numbers.{placed}
 use Rattle.ocr_parts.specs.declared.part.Core.{Core}
 use Rattle.ocr_parts.specs.declared.part.Part.{Part}
 use Rattle.ocr_parts.specs.declared.part.Part.TheVariants as part
-use Rattle.ocr_parts.specs.Effects.{made_ready, ready_at, with_phase}
+use Rattle.ocr_parts.specs.Progress.{made_ready, ready_at, with_phase}
 use Rattle.ocr_parts.specs.Footprint.{and_core, and_face}
 use Rattle.ocr_parts.specs.Kinds.{on_core}
 use Rattle.ocr_parts.specs.Taken.{as_face, core_in, face_in, has, is_within, look, parts_in}

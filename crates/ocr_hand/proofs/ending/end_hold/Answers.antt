@@ -1,7 +1,8 @@
 use Rattle.std.proofs.Common.{◌∙◌, sym, ap, subst, Option}
 use Rattle.ocr_datablock.specs.Lent.{Loan}
 use Rattle.ocr_datablock.specs.Steps.{after_release}
-use Rattle.ocr_parts.specs.Effects.{with_face, with_core, dropping_core, hold_ended}
+use Rattle.ocr_parts.specs.Effects.{dropping_core, hold_ended}
+use Rattle.ocr_parts.specs.Progress.{with_face, with_core}
 use Rattle.ocr_parts.specs.Kinds.{IsBlock, with_block, on_core}
 use Rattle.ocr_parts.specs.Messages.{resumed_by}
 use Rattle.ocr_parts.specs.Parts.{Parts}

@@ -1,7 +1,8 @@
 use Rattle.std.proofs.Common.{◌≡◌, ◌+◌, ◌∷◌, ◌++◌, ℕ, List, drop, slice_index, Bool, true, false, ap, sym, ◌∙◌, arith}
 use Rattle.std.proofs.lemmas.Grind.{common_steps}
 use Rattle.ocr_parts.specs.Calls.{is_given, slot_target}
-use Rattle.ocr_parts.specs.Effects.{deps_linked, linked_if}
+use Rattle.ocr_parts.specs.Effects.{deps_linked}
+use Rattle.ocr_parts.specs.Progress.{linked_if}
 use Rattle.ocr_parts.specs.Messages.{dep_sends, linked_by}
 use Rattle.ocr_parts.specs.Parts.{Parts}
 use Rattle.ocr_hand.specs.AtHand.{state}

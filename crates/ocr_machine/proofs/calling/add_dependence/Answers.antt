@@ -3,7 +3,7 @@ use Rattle.std.proofs.lemmas.Grind.{common_steps}
 use Rattle.ocr_slots.specs.declared.Slot.{Slot}
 use Rattle.ocr_slots.specs.Steps.{after_link}
 use Rattle.ocr_parts.specs.Calls.{mode_named, target_of}
-use Rattle.ocr_parts.specs.Effects.{with_face, linked_if}
+use Rattle.ocr_parts.specs.Progress.{with_face, linked_if}
 use Rattle.ocr_parts.specs.Kinds.{is_edt_face, with_links}
 use Rattle.ocr_parts.specs.Messages.{linked_by}
 use Rattle.ocr_parts.specs.Parts.{Parts}

@@ -1,7 +1,8 @@
 use Rattle.std.proofs.Common.{ap, refl, ◌/◌}
 use Rattle.ocr_datablock.specs.Block.{State}
 use Rattle.ocr_parts.specs.declared.part.Part.TheVariants as part
-use Rattle.ocr_parts.specs.Effects.{with_face, with_core, creating_core}
+use Rattle.ocr_parts.specs.Effects.{creating_core}
+use Rattle.ocr_parts.specs.Progress.{with_face, with_core}
 use Rattle.ocr_parts.specs.Kinds.{on_core}
 use Rattle.ocr_parts.specs.Parts.{Parts}
 use Rattle.ocr_hand.specs.AtHand.{state}

@@ -1,6 +1,7 @@
 use Rattle.std.proofs.Common.{ap, sym, ◌∙◌, ℕ, List}
 use Rattle.ocr_edt.specs.declared.Identity.{Identity}
-use Rattle.ocr_parts.specs.Effects.{with_face, with_core, with_beside, new_face, new_core, deps_linked}
+use Rattle.ocr_parts.specs.Effects.{with_beside, new_face, new_core, deps_linked}
+use Rattle.ocr_parts.specs.Progress.{with_face, with_core}
 use Rattle.ocr_parts.specs.Messages.{dep_sends}
 use Rattle.ocr_parts.specs.Parts.{Parts, new_identity}
 use Rattle.ocr_parts.specs.declared.part.Part.{Part}

@@ -3,7 +3,8 @@ use Rattle.ocr_edt.specs.declared.Edt.{Edt}
 use Rattle.ocr_edt.specs.declared.Edt.TheVariants as phase
 use Rattle.ocr_parts.specs.declared.loans.Kept.{Kept}
 use Rattle.ocr_parts.specs.declared.part.Core.{Core}
-use Rattle.ocr_parts.specs.Effects.{core_with, acquiring_core, acquired_edt, awoken}
+use Rattle.ocr_parts.specs.Effects.{acquiring_core, acquired_edt, awoken}
+use Rattle.ocr_parts.specs.Progress.{core_with}
 use Rattle.ocr_parts.specs.Kinds.{progress_in}
 use Rattle.ocr_parts.specs.Loans.{kept_of, with_kept}
 use Rattle.ocr_hand.proofs.Places.{core_step, phase_put}

@@ -1,6 +1,7 @@
 use Rattle.std.proofs.Common.{ap, ◌∙◌, is_some}
 use Rattle.ocr_acquire.specs.declared.Mode.{Mode}
-use Rattle.ocr_parts.specs.Effects.{with_face, with_core, acquiring_core, granted, next_on}
+use Rattle.ocr_parts.specs.Effects.{acquiring_core, granted}
+use Rattle.ocr_parts.specs.Progress.{with_face, with_core, next_on}
 use Rattle.ocr_parts.specs.Kinds.{with_block, on_core, size_on, words_on}
 use Rattle.ocr_parts.specs.Parts.{Parts}
 use Rattle.ocr_hand.specs.AtHand.{state}

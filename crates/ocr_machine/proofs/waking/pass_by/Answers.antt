@@ -2,7 +2,8 @@ use Rattle.std.proofs.Common.{◌≡◌, sym, ◌∙◌, ap}
 use Rattle.ocr_edt.specs.declared.Edt.{Edt}
 use Rattle.ocr_edt.specs.declared.Edt.TheVariants as phase
 use Rattle.ocr_parts.specs.Kinds.{progress_in}
-use Rattle.ocr_parts.specs.Effects.{core_with, with_phase, stale_edt, awoken}
+use Rattle.ocr_parts.specs.Effects.{stale_edt, awoken}
+use Rattle.ocr_parts.specs.Progress.{core_with, with_phase}
 use Rattle.ocr_hand.proofs.Places.{core_step, phase_put}
 use Rattle.ocr_hand.proofs.Steps.{awake_passes}
 use Rattle.ocr_machine.proofs.waking.pass_by.Goals as goal

@@ -1,7 +1,8 @@
 use Rattle.std.proofs.Common.{◌≡◌, ◌∙◌, ap, refl}
 use Rattle.ocr_edt.specs.declared.Edt.{Edt}
 use Rattle.ocr_edt.specs.declared.Edt.TheVariants as phase
-use Rattle.ocr_parts.specs.Effects.{core_with, with_phase, started_edt}
+use Rattle.ocr_parts.specs.Effects.{started_edt}
+use Rattle.ocr_parts.specs.Progress.{core_with, with_phase}
 use Rattle.ocr_hand.proofs.Places.{core_step, phase_put}
 use Rattle.ocr_machine.proofs.waking.start_core.Goals as goal
 

@@ -2,7 +2,8 @@ use Rattle.std.proofs.Common.{ap, ◌∙◌, is_some}
 use Rattle.ocr_acquire.specs.declared.Mode.{Mode}
 use Rattle.ocr_datablock.specs.Block.{State}
 use Rattle.ocr_datablock.specs.Steps.{after_ask}
-use Rattle.ocr_parts.specs.Effects.{with_face, with_core, with_phase, waiting_edt, next_on}
+use Rattle.ocr_parts.specs.Effects.{waiting_edt}
+use Rattle.ocr_parts.specs.Progress.{with_face, with_core, with_phase, next_on}
 use Rattle.ocr_parts.specs.Kinds.{with_block, on_core, is_acquiring}
 use Rattle.ocr_parts.specs.Parts.{Parts}
 use Rattle.ocr_hand.specs.AtHand.{state}

@@ -1,6 +1,6 @@
 use Rattle.std.proofs.Common.{◌+◌, ◌∙◌, ℕ, ap, sym}
 use Rattle.ocr_parts.specs.declared.part.Part.TheVariants as part
-use Rattle.ocr_parts.specs.Effects.{made_ready}
+use Rattle.ocr_parts.specs.Progress.{made_ready}
 use Rattle.ocr_parts.specs.Kinds.{next_in, progress_in}
 use Rattle.ocr_standing.specs.Kept.{plan_from}
 use Rattle.ocr_rule.specs.Sums.{find}

@@ -1,5 +1,5 @@
 use Rattle.std.proofs.Common.{◌≡◌, ◌<◌, ◌+◌, ℕ, length, true, sym, ◌∙◌}
-use Rattle.ocr_parts.specs.Effects.{with_phase, made_ready}
+use Rattle.ocr_parts.specs.Progress.{with_phase, made_ready}
 use Rattle.ocr_parts.specs.Kinds.{on_core}
 use Rattle.ocr_parts.specs.Taken.{is_within}
 use Rattle.ocr_parts.specs.declared.part.Part.TheVariants as part
