@@ -7,7 +7,7 @@ use Rattle.std.proofs.lemmas.List.Elements.{All-head, All-tail, All-set, All-get
 use Rattle.std.proofs.lemmas.List.Quantifiers.{position-Some}
 use Rattle.ocr_datablock.specs.Lent.{Loan}
 use Rattle.ocr_base.specs.Count.{Rose}
-use Rattle.ocr_body.specs.Serving.{IsAccessed, IsAccessStop}
+use Rattle.ocr_api.specs.Serving.{IsAccessed, IsAccessStop}
 use Rattle.ocr_meaning.specs.Behaviour.{Asked}
 use Rattle.ocr_meaning.specs.Holds.{Access, Hold, Holds, Silent, Entered, load_of, store_of, after_store, with_hold, with_write, is_isolated}
 use Rattle.ocr_meaning.specs.declared.call.BodyStop.{BodyStop}

@@ -2,7 +2,8 @@
 // entries: its run is closed to all other calls.
 ghost use Rattle.std.specs.Prelude.{◌≡◌, ◌==◌, position};
 
-use ocr_body::{Answer, Api, BodyStop, Call, Checked};
+use ocr_api::Api;
+use ocr_body::{Answer, BodyStop, Call, Checked};
 use ocr_datablock::Lent;
 use ocr_guid::Guid;
 use ocr_tests_body::{load_lent, raised, store_lent};

@@ -10,8 +10,9 @@ ghost use Rattle.ocr_bench_body.specs.Lending.{AreIsolated, IsBegun};
 
 use lending::{Held, Lending};
 use ocr_acquire::Mode;
+use ocr_api::Api;
 use ocr_base::NoMemory;
-use ocr_body::{Api, BodyStop, Checked, walk};
+use ocr_body::{BodyStop, Checked, walk};
 use ocr_check::{CheckStop, check};
 use ocr_datablock::Block;
 use ocr_guid::Guid;

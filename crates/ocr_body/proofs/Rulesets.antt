@@ -1,6 +1,6 @@
 -- What many goals share.
-use Rattle.ocr_body.proofs.Accesses.{accessed_value, accessed_stopped, accessed_next, accessed_trace}
-use Rattle.ocr_body.proofs.Stopped.{eval_stopped, exec_stopped, says_more, stopped_by_body, stopped_by_memory, stopped_by_refusal, stopped_later}
+use Rattle.ocr_api.proofs.Stopped.{says_more, stopped_by_body, stopped_by_memory, stopped_by_refusal, stopped_later}
+use Rattle.ocr_body.proofs.Stopped.{eval_stopped, exec_stopped}
 use Rattle.ocr_code.proofs.Sides.{first_of, second_of}
 use Rattle.ocr_plain.proofs.Operands.{joined_number, spend_stopped}
 
@@ -17,5 +17,3 @@ pub ruleset walking = (
   first_of,
   second_of,
 )
-
-pub ruleset accessing = (accessed_value, accessed_stopped, accessed_next, accessed_trace)

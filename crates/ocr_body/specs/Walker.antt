@@ -1,15 +1,11 @@
--- The words of the walker's contracts: how an Api goes on, and which part of a body was done.
-use Rattle.std.specs.Prelude.{◌≡◌, ◌≤◌, ℕ, List, Option, Bool, length}
-use Rattle.ocr_base.specs.Count.{Rose}
+-- The words of the walker's contracts: which part of a body was done.
+use Rattle.std.specs.Prelude.{◌≡◌, ℕ, List, Bool}
 use Rattle.ocr_tree.specs.Tree.{While}
 use Rattle.ocr_tree.specs.declared.tree.CallName.{CallName}
-use Rattle.ocr_meaning.specs.Behaviour.{Behaviour, Ends, IsTrace}
-use Rattle.ocr_meaning.specs.Body.{behaviour, says}
+use Rattle.ocr_meaning.specs.Behaviour.{Behaviour, Ends}
 use Rattle.ocr_meaning.specs.Holds.{Holds}
 use Rattle.ocr_meaning.specs.Meaning.{State, Value, Given}
 use Rattle.ocr_meaning.specs.Meaning as meaning
-use Rattle.ocr_meaning.specs.declared.call.BodyStop.{BodyStop}
-use Rattle.ocr_meaning.specs.declared.call.Call.{Call}
 use Rattle.ocr_code.specs.Code.{is_call_placed, is_step_placed, are_placed}
 use Rattle.ocr_code.specs.Code.{call_name, call_arguments, arguments_at}
 use Rattle.ocr_code.specs.Code.{expression_at, statement_at, statements_in}
@@ -17,44 +13,16 @@ use Rattle.ocr_code.specs.declared.code.ArgCode.{ArgCode}
 use Rattle.ocr_code.specs.declared.code.CallCode.{CallCode}
 use Rattle.ocr_code.specs.declared.code.ExprCode.{ExprCode}
 use Rattle.ocr_code.specs.declared.code.StmtCode.{StmtCode}
-use Rattle.ocr_plain.specs.Given.{given_of, output_at, way_step}
+use Rattle.ocr_plain.specs.Given.{given_of}
 use Rattle.ocr_plain.specs.Local.{state_in, frame_of, numbers_of}
-pub use Rattle.ocr_plain.specs.Plain.{are_args_in}
 use Rattle.ocr_plain.specs.declared.given.Given as found
-use Rattle.ocr_plain.specs.declared.given.Way.{Way}
 use Rattle.ocr_plain.specs.declared.local.Flow.{Flow}
 use Rattle.ocr_plain.specs.declared.local.Flow.TheVariants.{Next, Returned}
 use Rattle.ocr_plain.specs.declared.local.Frame as walker
 use Rattle.ocr_plain.specs.declared.local.Local.{Local}
-use Rattle.ocr_body.specs.Serving.{HasValue, IsDone, StoppedBy}
-use Rattle.ocr_body.specs.declared.api.Api.{Ghosts}
-
--- what the body that an Api serves does next
-abbrev pub next_of : {A K : Type 0} → Ghosts A K → A → Behaviour
-next_of g api = says (g.serves api) (g.log api)
-
--- what the body that it served before does next, after the calls that came since
-abbrev pub next_after : {A K : Type 0} → Ghosts A K → A → A → Behaviour
-next_after g before now = says (g.serves before) (g.log now)
-
--- an Api after some calls of its body: it serves the same, and each call came next when it was made
-pub record GoesOn {A K : Type 0} (g : Ghosts A K) (before now : A) : Type 0 where
-  pub ready : g.is_ready now
-  pub serves : g.serves now ≡ g.serves before
-  pub kept : g.kept now ≡ g.kept before
-  pub trace : IsTrace (behaviour (g.serves before)) (g.log before)
-      → IsTrace (behaviour (g.serves before)) (g.log now)
-  pub later : g.closed before ≤ g.closed now
-
--- a part of the body stopped for this
-abbrev pub IsCause : {A K : Type 0} → Ghosts A K → A → A → BodyStop → Type 0
-IsCause g before now e =
-    StoppedBy (next_after g before now) (Rose (g.closed before) (g.closed now)) e
-
--- after a part of the body: each variable still has a place, and no fuel was gained
-pub record StillFits (f : walker.Frame) (before now : Local) : Type 0 where
-  pub room : length now.values.items ≡ length f.names.now
-  pub fuel : now.fuel ≤ before.fuel
+use Rattle.ocr_api.specs.Serving.{IsDone}
+use Rattle.ocr_api.specs.Steps.{next_of, next_after}
+use Rattle.ocr_api.specs.declared.api.Api.{Ghosts}
 
 -- code over the names of this body and the functions of its program
 abbrev pub is_call_in : walker.Frame → CallCode → Bool
@@ -67,8 +35,7 @@ abbrev pub are_stmts_in : walker.Frame → List StmtCode → Bool
 are_stmts_in f ss = are_placed (numbers_of f) f.names.now ss
 
 -- the parts of the body, from this state on: an expression, an expression after a unit of fuel, a
--- call, arguments, a list among them, a call once its arguments are found and once it is known what
--- it comes to, a call that has codes, a load, a store, a statement, statements, and a loop
+-- call, arguments, a list among them, a statement, statements, and a loop
 abbrev pub expr_part : walker.Frame → ExprCode → Holds → Local → (Value → Behaviour)
 expr_part f e holds l =
     meaning.eval (frame_of f) (expression_at f.names.now e) (state_in f holds l)
@@ -103,31 +70,6 @@ list_part f list holds l =
     meaning.nothing_given
     (state_in f holds l)
 
-abbrev pub made_part : walker.Frame → CallName → ArgCode → found.Given → Holds → Local
-    → (Value → Behaviour)
-made_part f name args g holds l =
-    meaning.call_step
-    (frame_of f)
-    name
-    (arguments_at f.names.now args)
-    (given_of g)
-    (state_in f holds l)
-
-abbrev pub way_part : walker.Frame → Way → Call → Option ℕ → Holds → Local → (Value → Behaviour)
-way_part f way call output holds l =
-    way_step way call (output_at f.names.now output) (state_in f holds l)
-
-abbrev pub ask_part : walker.Frame → Call → Option ℕ → Holds → Local → (Value → Behaviour)
-ask_part f call output holds l =
-    meaning.coded_call call (output_at f.names.now output) (state_in f holds l)
-
-abbrev pub load_part : walker.Frame → (block word : ℕ) → Holds → Local → (Value → Behaviour)
-load_part f d w holds l = meaning.load_step d w (state_in f holds l)
-
-abbrev pub store_part : walker.Frame → (block word value : ℕ) → Holds → Local
-    → (Value → Behaviour)
-store_part f d w v holds l = meaning.store_step d w v (state_in f holds l)
-
 abbrev pub stmt_part : walker.Frame → StmtCode → Holds → Local
     → ((State → Behaviour) → Behaviour)
 stmt_part f s holds l =
@@ -145,12 +87,6 @@ loop_part f test body holds l =
     (frame_of f)
     (While (expression_at f.names.now test) (statements_in f.names.now body))
     (state_in f holds l)
-
--- this expression was found to have this value, and left this state
-abbrev pub Yields : {A K : Type 0} → Ghosts A K → A → A → (Value → Behaviour) → ℕ → walker.Frame
-    → Local → Type 0
-Yields g before now part v f l =
-    HasValue (next_of g before) part v (state_in f (g.holds now) l) (next_after g before now)
 
 -- statements were done, or ended the body, which returned this
 abbrev pub Flows : Behaviour → ((State → Behaviour) → Behaviour) → Flow → ℕ → State → Behaviour

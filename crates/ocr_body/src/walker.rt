@@ -3,51 +3,33 @@
 #![tactic(auto, using(crate::proofs::Rulesets::walking))]
 
 ghost use Rattle.std.specs.Prelude.{◌≡◌, ◌&&◌, ◌≤◌, ◌<◌, [], true, ℕ, IfOk, OnOk, OnErr, IfErr};
-ghost use Rattle.std.specs.Prelude.{IfSome, false, length, replicate, slice_index};
+ghost use Rattle.std.specs.Prelude.{length, replicate, slice_index};
 ghost use Rattle.ocr_base.specs.Count.{Rose};
 ghost use Rattle.ocr_meaning.specs.Behaviour.{Behaviour, Ends, Stops, IsTrace};
 ghost use Rattle.ocr_meaning.specs.Body.{behaviour, says};
-ghost use Rattle.ocr_meaning.specs.Call.{is_access};
-ghost use Rattle.ocr_meaning.specs.Meaning.{with_variable, nothing_given, print_step};
+ghost use Rattle.ocr_meaning.specs.Meaning.{nothing_given};
 ghost use Rattle.ocr_meaning.specs.Meaning as meaning;
 ghost use Rattle.ocr_code.specs.Checked.{checked_tree};
-ghost use Rattle.ocr_code.specs.Code.{name_at, has_function, arguments_at};
+ghost use Rattle.ocr_code.specs.Code.{has_function, arguments_at};
 ghost use Rattle.ocr_plain.specs.Given.{given_of};
 ghost use Rattle.ocr_plain.specs.Local.{Fits, Keeps, state_in};
-ghost use Rattle.ocr_plain.specs.Plain.{is_expr_in, IsFirstIn};
-ghost use Rattle.ocr_body.specs.Serving.{Begins, BeginsValue, BeginsGiven, IsDone, IsGiven};
-ghost use Rattle.ocr_body.specs.Serving.{IsListed, StoppedBy};
-ghost use Rattle.ocr_body.specs.Walker.{next_of, next_after, GoesOn, IsCause, Yields, Leads};
-ghost use Rattle.ocr_body.specs.Walker.{StillFits, is_call_in, are_args_in, is_stmt_in};
-ghost use Rattle.ocr_body.specs.Walker.{are_stmts_in, expr_part, call_part, coded_part, args_part};
-ghost use Rattle.ocr_body.specs.Walker.{paid_part, made_part, way_part, ask_part, load_part};
-ghost use Rattle.ocr_body.specs.Walker.{list_part, store_part, stmt_part, stmts_part, loop_part};
+ghost use Rattle.ocr_plain.specs.Plain.{is_expr_in, are_args_in, IsFirstIn};
+ghost use Rattle.ocr_api.specs.Serving.{Begins, BeginsValue, BeginsGiven, IsGiven, IsListed};
+ghost use Rattle.ocr_api.specs.Serving.{StoppedBy};
+ghost use Rattle.ocr_api.specs.Steps.{next_of, next_after, GoesOn, IsCause, StillFits, Yields};
+ghost use Rattle.ocr_body.specs.Walker.{Leads, is_call_in, is_stmt_in, are_stmts_in, expr_part};
+ghost use Rattle.ocr_body.specs.Walker.{call_part, coded_part, args_part, paid_part, list_part};
+ghost use Rattle.ocr_body.specs.Walker.{stmt_part, stmts_part, loop_part};
 
-use crate::api::Api;
+use ocr_api::{Api, assign, load, make, print, store};
 use ocr_base::{NoMemory, Seq};
 use ocr_code::{ArgCode, CallCode, Checked, ExprCode, Named, StmtCode};
 use ocr_guid::Guid;
-use ocr_meaning::{BodyStop, Call};
+use ocr_meaning::BodyStop;
 use ocr_plain::plain::{NONE_LEFT, dependence, leaf, plain};
-use ocr_plain::{
-    Flow, Frame, Given, Halt, Local, Way, apply, call_of, operate, output_of, pay, plain_all, read,
-    stopped, way_of, write,
-};
+use ocr_plain::{Flow, Frame, Given, Halt, Local, apply, operate, pay, plain_all, read, stopped};
 use ocr_tree::{BinaryOp, CallName};
 use std::alloc::Global;
-
-// A variable gets a value. The Api says what is held meanwhile.
-#[inline(always)]
-fn assign<A: Api>(frame: &Frame, place: usize, value: u64, local: &mut Local, _api: &A)
-    requires place { place < length frame.now.names.now }
-    requires fits { Fits frame.now local.old }
-    ensures state { state_in frame.now (A.holds _api.now) local.new
-        ≡ with_variable (name_at frame.now.names.now place) value
-        (state_in frame.now (A.holds _api.now) local.old) }
-    ensures still_fits { StillFits frame.now local.old local.new }
-{
-    write(frame, place, value, local);
-}
 
 // The value of an expression that makes a call or stops, or any other.
 #[cycle(eval)]
@@ -605,251 +587,6 @@ fn combine(op: BinaryOp, x: u64, y: u64, local: &mut Local) -> Result<u64, Halt>
 {
     match operate(op, x, y) {
         Ok(value) => Ok(value),
-        Err(stop) => Err(stopped(stop, local)),
-    }
-}
-
-// The number of the function that the first name among the arguments is, where one stands.
-fn number_of(named: Option<Named>) -> u32
-    ensures { IfSome named (λ named. result ≡ named.number) }
-{
-    match named {
-        Some(named) => named.number,
-        None => 0,
-    }
-}
-
-// Makes a call whose arguments were found. The commonest has code of its own.
-#[inline(always)]
-fn make<A: Api>(
-    frame: &Frame,
-    name: CallName,
-    args: &ArgCode,
-    named: Option<Named>,
-    given: &Given,
-    local: &mut Local,
-    api: &mut A,
-) -> Result<u64, Halt>
-    requires ready { A.is_ready api.old }
-    requires fits { Fits frame.now local.old }
-    requires named { has_function name (arguments_at frame.now.names.now args.now) ≡ true }
-    requires placed { are_args_in frame.now args.now ≡ true }
-    requires first { IsFirstIn frame.now args.now named }
-    requires begins { BeginsValue (next_of A.Api api.old)
-        (made_part frame.now name args.now given.now (A.holds api.old) local.old) }
-    ensures goes_on { GoesOn A.Api api.old api.new }
-    ensures still_fits { StillFits frame.now local.old local.new }
-    ensures ok { IfOk result (λ v. Yields A.Api api.old api.new
-        (made_part frame.now name args.now given.now (A.holds api.old) local.old)
-        v frame.now local.new) }
-    ensures err { OnErr result (IsCause A.Api api.old api.new local.new.stop) }
-{
-    if let CallName::EdtCreate = name {
-        return make_named(frame, CallName::EdtCreate, args, named, given, local, api);
-    }
-    make_other(frame, name, args, named, given, local, api)
-}
-
-// The same of any call.
-#[inline(never)]
-fn make_other<A: Api>(
-    frame: &Frame,
-    name: CallName,
-    args: &ArgCode,
-    named: Option<Named>,
-    given: &Given,
-    local: &mut Local,
-    api: &mut A,
-) -> Result<u64, Halt>
-    requires ready { A.is_ready api.old }
-    requires fits { Fits frame.now local.old }
-    requires named { has_function name (arguments_at frame.now.names.now args.now) ≡ true }
-    requires placed { are_args_in frame.now args.now ≡ true }
-    requires first { IsFirstIn frame.now args.now named }
-    requires begins { BeginsValue (next_of A.Api api.old)
-        (made_part frame.now name args.now given.now (A.holds api.old) local.old) }
-    ensures goes_on { GoesOn A.Api api.old api.new }
-    ensures still_fits { StillFits frame.now local.old local.new }
-    ensures ok { IfOk result (λ v. Yields A.Api api.old api.new
-        (made_part frame.now name args.now given.now (A.holds api.old) local.old)
-        v frame.now local.new) }
-    ensures err { OnErr result (IsCause A.Api api.old api.new local.new.stop) }
-{
-    make_named(frame, name, args, named, given, local, api)
-}
-
-// Makes the call of this name, which may be known where this is done in place.
-#[inline(always)]
-fn make_named<A: Api>(
-    frame: &Frame,
-    name: CallName,
-    _args: &ArgCode,
-    named: Option<Named>,
-    given: &Given,
-    local: &mut Local,
-    api: &mut A,
-) -> Result<u64, Halt>
-    requires ready { A.is_ready api.old }
-    requires fits { Fits frame.now local.old }
-    requires named { has_function name (arguments_at frame.now.names.now _args.now) ≡ true }
-    requires placed { are_args_in frame.now _args.now ≡ true }
-    requires first { IsFirstIn frame.now _args.now named }
-    requires begins { BeginsValue (next_of A.Api api.old)
-        (made_part frame.now name _args.now given.now (A.holds api.old) local.old) }
-    ensures goes_on { GoesOn A.Api api.old api.new }
-    ensures still_fits { StillFits frame.now local.old local.new }
-    ensures ok { IfOk result (λ v. Yields A.Api api.old api.new
-        (made_part frame.now name _args.now given.now (A.holds api.old) local.old)
-        v frame.now local.new) }
-    ensures err { OnErr result (IsCause A.Api api.old api.new local.new.stop) }
-{
-    let made = call_of(frame.alloc, name, number_of(named), named.is_some(), given);
-    let Ok(call) = made else {
-        return Err(stopped(BodyStop::NoMemory, local))
-    };
-    go(
-        frame,
-        way_of(&call),
-        &call,
-        output_of(name, named),
-        local,
-        api,
-    )
-}
-
-// Makes a call by what it comes to.
-#[inline(always)]
-fn go<A: Api>(
-    frame: &Frame,
-    way: Way,
-    call: &Call,
-    output: Option<usize>,
-    local: &mut Local,
-    api: &mut A,
-) -> Result<u64, Halt>
-    requires ready { A.is_ready api.old }
-    requires fits { Fits frame.now local.old }
-    requires output { IfSome output (λ place. place < length frame.now.names.now) }
-    requires plain { way ≡ Way.Coded → is_access call.now ≡ false }
-    requires begins { BeginsValue (next_of A.Api api.old)
-        (way_part frame.now way call.now output (A.holds api.old) local.old) }
-    ensures goes_on { GoesOn A.Api api.old api.new }
-    ensures still_fits { StillFits frame.now local.old local.new }
-    ensures ok { IfOk result (λ v. Yields A.Api api.old api.new
-        (way_part frame.now way call.now output (A.holds api.old) local.old)
-        v frame.now local.new) }
-    ensures err { OnErr result (IsCause A.Api api.old api.new local.new.stop) }
-{
-    match way {
-        Way::Ends(stop) => Err(stopped(stop, local)),
-        Way::Loads(block, word) => load(frame, block, word, local, api),
-        Way::Stores(block, word, value) => store(frame, block, word, value, local, api),
-        Way::Coded => ask(frame, call, output, local, api),
-    }
-}
-
-// A call that has codes.
-#[inline(always)]
-fn ask<A: Api>(
-    frame: &Frame,
-    call: &Call,
-    output: Option<usize>,
-    local: &mut Local,
-    api: &mut A,
-) -> Result<u64, Halt>
-    requires ready { A.is_ready api.old }
-    requires fits { Fits frame.now local.old }
-    requires output { IfSome output (λ place. place < length frame.now.names.now) }
-    requires plain { is_access call.now ≡ false }
-    requires begins { BeginsValue (next_of A.Api api.old)
-        (ask_part frame.now call.now output (A.holds api.old) local.old) }
-    ensures goes_on { GoesOn A.Api api.old api.new }
-    ensures still_fits { StillFits frame.now local.old local.new }
-    ensures ok { IfOk result (λ v. Yields A.Api api.old api.new
-        (ask_part frame.now call.now output (A.holds api.old) local.old) v frame.now local.new) }
-    ensures err { OnErr result (IsCause A.Api api.old api.new local.new.stop) }
-{
-    match api.call(call) {
-        Ok(answer) => {
-            local.code = answer.code.number();
-            if let Some(place) = output {
-                assign(frame, place, answer.output.0, local, api);
-            }
-            Ok(answer.value)
-        }
-        Err(stop) => Err(stopped(stop, local)),
-    }
-}
-
-// A load.
-#[tactic(auto, using(crate::proofs::Rulesets::accessing))]
-#[inline(always)]
-fn load<A: Api>(
-    frame: &Frame,
-    block: u64,
-    word: u64,
-    local: &mut Local,
-    api: &mut A,
-) -> Result<u64, Halt>
-    requires ready { A.is_ready api.old }
-    requires fits { Fits frame.now local.old }
-    requires begins { BeginsValue (next_of A.Api api.old)
-        (load_part frame.now block word (A.holds api.old) local.old) }
-    ensures goes_on { GoesOn A.Api api.old api.new }
-    ensures still_fits { StillFits frame.now local.old local.new }
-    ensures ok { IfOk result (λ v. Yields A.Api api.old api.new
-        (load_part frame.now block word (A.holds api.old) local.old) v frame.now local.new) }
-    ensures err { OnErr result (IsCause A.Api api.old api.new local.new.stop) }
-{
-    match api.load(Guid(block), word) {
-        Ok(value) => Ok(value),
-        Err(stop) => Err(stopped(stop, local)),
-    }
-}
-
-// A store, which has the value 0.
-#[tactic(auto, using(crate::proofs::Rulesets::accessing))]
-#[inline(always)]
-fn store<A: Api>(
-    frame: &Frame,
-    block: u64,
-    word: u64,
-    value: u64,
-    local: &mut Local,
-    api: &mut A,
-) -> Result<u64, Halt>
-    requires ready { A.is_ready api.old }
-    requires fits { Fits frame.now local.old }
-    requires begins { BeginsValue (next_of A.Api api.old)
-        (store_part frame.now block word value (A.holds api.old) local.old) }
-    ensures goes_on { GoesOn A.Api api.old api.new }
-    ensures still_fits { StillFits frame.now local.old local.new }
-    ensures ok { IfOk result (λ v. Yields A.Api api.old api.new
-        (store_part frame.now block word value (A.holds api.old) local.old) v frame.now local.new) }
-    ensures err { OnErr result (IsCause A.Api api.old api.new local.new.stop) }
-{
-    match api.store(Guid(block), word, value) {
-        Ok(()) => Ok(0), // a store has the value 0
-        Err(stop) => Err(stopped(stop, local)),
-    }
-}
-
-// A print.
-#[inline(never)]
-fn print<A: Api>(frame: &Frame, value: u64, local: &mut Local, api: &mut A) -> Result<(), Halt>
-    requires ready { A.is_ready api.old }
-    requires fits { Fits frame.now local.old }
-    requires begins { Begins (next_of A.Api api.old)
-        (print_step value (state_in frame.now (A.holds api.old) local.old)) }
-    ensures goes_on { GoesOn A.Api api.old api.new }
-    ensures still_fits { StillFits frame.now local.old local.new }
-    ensures ok { OnOk result (IsDone (next_of A.Api api.old)
-        (print_step value (state_in frame.now (A.holds api.old) local.old))
-        (state_in frame.now (A.holds api.new) local.new) (next_after A.Api api.old api.new)) }
-    ensures err { OnErr result (IsCause A.Api api.old api.new local.new.stop) }
-{
-    match api.call(&Call::Print { value }) {
-        Ok(_) => Ok(()),
         Err(stop) => Err(stopped(stop, local)),
     }
 }

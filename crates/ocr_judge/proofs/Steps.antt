@@ -22,7 +22,7 @@ use Rattle.ocr_history.specs.declared.entry.Entry.{Entry}
 use Rattle.ocr_history.specs.declared.entry.Entry.TheVariants.{Call, Deliver, Acquire, Wait, StaleAcquire, Start, Free, End, Stop}
 use Rattle.ocr_history.specs.declared.entry.Stop.TheVariants as by
 use Rattle.ocr_history.specs.History.{History, history_of, own}
-use Rattle.ocr_body.specs.Serving.{StoppedBy, by_closing, by_memory, by_body, IsAccessStop, refused_memory}
+use Rattle.ocr_api.specs.Serving.{StoppedBy, by_closing, by_memory, by_body, IsAccessStop, refused_memory}
 use Rattle.ocr_meaning.specs.declared.call.BodyStop.{BodyStop}
 use Rattle.ocr_meaning.specs.declared.call.BodyStop.TheVariants as stop
 use Rattle.ocr_judge.specs.declared.judging.Ending.{Ending}

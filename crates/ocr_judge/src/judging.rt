@@ -2,7 +2,7 @@
 ghost use Rattle.std.specs.Prelude.{◌≡◌, ◌≤◌, ◌<◌, ◌∷◌, length, take, true, false, [], IfSome, IfNone, IfOk, IfErr, OnErr, OnOk};
 ghost use Rattle.ocr_base.specs.Count.{Rose};
 ghost use Rattle.ocr_code.specs.Checked.{checked_tree};
-ghost use Rattle.ocr_body.specs.Serving.{IsRefusal, answer_with};
+ghost use Rattle.ocr_api.specs.Serving.{IsRefusal, answer_with};
 ghost use Rattle.ocr_history.specs.History.{own, history_of};
 ghost use Rattle.ocr_meaning.specs.Behaviour.{IsNextWith, Asked};
 ghost use Rattle.ocr_meaning.specs.Body.{Body, says};
@@ -16,8 +16,9 @@ ghost use Rattle.ocr_judge.specs.Tests.{Whether};
 
 use crate::holding::{Found, Holding, begun};
 use crate::linking::Links;
+use ocr_api::Api;
 use ocr_base::NoMemory;
-use ocr_body::{Api, Checked, FUEL, walk};
+use ocr_body::{Checked, FUEL, walk};
 use ocr_guid::{Code, Guid};
 use ocr_history::{Entry, Fault, Journal, Stop};
 use ocr_meaning::{Answer, BodyStop, Call};

@@ -1,6 +1,6 @@
 -- A load or a store of a word that the running EDT shares, as it is entered.
 use Rattle.std.proofs.Common.{◌≡◌, ◌⊎◌, inl, inr, ℕ, ◌+◌, ◌≤◌, Bool, true, false, List, [], ◌∷◌, ◌++◌, take, reverse, Option, refl, ap, sym, ◌∙◌, subst, arith}
-use Rattle.ocr_body.specs.Serving.{answer_with}
+use Rattle.ocr_api.specs.Serving.{answer_with}
 use Rattle.ocr_code.specs.declared.checked.Checked.{Checked}
 use Rattle.ocr_guid.specs.declared.Code.TheVariants.{Done}
 use Rattle.ocr_history.specs.declared.entry.Entry.{Entry}

@@ -1,6 +1,6 @@
 -- What a load or a store of a clerk that runs an EDT was found to come to.
 use Rattle.std.proofs.Common.{◌≡◌, ℕ, List, [], ◌∷◌, Option, Some, refl, ap, sym, ◌∙◌, subst}
-use Rattle.ocr_body.specs.Serving.{IsAccessed, answer_with}
+use Rattle.ocr_api.specs.Serving.{IsAccessed, answer_with}
 use Rattle.ocr_meaning.specs.Behaviour.{Asked}
 use Rattle.ocr_meaning.specs.Holds.{Access, Entered, Refused, Silent, load_of, store_of}
 use Rattle.ocr_meaning.specs.declared.call.BodyStop.{BodyStop}

@@ -1,6 +1,6 @@
 // A load of a word of a block.
 ghost use Rattle.std.specs.Prelude.{◌≡◌, [], IfOk, OnOk, OnErr};
-ghost use Rattle.ocr_body.specs.Serving.{IsAccessed, IsNextWhereEntered, answer_with};
+ghost use Rattle.ocr_api.specs.Serving.{IsAccessed, IsNextWhereEntered, answer_with};
 ghost use Rattle.ocr_meaning.specs.Behaviour.{IsNextWith};
 ghost use Rattle.ocr_meaning.specs.Body.{Body, says};
 ghost use Rattle.ocr_meaning.specs.Holds.{Entered, Refused, load_of};

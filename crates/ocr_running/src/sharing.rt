@@ -1,6 +1,6 @@
 // The entry of a load or a store of a word that EDTs share, on the face of its block.
 ghost use Rattle.std.specs.Prelude.{◌≡◌, ◌∷◌, [], ℕ, IfOk, OnOk, OnErr};
-ghost use Rattle.ocr_body.specs.Serving.{answer_with};
+ghost use Rattle.ocr_api.specs.Serving.{answer_with};
 ghost use Rattle.ocr_meaning.specs.Behaviour.{IsNextWith};
 ghost use Rattle.ocr_meaning.specs.Body.{Body, says};
 ghost use Rattle.ocr_clerks.specs.Entering.{OcrKnown};

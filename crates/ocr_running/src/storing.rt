@@ -1,6 +1,6 @@
 // A store in a word of a block.
 ghost use Rattle.std.specs.Prelude.{◌≡◌, [], ℕ, OnOk, OnErr};
-ghost use Rattle.ocr_body.specs.Serving.{IsAccessed, IsNextWhereEntered, answer_with};
+ghost use Rattle.ocr_api.specs.Serving.{IsAccessed, IsNextWhereEntered, answer_with};
 ghost use Rattle.ocr_meaning.specs.Behaviour.{IsNextWith};
 ghost use Rattle.ocr_meaning.specs.Body.{Body, says};
 ghost use Rattle.ocr_meaning.specs.Holds.{Entered, Refused, Silent, after_store, store_of};

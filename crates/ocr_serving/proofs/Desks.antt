@@ -2,7 +2,7 @@
 use Rattle.std.specs.Prelude.{IfOk, OnOk, IfErr}
 use Rattle.std.proofs.Common.{Result, Ok, Err, ◌≡◌, ◌⊎◌, inl, inr, ℕ, ◌+◌, ◌-◌, ◌^◌, min, true, false, List, length, Option, Some, None, is_some, refl, ap, sym, ◌∙◌, subst, arith}
 use Rattle.ocr_base.specs.Count.{Rose}
-use Rattle.ocr_body.specs.Serving.{IsAccessStop, IsNextWhereEntered, IsRefusal, StoppedBy, by_body, by_closing, by_memory, refused_closed}
+use Rattle.ocr_api.specs.Serving.{IsAccessStop, IsNextWhereEntered, IsRefusal, StoppedBy, by_body, by_closing, by_memory, refused_closed}
 use Rattle.ocr_code.specs.Checked.{checked_tree}
 use Rattle.ocr_code.specs.declared.checked.Checked.{Checked}
 use Rattle.ocr_tree.specs.Rules.{are_functions_named, are_lists_short}

@@ -1,6 +1,6 @@
 // The desk at which the body of a running EDT makes its calls.
 ghost use Rattle.std.specs.Prelude.{◌≡◌, false, ◌-◌, ◌+◌, ◌^◌, min, IfOk, OnOk, OnErr};
-ghost use Rattle.ocr_body.specs.Serving.{IsAccessed, IsNextWhereEntered};
+ghost use Rattle.ocr_api.specs.Serving.{IsAccessed, IsNextWhereEntered};
 ghost use Rattle.ocr_meaning.specs.Behaviour.{IsNextWith};
 ghost use Rattle.ocr_meaning.specs.Body.{Body, says};
 ghost use Rattle.ocr_meaning.specs.Call.{is_access};
@@ -12,7 +12,7 @@ ghost use Rattle.ocr_running.specs.Running.{IsCalled, IsPushed, Runs, holds_at};
 ghost use Rattle.ocr_running.specs.Serving.{own_log};
 ghost use Rattle.ocr_starting.specs.Given.{body_given};
 
-use ocr_body::Api;
+use ocr_api::Api;
 use ocr_clerks::{Gate, Job, Ocr, Over};
 use ocr_creating::make_call;
 use ocr_guid::Guid;

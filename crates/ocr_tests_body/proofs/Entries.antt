@@ -10,8 +10,8 @@ use Rattle.ocr_meaning.specs.Meaning.{State, with_holds}
 use Rattle.ocr_meaning.specs.declared.call.BodyStop.TheVariants as stop
 use Rattle.ocr_meaning.specs.declared.call.Call.TheVariants as call
 use Rattle.ocr_meaning.specs.declared.call.BodyStop.{BodyStop}
-use Rattle.ocr_body.specs.Serving.{IsNextWhereEntered, IsAccessStop, IsRefusal, refused_closed, refused_memory}
-use Rattle.ocr_body.proofs.Accesses.{accessed_next}
+use Rattle.ocr_api.specs.Serving.{IsNextWhereEntered, IsAccessStop, IsRefusal, refused_closed, refused_memory}
+use Rattle.ocr_api.proofs.Accesses.{accessed_next}
 use Rattle.ocr_tests_body.specs.Served.{asked_of, body_of, held, hold_of, start_of, lent_hold, shared_hold, IsFitting}
 use Rattle.ocr_tests_body.specs.declared.hold.Access.TheVariants as access
 use Rattle.ocr_tests_body.specs.declared.hold.Hold as kept

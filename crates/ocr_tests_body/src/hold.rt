@@ -5,14 +5,15 @@ ghost use Rattle.ocr_base.specs.Count.{Rose};
 ghost use Rattle.ocr_meaning.specs.Behaviour.{Asked};
 ghost use Rattle.ocr_meaning.specs.Holds.{Silent, Entered, load_of, store_of, with_write, is_isolated};
 ghost use Rattle.ocr_meaning.specs.declared.call.Call as body;
-ghost use Rattle.ocr_body.specs.Serving.{IsAccessed, IsAccessStop, answer_with};
+ghost use Rattle.ocr_api.specs.Serving.{IsAccessed, IsAccessStop, answer_with};
 ghost use Rattle.ocr_tests_body.specs.Served.{asked_of, lent_hold, shared_hold};
 
 use ocr_acquire::Mode;
+use ocr_api::Api;
 use ocr_base::NoMemory;
-use ocr_body::{Answer, Api, BodyStop, Call};
 use ocr_datablock::Lent;
 use ocr_guid::{Code, Guid};
+use ocr_meaning::{Answer, BodyStop, Call};
 use std::alloc::Global;
 
 /// A load of a block's word, or a store of a value in it.

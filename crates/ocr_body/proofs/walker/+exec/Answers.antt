@@ -6,7 +6,7 @@ use Rattle.ocr_code.specs.Code.{name_at, statement_at, statements_in, expression
 use Rattle.ocr_meaning.specs.Meaning as meaning
 use Rattle.ocr_plain.specs.Local.{state_of, frame_of, numbers_of}
 use Rattle.ocr_meaning.specs.Body.{Body, says, behaviour}
-use Rattle.ocr_body.specs.Serving.{Begins, IsDone}
+use Rattle.ocr_api.specs.Serving.{Begins, IsDone}
 use Rattle.ocr_code.specs.declared.code.StmtCode.{StmtCode}
 use Rattle.ocr_code.proofs.Weight.{weight, weights, weight_at}
 use Rattle.ocr_code.proofs.Rows.{if_view, while_view, if_placed, while_placed}

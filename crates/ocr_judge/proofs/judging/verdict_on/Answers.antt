@@ -4,7 +4,7 @@ use Rattle.ocr_code.specs.Checked.{checked_tree}
 use Rattle.ocr_meaning.specs.Behaviour.{Ends, Stops}
 use Rattle.ocr_meaning.specs.Body.{Body}
 use Rattle.ocr_meaning.specs.Holds.{Holds}
-use Rattle.ocr_body.specs.Serving.{StoppedBy}
+use Rattle.ocr_api.specs.Serving.{StoppedBy}
 use Rattle.ocr_history.specs.declared.entry.Entry.{Entry}
 use Rattle.ocr_judge.specs.declared.judging.Ending.TheVariants as ending
 use Rattle.ocr_judge.specs.declared.judging.Told.{Told}

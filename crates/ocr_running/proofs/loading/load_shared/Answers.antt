@@ -1,5 +1,5 @@
 use Rattle.std.proofs.Common.{◌≡◌, ◌∷◌, [], ℕ, List, ap, inl, sym, subst, ◌∙◌}
-use Rattle.ocr_body.specs.Serving.{answer_with}
+use Rattle.ocr_api.specs.Serving.{answer_with}
 use Rattle.ocr_meaning.specs.Behaviour.{IsNextWith}
 use Rattle.ocr_meaning.specs.Body.{says}
 use Rattle.ocr_meaning.specs.Holds.{Entered, load_of}

@@ -1,6 +1,6 @@
 use Rattle.std.proofs.Common.{◌≡◌, ◌∷◌, [], ℕ, inr, refl, sym, subst}
 use Rattle.std.specs.Prelude.{OnOk}
-use Rattle.ocr_body.specs.Serving.{answer_with}
+use Rattle.ocr_api.specs.Serving.{answer_with}
 use Rattle.ocr_meaning.specs.Behaviour.{IsNextWith}
 use Rattle.ocr_meaning.specs.Body.{says}
 use Rattle.ocr_meaning.specs.Holds.{Entered, store_of}

@@ -1,7 +1,7 @@
 use Rattle.std.specs.Prelude.{OnOk}
 use Rattle.std.proofs.Common.{◌≡◌, ◌∙◌, is_some, ap, sym, subst, refl}
 use Rattle.ocr_base.specs.Count.{Rose}
-use Rattle.ocr_body.specs.Serving.{StoppedBy}
+use Rattle.ocr_api.specs.Serving.{StoppedBy}
 use Rattle.ocr_meaning.specs.Behaviour.{Behaviour, Ends}
 use Rattle.ocr_clerks.specs.Entering.{OcrKnown}
 use Rattle.ocr_clerks.specs.Work.{Stays}

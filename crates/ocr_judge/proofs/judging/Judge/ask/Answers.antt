@@ -1,5 +1,5 @@
 use Rattle.std.proofs.Common.{refl, arith}
-use Rattle.ocr_body.specs.Serving.{refused_closed, refused_memory}
+use Rattle.ocr_api.specs.Serving.{refused_closed, refused_memory}
 use Rattle.ocr_history.specs.declared.entry.Entry.{Entry}
 use Rattle.ocr_meaning.specs.Holds.{private_of}
 use Rattle.ocr_judge.specs.Cases.{judged_body}

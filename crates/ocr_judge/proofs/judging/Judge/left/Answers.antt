@@ -1,5 +1,5 @@
 use Rattle.std.proofs.Common.{arith}
-use Rattle.ocr_body.specs.Serving.{refused_closed, refused_memory}
+use Rattle.ocr_api.specs.Serving.{refused_closed, refused_memory}
 use Rattle.ocr_judge.proofs.judging.Judge.left.Goals as goal
 
 pub returns-in-Ok-clause-refused : goal.returns-in-Ok-clause-refused

@@ -1,7 +1,7 @@
 use Rattle.std.proofs.Common.{ℕ, ◌∙◌, refl, sym, subst}
 use Rattle.ocr_base.specs.Count.{Rose}
 use Rattle.ocr_meaning.specs.Holds.{Holds, load_of}
-use Rattle.ocr_body.specs.Serving.{IsAccessStop}
+use Rattle.ocr_api.specs.Serving.{IsAccessStop}
 use Rattle.ocr_meaning.specs.declared.call.BodyStop.TheVariants as stop
 use Rattle.ocr_running.specs.Running.{holds_at}
 use Rattle.ocr_starting.specs.Given.{body_given}

@@ -6,8 +6,8 @@ use Rattle.ocr_meaning.specs.Holds.{Access, Refused, Silent, Entered}
 use Rattle.ocr_meaning.specs.Meaning.{State, Value, access_step}
 use Rattle.ocr_meaning.specs.declared.call.BodyStop.{BodyStop}
 use Rattle.ocr_meaning.specs.declared.call.Call.{Call}
-use Rattle.ocr_body.specs.Serving.{HasValue, IsAccessed, IsAccessStop, IsNextWhereEntered, StoppedBy, by_body, answer_with}
-use Rattle.ocr_body.proofs.Stopped.{says_more, stopped_by_refusal}
+use Rattle.ocr_api.specs.Serving.{HasValue, IsAccessed, IsAccessStop, IsNextWhereEntered, StoppedBy, by_body, answer_with}
+use Rattle.ocr_api.proofs.Stopped.{says_more, stopped_by_refusal}
 
 -- what was done has its value
 pub accessed_value : (b : Body) (log later : List Asked) (found : Access) (made : Call) (now : State) (v : ℕ) → IsAccessed found made v log later

@@ -3,7 +3,7 @@ use Rattle.std.proofs.Common.{◌≡◌, ◌∙◌, ℕ, Result, Ok, Err, IfOk}
 use Rattle.ocr_meaning.specs.Behaviour.{Behaviour}
 use Rattle.ocr_meaning.specs.Meaning.{State, Value}
 use Rattle.ocr_plain.specs.declared.local.Halt.{Halt}
-use Rattle.ocr_body.specs.Serving.{HasValue, BeginsValue}
+use Rattle.ocr_api.specs.Serving.{HasValue, BeginsValue}
 
 pub begins_alike : (left : Behaviour) (part other : Value → Behaviour) → ((k : Value) → part k ≡ other k) → BeginsValue left part → BeginsValue left other
 begins_alike left part other alike begins = (begins.0, begins.1 ∙ alike begins.0)

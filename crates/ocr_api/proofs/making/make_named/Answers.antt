@@ -4,10 +4,10 @@ use Rattle.ocr_meaning.specs.Meaning.{Value}
 use Rattle.ocr_code.specs.Code.{arguments_at}
 use Rattle.ocr_plain.specs.Given.{IsFirst, given_of, output_at, way_step}
 use Rattle.ocr_plain.specs.Local.{state_of, frame_of, numbers_of}
-use Rattle.ocr_body.specs.Walker.{made_part, way_part}
+use Rattle.ocr_api.specs.Steps.{made_part, way_part}
 use Rattle.ocr_plain.proofs.Made.{stands, wanted, made_alike}
-use Rattle.ocr_body.proofs.Alike.{begins_alike, has_alike}
-use Rattle.ocr_body.proofs.walker.make_named.Goals as goal
+use Rattle.ocr_api.proofs.Alike.{begins_alike, has_alike}
+use Rattle.ocr_api.proofs.making.make_named.Goals as goal
 
 pub go-requires-clause-begins : goal.go-requires-clause-begins
 go-requires-clause-begins g c =

@@ -1,0 +1,4 @@
+pub mod Accesses
+pub mod Alike
+pub mod Rulesets
+pub mod Stopped
