@@ -8,10 +8,11 @@ ghost use Rattle.ocr_syntax.specs.Machine as machine;
 ghost use Rattle.ocr_syntax.specs.Fitting.{LeadsTo, LeadsToFlags, IsFitting};
 ghost use Rattle.ocr_syntax.specs.View.{args_of, slots_after, stack_of, site_of, position_of, indexed_of, state_of, state_if_any};
 
+use ocr_folding::{Arg, CallSite, Indexed, Stack, fold};
 use ocr_grammar::{Lexeme, Word, level};
 use ocr_syntax::{
-    Arg, CallSite, Indexed, Position, Stack, State, Wanted, after_argument, after_flags,
-    after_member, at_expression_end, fold, with_member, with_value,
+    Position, State, Wanted, after_argument, after_flags, after_member, at_expression_end,
+    with_member, with_value,
 };
 use ocr_tree::{BinaryOp, CallName, Expr, UnaryOp};
 use std::alloc::{AllocError, Global};

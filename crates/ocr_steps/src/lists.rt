@@ -5,8 +5,9 @@ ghost use Rattle.ocr_syntax.specs.Marks.{is_close_square};
 ghost use Rattle.ocr_syntax.specs.View.{args_of, slots_after, site_of, position_of, state_if_any};
 
 use crate::expressions::operand;
+use ocr_folding::{Arg, CallSite, Stack};
 use ocr_grammar::Lexeme;
-use ocr_syntax::{Arg, CallSite, Position, Stack, State, Wanted, with_list};
+use ocr_syntax::{Position, State, Wanted, with_list};
 use ocr_tree::CallName;
 use std::alloc::{AllocError, Global};
 

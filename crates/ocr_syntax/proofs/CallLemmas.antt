@@ -14,9 +14,9 @@ use Rattle.ocr_syntax.specs.Joined.{with}
 use Rattle.ocr_syntax.specs.Machine as m
 use Rattle.ocr_syntax.specs.Fitting.{fits, LeadsTo, LeadsToFlags, IsFitting}
 use Rattle.ocr_syntax.specs.View.{IsPushed, argument_onto, args_of, slots_left, slots_after, stack_of, held_of}
-use Rattle.ocr_syntax.specs.declared.states.Arg.{Arg}
-use Rattle.ocr_syntax.specs.declared.states.Arg.TheVariants as arg
-use Rattle.ocr_syntax.specs.declared.states.Stack.{Stack}
+use Rattle.ocr_folding.specs.declared.pending.Arg.{Arg}
+use Rattle.ocr_folding.specs.declared.pending.Arg.TheVariants as arg
+use Rattle.ocr_folding.specs.declared.pending.Stack.{Stack}
 use Rattle.ocr_syntax.proofs.Fitting.{fits_whole, leads_value, folded_fits}
 use Rattle.ocr_syntax.proofs.Lists.{args_more, slots_more, slots_some, slots_none}
 

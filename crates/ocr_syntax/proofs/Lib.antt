@@ -3,4 +3,3 @@ pub mod Fitting
 pub mod Lists
 pub mod CallLemmas
 pub mod Marks
-pub mod Heights

@@ -14,8 +14,8 @@ use Rattle.ocr_syntax.specs.Joined.{with, ended_by}
 use Rattle.ocr_syntax.specs.Machine as m
 use Rattle.ocr_syntax.specs.View.{argument_onto, args_of, slots_left, slots_after, but_first, open_block_of, enclosing_onto, enclosing_of}
 use Rattle.ocr_syntax.proofs.Joined.{with_more}
-use Rattle.ocr_syntax.specs.declared.states.Arg.{Arg}
-use Rattle.ocr_syntax.specs.declared.states.Arg.TheVariants as arg
+use Rattle.ocr_folding.specs.declared.pending.Arg.{Arg}
+use Rattle.ocr_folding.specs.declared.pending.Arg.TheVariants as arg
 use Rattle.ocr_syntax.specs.declared.states.OpenBlock.{OpenBlock}
 
 onto_with : (a : Arg) (rest more : Arguments) → argument_onto a (with rest more) ≡ with (argument_onto a rest) more

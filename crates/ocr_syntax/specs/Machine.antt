@@ -1,8 +1,7 @@
 -- The parser written again over plain trees. It is no part of what has to be trusted: no clause of
 -- `parse` reaches it. The code is compared with it, and it with the grammar. A state says what was
 -- read, and a step takes one token.
-use Rattle.std.specs.Prelude.{ℕ, List, [], ◌∷◌, ◌++◌, Option, Some, None, if◌then◌else◌, nat_le}
-use Rattle.ocr_tree.specs.declared.tree.UnaryOp.{UnaryOp}
+use Rattle.std.specs.Prelude.{ℕ, List, [], ◌∷◌, ◌++◌, Option, Some, None}
 use Rattle.ocr_tree.specs.declared.tree.UnaryOp.TheVariants as unary
 use Rattle.ocr_tree.specs.declared.tree.BinaryOp.{BinaryOp}
 use Rattle.ocr_tree.specs.declared.tree.BinaryOp.TheVariants as binary
@@ -16,40 +15,8 @@ use Rattle.ocr_grammar.specs.Grammar.{level}
 use Rattle.ocr_grammar.specs.declared.argument_kind.ArgumentKind.{ArgumentKind}
 use Rattle.ocr_grammar.specs.declared.argument_kind.ArgumentKind.TheVariants.{Value, Values, NameOfFunction, FlagsAndOutput}
 use Rattle.ocr_grammar.specs.Shape.{shape}
+pub use Rattle.ocr_folding.specs.Pending.{Purpose, ToLet, ToAssign, ToTest, ToRepeat, ToPrint, ToReturn, Indexed, OfParameters, OfDependences, Stack, Bottom, Left, Prefix, Round, Index, Argument, Member, FlagsArgument, CallSite, InExpression, AsStatement, Held, fold_of}
 use Rattle.ocr_syntax.specs.Joined.{with, ended_by}
-
--- what an outermost expression is for
-pub data Purpose : Type 0 where
-  ToLet : (name : List ℕ) → Purpose
-  ToAssign : (name : List ℕ) → Purpose
-  ToTest : Purpose
-  ToRepeat : Purpose
-  ToPrint : Purpose
-  ToReturn : Purpose
-
--- the two lists that have an index
-pub data Indexed : Type 0 where
-  OfParameters : Indexed
-  OfDependences : Indexed
-
--- what waits for an operand, the nearest first
-mutual
-  pub data Stack : Type 0 where
-    Bottom : Purpose → Stack
-    Left : (a : Expression) (op : BinaryOp) → Stack → Stack
-    Prefix : (op : UnaryOp) → Stack → Stack
-    Round : Stack → Stack
-    Index : Indexed → Stack → Stack
-    -- an argument of a call: the arguments before it, the slots after it
-    Argument : (c : CallName) (done : Arguments) (slots : List ArgumentKind) → CallSite → Stack
-    Member : (c : CallName) (done members : Arguments) (slots : List ArgumentKind) → CallSite
-        → Stack
-    FlagsArgument : (c : CallName) (done : Arguments) → CallSite → Stack
-
-  -- where a call stands: in an expression, or as a statement
-  pub data CallSite : Type 0 where
-    InExpression : Stack → CallSite
-    AsStatement : CallSite
 
 -- what a block is for
 pub data BlockKind : Type 0 where
@@ -100,24 +67,6 @@ with_statement h s = record {
   enclosing = h.enclosing;
   statements = ended_by h.statements s;
 }
-
--- an expression with what still waits for it
-pub record Held : Type 0 where
-  pub pending : Stack
-  pub value : Expression
-
--- what binds as close as this level is put together
-abbrev pub fold_of : ℕ → Stack → Expression → Held
-fold_of l (Bottom p) e = record { pending = Bottom p; value = e }
-fold_of l (Left a op k) e =
-    if nat_le l (level op) then fold_of l k (tree.Binary op a e)
-    else record { pending = Left a op k; value = e }
-fold_of l (Prefix op k) e = fold_of l k (tree.Unary op e)
-fold_of l (Round k) e = record { pending = Round k; value = e }
-fold_of l (Index i k) e = record { pending = Index i k; value = e }
-fold_of l (Argument c done ss k) e = record { pending = Argument c done ss k; value = e }
-fold_of l (Member c done es ss k) e = record { pending = Member c done es ss k; value = e }
-fold_of l (FlagsArgument c done k) e = record { pending = FlagsArgument c done k; value = e }
 
 abbrev pub operator : Lexeme → Option BinaryOp
 operator (lexeme.Operator op) = Some op

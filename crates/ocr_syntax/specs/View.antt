@@ -1,24 +1,13 @@
 -- What was read, as the parser over plain trees sees it.
-use Rattle.std.specs.Prelude.{◌≡◌, List, [], ◌∷◌, drop, length, Option, Some, None}
+use Rattle.std.specs.Prelude.{◌≡◌, List, [], ◌∷◌, Option, Some, None}
 use Rattle.ocr_tree.specs.declared.tree.CallName.{CallName}
-use Rattle.ocr_tree.specs.declared.tree.Expr.{Expr}
 use Rattle.ocr_tree.specs.declared.tree.Invoke.{Invoke}
 use Rattle.ocr_tree.specs.Tree.{Arguments, empty, value, list, named}
 use Rattle.ocr_tree.specs.View.{name_of, expression_of, arguments_of, members_of, statements_of, functions_of}
-use Rattle.ocr_grammar.specs.declared.argument_kind.ArgumentKind.{ArgumentKind}
-use Rattle.ocr_grammar.specs.Shape.{shape}
+use Rattle.ocr_folding.specs.declared.pending.Arg.{Arg}
+pub use Rattle.ocr_folding.specs.View.{purpose_of, indexed_of, argument_onto, args_of, slots_left, but_first, slots_after, stack_of, site_of, held_of}
 use Rattle.ocr_syntax.specs.Joined.{with}
 use Rattle.ocr_syntax.specs.Machine as m
-use Rattle.ocr_syntax.specs.declared.states.Purpose.{Purpose}
-use Rattle.ocr_syntax.specs.declared.states.Purpose.TheVariants as purpose
-use Rattle.ocr_syntax.specs.declared.states.Indexed.{Indexed}
-use Rattle.ocr_syntax.specs.declared.states.Indexed.TheVariants as which
-use Rattle.ocr_syntax.specs.declared.states.Arg.{Arg}
-use Rattle.ocr_syntax.specs.declared.states.Arg.TheVariants as arg
-use Rattle.ocr_syntax.specs.declared.states.Stack.{Stack}
-use Rattle.ocr_syntax.specs.declared.states.Stack.TheVariants as stack
-use Rattle.ocr_syntax.specs.declared.states.CallSite.{CallSite}
-use Rattle.ocr_syntax.specs.declared.states.CallSite.TheVariants as site
 use Rattle.ocr_syntax.specs.declared.states.BlockKind.{BlockKind}
 use Rattle.ocr_syntax.specs.declared.states.BlockKind.TheVariants as kind
 use Rattle.ocr_syntax.specs.declared.states.OpenBlock.{OpenBlock}
@@ -30,65 +19,12 @@ use Rattle.ocr_syntax.specs.declared.states.Wanted.TheVariants as wanted
 use Rattle.ocr_syntax.specs.declared.invoking.ParsedArguments.{ParsedArguments}
 use Rattle.ocr_syntax.specs.declared.invoking.ParsedArguments.TheVariants as parsed
 
-abbrev pub purpose_of : Purpose → m.Purpose
-purpose_of (purpose.Let x) = m.ToLet x
-purpose_of (purpose.Assign x) = m.ToAssign x
-purpose_of purpose.Test = m.ToTest
-purpose_of purpose.Repeat = m.ToRepeat
-purpose_of purpose.Print = m.ToPrint
-purpose_of purpose.Return = m.ToReturn
-
-abbrev pub indexed_of : Indexed → m.Indexed
-indexed_of which.Parameters = m.OfParameters
-indexed_of which.Dependences = m.OfDependences
-
-abbrev pub argument_onto : Arg → Arguments → Arguments
-argument_onto (arg.Value e) rest = value (expression_of e.value) rest
-argument_onto (arg.List es) rest = list (members_of es.items) rest
-argument_onto (arg.Named x) rest = named x rest
-
-abbrev pub args_of : List Arg → Arguments
-args_of [] = empty
-args_of (a ∷ rest) = argument_onto a (args_of rest)
-
 -- the arguments of a call in their order
 abbrev pub in_order : ParsedArguments → Arguments
 in_order parsed.Nothing = empty
 in_order (parsed.Value' e p rest) = value (expression_of e.value) (in_order rest)
 in_order (parsed.List' es p rest) = list (members_of es.items) (in_order rest)
 in_order (parsed.Named' x p rest) = named x (in_order rest)
-
--- the slots that these arguments leave
-abbrev pub slots_left : CallName → List Arg → List ArgumentKind
-slots_left c args = drop (length args) (shape c)
-
-abbrev pub but_first : List ArgumentKind → List ArgumentKind
-but_first [] = []
-but_first (s ∷ ss) = ss
-
--- the slots after the one that is being read
-abbrev pub slots_after : CallName → List Arg → List ArgumentKind
-slots_after c args = but_first (slots_left c args)
-
-abbrev mutual
-  pub stack_of : Stack → m.Stack
-  stack_of (stack.Bottom p) = m.Bottom (purpose_of p)
-  stack_of (stack.Left' a op p k) = m.Left (expression_of a.value) op (stack_of k)
-  stack_of (stack.Prefix' op p k) = m.Prefix op (stack_of k)
-  stack_of (stack.Round' p k) = m.Round (stack_of k)
-  stack_of (stack.Index' i p k) = m.Index (indexed_of i) (stack_of k)
-  stack_of (stack.Argument c args k) =
-      m.Argument c (args_of args.items) (slots_after c args.items) (site_of k)
-  stack_of (stack.Member c args es k) =
-      m.Member c (args_of args.items) (members_of es.items) (slots_after c args.items) (site_of k)
-  stack_of (stack.FlagsArgument c args k) = m.FlagsArgument c (args_of args.items) (site_of k)
-
-  pub site_of : CallSite → m.CallSite
-  site_of (site.InExpression' p k) = m.InExpression (stack_of k)
-  site_of site.AsStatement = m.AsStatement
-
-abbrev pub held_of : Stack → Expr → m.Held
-held_of k e = record { pending = stack_of k; value = expression_of e }
 
 abbrev pub block_kind_of : BlockKind → m.BlockKind
 block_kind_of (kind.WhileBody e) = m.WhileBody (expression_of e.value)

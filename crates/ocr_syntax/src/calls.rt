@@ -9,7 +9,8 @@ ghost use Rattle.ocr_syntax.specs.Fitting.{fits, LeadsTo};
 ghost use Rattle.ocr_syntax.specs.View.{IsPushed, args_of, slots_left, slots_after, site_of, position_of, state_of, state_if_any};
 
 use crate::invoking::invoke;
-use crate::states::{Arg, CallSite, Position, Stack, State, Wanted};
+use crate::states::{Position, State, Wanted};
+use ocr_folding::{Arg, CallSite, Stack};
 use ocr_grammar::{ArgumentKind, Lexeme, shape};
 use ocr_tree::{CallName, Expr, Name};
 use std::alloc::{AllocError, Global};

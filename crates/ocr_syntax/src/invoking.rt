@@ -7,7 +7,7 @@ ghost use Rattle.ocr_grammar.specs.declared.argument_kind.ArgumentKind.TheVarian
 ghost use Rattle.ocr_syntax.specs.Fitting.{fits};
 ghost use Rattle.ocr_syntax.specs.View.{args_of, in_order, argument_onto, Invokes};
 
-use crate::states::Arg;
+use ocr_folding::Arg;
 use ocr_tree::{CallName, Expr, Invoke, Name};
 use std::alloc::{AllocError, Global};
 

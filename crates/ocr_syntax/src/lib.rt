@@ -1,9 +1,7 @@
-//! The states of the parser, what each token of a statement or of a call does to them, and how
-//! operators are folded.
+//! The states of the parser, and what each token of a statement or of a call does to them.
 #![tactic(auto)]
 
 mod calls;
-mod folding;
 mod invoking;
 mod statements;
 mod states;
@@ -13,11 +11,10 @@ pub use calls::{
     after_argument, after_flags, after_member, argument, at_call_end, with_list, with_member,
     with_name, with_value,
 };
-pub use folding::fold;
 pub use statements::{
     after_call, at_brace, at_expression_end, at_statement, first_operand, may_else,
 };
-pub use states::{Arg, BlockKind, CallSite, Indexed, Position, Purpose, Stack, State, Wanted};
+pub use states::{BlockKind, Position, State, Wanted};
 pub use wanted::{
     assign_equals, call_open, function_name, function_open, function_word, index_open, let_equals,
     let_name, list_open, name_at, output_and, output_name,

@@ -6,7 +6,8 @@ ghost use Rattle.ocr_syntax.specs.Machine as machine;
 ghost use Rattle.ocr_syntax.specs.Marks.{is_else};
 ghost use Rattle.ocr_syntax.specs.View.{position_of, block_kind_of, purpose_of, state_of, state_if_any, after_block_end};
 
-use crate::states::{BlockKind, CallSite, OpenBlock, Position, Purpose, Stack, State, Wanted};
+use crate::states::{BlockKind, OpenBlock, Position, State, Wanted};
+use ocr_folding::{CallSite, Purpose, Stack, choice, repetition};
 use ocr_grammar::{Lexeme, Word};
 use ocr_tree::{Expr, Function, Invoke, Stmt};
 use std::alloc::{AllocError, Global};
@@ -28,19 +29,6 @@ fn after_statement(position: Position, stmt: Stmt) -> Result<Option<State>, Allo
         (machine.with_statement (position_of position) (statement_of stmt)))) }
 {
     Ok(Some(State::InFunction(with_statement(position, stmt)?, Wanted::Statement)))
-}
-
-fn repetition(test: Expr, body: Vec<Stmt>) -> Stmt
-    ensures { statement_of result ≡ tree.While (expression_of test) (statements_of body.items) }
-{
-    Stmt::While { test, body }
-}
-
-fn choice(test: Expr, yes: Vec<Stmt>, no: Vec<Stmt>) -> Stmt
-    ensures { statement_of result
-        ≡ tree.If (expression_of test) (statements_of yes.items) (statements_of no.items) }
-{
-    Stmt::If { test, yes, no }
 }
 
 /// The state where a block begins.

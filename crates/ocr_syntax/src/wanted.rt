@@ -6,7 +6,8 @@ ghost use Rattle.ocr_syntax.specs.View.{args_of, slots_after, stack_of, site_of,
 
 use crate::calls::{argument, with_name};
 use crate::statements::first_operand;
-use crate::states::{Arg, CallSite, Indexed, Position, Purpose, Stack, State, Wanted};
+use crate::states::{Position, State, Wanted};
+use ocr_folding::{Arg, CallSite, Indexed, Purpose, Stack};
 use ocr_grammar::{Lexeme, Word};
 use ocr_tree::{BinaryOp, CallName, Function, Name};
 use std::alloc::{AllocError, Global};

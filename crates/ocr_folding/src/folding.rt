@@ -2,10 +2,10 @@
 ghost use Rattle.std.specs.Prelude.{◌≡◌, IfOk};
 ghost use Rattle.ocr_tree.specs.Tree as tree;
 ghost use Rattle.ocr_tree.specs.View.{expression_of};
-ghost use Rattle.ocr_syntax.specs.Machine as machine;
-ghost use Rattle.ocr_syntax.specs.View.{held_of, stack_of};
+ghost use Rattle.ocr_folding.specs.Pending as pending;
+ghost use Rattle.ocr_folding.specs.View.{held_of, stack_of};
 
-use crate::states::Stack;
+use crate::pending::Stack;
 use ocr_grammar::level;
 use ocr_tree::{BinaryOp, Expr, UnaryOp};
 use std::alloc::{AllocError, Global};
@@ -37,7 +37,7 @@ pub fn fold(
     operand: Box<Expr>,
 ) -> Result<(Stack, Box<Expr>), AllocError>
     ensures { IfOk result (λ r. held_of r.0 r.1.value
-        ≡ machine.fold_of low (stack_of stack) (expression_of operand.value)) }
+        ≡ pending.fold_of low (stack_of stack) (expression_of operand.value)) }
 {
     let mut stack = stack;
     let mut operand = operand;

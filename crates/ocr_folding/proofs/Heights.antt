@@ -1,6 +1,6 @@
 -- How much waits for an operand.
 use Rattle.std.proofs.Common.{ℕ, ◌+◌}
-use Rattle.ocr_syntax.specs.Machine.{Stack, Bottom, Left, Prefix, Round, Index, Argument, Member, FlagsArgument}
+use Rattle.ocr_folding.specs.Pending.{Stack, Bottom, Left, Prefix, Round, Index, Argument, Member, FlagsArgument}
 
 abbrev pub height : Stack → ℕ
 height (Bottom p) = 0

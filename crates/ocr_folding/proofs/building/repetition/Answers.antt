@@ -1,5 +1,5 @@
 use Rattle.ocr_tree.proofs.Rows.{while_view}
-use Rattle.ocr_syntax.proofs.statements.repetition.Goals as goal
+use Rattle.ocr_folding.proofs.building.repetition.Goals as goal
 
 pub returns : goal.returns
 returns c = while_view _ _

@@ -1,0 +1,59 @@
+// What waits for an operand. Expressions stand in boxes, into which each comes in the end: a large
+// value that is handed on again and again is slow to check.
+use ocr_tree::{BinaryOp, CallName, Expr, Name, UnaryOp};
+
+/// What an outermost expression is for.
+#[derive(Drop)]
+pub enum Purpose {
+    Let(Name),
+    Assign(Name),
+    Test,
+    Repeat,
+    Print,
+    Return,
+}
+
+/// The two lists that have an index.
+#[derive(Clone, Copy, PartialEq, Eq, Debug)]
+pub enum Indexed {
+    Parameters,
+    Dependences,
+}
+
+/// An argument of a call.
+#[derive(Drop)]
+pub enum Arg {
+    Value(Box<Expr>),
+    List(Vec<Expr>),
+    Named(Name),
+}
+
+/// What waits for an operand, the nearest first. A call stands with its arguments so far.
+#[cycle(stack)]
+#[derive(Drop)]
+pub enum Stack {
+    /// Nothing: the operand begins an outermost expression.
+    Bottom(Purpose),
+    /// An operator, with the operand to its left.
+    Left(Box<Expr>, BinaryOp, Box<Stack>),
+    /// A sign before the operand.
+    Prefix(UnaryOp, Box<Stack>),
+    /// A round bracket that is open.
+    Round(Box<Stack>),
+    /// The index of an element is read.
+    Index(Indexed, Box<Stack>),
+    /// A value is read.
+    Argument(CallName, Vec<Arg>, CallSite),
+    /// A member of a list is read, after these.
+    Member(CallName, Vec<Arg>, Vec<Expr>, CallSite),
+    /// The flags are read, after which an output may stand.
+    FlagsArgument(CallName, Vec<Arg>, CallSite),
+}
+
+/// Where a call stands.
+#[cycle(stack)]
+#[derive(Drop)]
+pub enum CallSite {
+    InExpression(Box<Stack>),
+    AsStatement,
+}
