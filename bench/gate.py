@@ -2,7 +2,8 @@
 """Runs the merge gate, `rt ci`, or its part for the crates named, and tells what it cost: processor minutes of each
 crate's proofs, edits and tests. What an earlier run has proved is kept and costs nothing: for a whole sum, begin with
 nothing kept. Behind it stand the processor seconds of `rt selftest`, the kit's own example, which is the same work
-everywhere: by it tables of two machines can be compared.
+everywhere: by it tables of two machines can be compared. What `rt ci` itself takes, apart from the checks that it
+starts, stands in a row of its own: it sums files on each way down through crates.txt (see crates.py).
 
 A sampler reads /proc twice a second. The processor time of a process is what it had when it was last seen, so at most
 half a second of each is missed. A check that tries an edit is told from the others by the folder that it, or what it
@@ -75,11 +76,22 @@ def reference():
     return sum(after[2:4]) - sum(before[2:4])
 
 
+def own_seconds(pid):
+    """The processor time of a process, without those below it; 0 once it has ended."""
+    try:
+        with open(f"/proc/{pid}/stat") as it:
+            fields = it.read().rpartition(")")[2].split()
+    except OSError:
+        return 0
+    return (int(fields[11]) + int(fields[12])) / TICKS
+
+
 def measured(names, out):
     """Runs the gate, and returns its status and the processor seconds of each process below it."""
     seen = {}
     gate = subprocess.Popen(["rt", "ci", *names], cwd=ROOT, stdout=out, stderr=subprocess.STDOUT)
     while gate.poll() is None:
+        seen["rt ci"] = (("rt ci", "other"), max(own_seconds(gate.pid), seen.get("rt ci", [0, 0])[1]))
         for process, words, seconds in descendants(gate.pid):
             name = os.path.basename(words[0]) if words else ""
             # one that has just begun has the words of the process that began it, and so has one that has just ended
@@ -101,11 +113,11 @@ def main():
         minutes[what] += seconds / 60
     kinds = ("proof", "edits", "tests")
     print("| Crate | Proof | Edits | Tests | Sum |\n|---|---|---|---|---|")
-    for crate in sorted({crate for crate, _ in minutes if crate != "other"}):
+    for crate in sorted({crate for crate, kind in minutes if kind in kinds}):
         row = [minutes[crate, kind] for kind in kinds]
         print(f"| `{crate}` | " + " | ".join(f"{it:.1f}" for it in [*row, sum(row)]) + " |")
-    other = minutes["other", "other"]
-    print(f"| other | | | | {other:.1f} |")
+    for what in ("other", "rt ci"):
+        print(f"| {what} | | | | {minutes[what, 'other']:.1f} |")
     sums = [sum(it for (_, of), it in minutes.items() if of == kind) for kind in kinds]
     print("| **all** | " + " | ".join(f"**{it:.1f}**" for it in [*sums, sum(minutes.values())]) + " |")
     with open(log) as it:

@@ -7,8 +7,7 @@ ghost use Rattle.ocr_acquire.specs.Plan.{plan_of, IsPlan, IsWellFormed, asks, la
 ghost use Rattle.ocr_acquire.specs.Writes.{PutLaw, WrittenLaw};
 ghost use Rattle.ocr_acquire.specs.Mode.{rank_of, mode_of, together, fits_all, NumberLaw, OrderLaw, SharingLaw, AloneLaw};
 
-use ocr_base::NoMemory;
-use ocr_guid::Guid;
+use ocr_guid::{Guid, NoMemory};
 use smallvec::SmallVec;
 use std::alloc::Global;
 use std::marker::Model;

@@ -5,11 +5,10 @@ ghost use Rattle.std.specs.Prelude.{◌≡◌, ◌≤◌, ◌<◌, ◌+◌, ◌-
 ghost use Rattle.ocr_guid.specs.Target.{on_destroy};
 ghost use Rattle.ocr_any_event.specs.AnyEvent.{state_of, is_destroyed, takes, counted, refusal, on_satisfy, after_satisfy, on_link, after_link, after_destroy, takes_arg, plain_kind, SatisfyLaw, LinkLaw, DestroyLaw};
 
-use ocr_base::NoMemory;
 use ocr_channel_event::Channel;
 use ocr_event::{Event, EventKind};
 use ocr_guid::target::{Linked, Satisfied, Target};
-use ocr_guid::{Code, Guid};
+use ocr_guid::{Code, Guid, NoMemory};
 use ocr_latch::Latch;
 use std::alloc::Global;
 

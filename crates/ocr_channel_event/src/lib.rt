@@ -6,9 +6,8 @@ ghost use Rattle.ocr_guid.specs.declared.target.Target.{Target};
 ghost use Rattle.ocr_guid.specs.Target.{is_unwanted, is_welcome, on_destroy};
 ghost use Rattle.ocr_channel_event.specs.Channel.{state_of, is_full, refusal, after_satisfy, on_satisfy, after_link, on_link, after_destroy, RefusalLaw, SatisfyLaw, LinkLaw, DestroyLaw, DestroyedLaw, MatchLaw, RoomLaw};
 
-use ocr_base::{NoMemory, Seq};
 use ocr_guid::target::{Linked, Satisfied, Target};
-use ocr_guid::{Code, Guid};
+use ocr_guid::{Code, Guid, NoMemory, Seq};
 use std::alloc::Global;
 use std::collections::VecDeque;
 use std::marker::Model;

@@ -17,8 +17,8 @@ use Rattle.ocr_history.specs.declared.entry.Stop.TheVariants as by
 use Rattle.ocr_history.specs.Weight.{weight_of}
 use Rattle.ocr_parts.specs.declared.part.Part.{Part}
 use Rattle.ocr_parts.specs.Legal.{IsCreating, IsWeighed}
-use Rattle.ocr_standing.specs.Kept.{AreKept}
-use Rattle.ocr_standing.proofs.Kept.{kept_law}
+use Rattle.ocr_facts.specs.Standing.{AreKept}
+use Rattle.ocr_facts.proofs.Standing.{kept_law}
 use Rattle.ocr_parts.specs.Parts.{parts_of}
 use Rattle.ocr_parts.specs.Taken.{ArePartsOf}
 use Rattle.ocr_facts.specs.Clerks.{Knows, OcrTerms, OcrView, of_terms}

@@ -18,7 +18,7 @@ use Rattle.ocr_facts.specs.Clerks.{IsStep, OcrTerms, OcrView}
 use Rattle.ocr_facts.specs.Ocr.{meaning}
 use Rattle.ocr_facts.proofs.Entered.{entry_law, settled_resumes}
 use Rattle.ocr_facts.specs.Ocr.{wakes}
-use Rattle.ocr_standing.proofs.Kept.{alike_kept}
+use Rattle.ocr_facts.proofs.Standing.{alike_kept}
 use Rattle.ocr_parts.proofs.Local.{effect_law}
 use Rattle.ocr_acquire.specs.declared.Mode.{Mode}
 use Rattle.ocr_rule.proofs.Numbered.{weigh_keys}

@@ -10,7 +10,7 @@ use Rattle.ocr_parts.specs.declared.part.Core.{Core}
 use Rattle.ocr_parts.specs.declared.part.Part.{Part}
 use Rattle.ocr_parts.specs.declared.part.Part.TheVariants as part
 use Rattle.ocr_parts.specs.Taken.{is_within}
-use Rattle.ocr_quiet.specs.Waits.{awaits_in}
+use Rattle.ocr_facts.specs.Standing.{awaits_in}
 use Rattle.ocr_facts.specs.Clerks.{OcrTerms, OcrView}
 use Rattle.ocr_facts.specs.Ocr.{meaning}
 use Rattle.ocr_rule.specs.Contract.{GiveTells, MayGive}

@@ -10,8 +10,8 @@ use Rattle.ocr_parts.specs.declared.part.Part.TheVariants as part
 use Rattle.ocr_parts.specs.Effects.{settled}
 use Rattle.ocr_parts.specs.Parts.{parts_of}
 use Rattle.ocr_parts.specs.Taken.{as_face, is_within, place_of, seen}
-use Rattle.ocr_quiet.specs.Waits.{awaits, awaits_in}
-use Rattle.ocr_quiet.proofs.Stages.{standing_law}
+use Rattle.ocr_facts.specs.Standing.{awaits, awaits_in}
+use Rattle.ocr_facts.proofs.Standing.{standing_law}
 use Rattle.ocr_facts.specs.Clerks.{OcrTerms, OcrView, of_terms}
 use Rattle.ocr_facts.specs.Ocr.{meaning, part_of}
 use Rattle.ocr_facts.proofs.Awaiting.{unqueued}

@@ -13,7 +13,7 @@ use Rattle.ocr_parts.specs.Kinds.{counted_on}
 use Rattle.ocr_parts.specs.Legal.{is_stop}
 use Rattle.ocr_parts.specs.Messages.{delivered}
 use Rattle.ocr_parts.specs.Taken.{face_in, keys, parts_in}
-use Rattle.ocr_standing.specs.Kept.{kept_ready}
+use Rattle.ocr_facts.specs.Standing.{kept_ready}
 use Rattle.ocr_rule.specs.Contract.{Claims, Known}
 use Rattle.ocr_rule.specs.Steps.{Deed, deed}
 use Rattle.ocr_rule.specs.Sums.{HasAll, one_at, weigh}

@@ -9,8 +9,11 @@ use Rattle.atomic_table.specs.Seated.{TableId}
 use Rattle.ocr_code.specs.Checked.{checked_tree}
 use Rattle.ocr_code.specs.declared.checked.Checked.{Checked}
 use Rattle.ocr_tree.specs.Runnable.{IsRunnable}
-use Rattle.ocr_facts.specs.Clerks.{IsStep, OcrTerms, OcrView}
-use Rattle.ocr_facts.specs.Ocr.{ends, meaning, starts}
+use Rattle.ocr_facts.specs.Clerks.{IsStep}
+pub use Rattle.ocr_facts.specs.Clerks.{OcrTerms, OcrView}
+use Rattle.ocr_facts.specs.Ocr.{ends, starts}
+pub use Rattle.ocr_facts.specs.Ocr.{meaning}
+use Rattle.ocr_facts.specs.Standing.{awaits_in, is_own, plan_from}
 use Rattle.ocr_facts.specs.declared.fact.Fact.{Fact}
 use Rattle.ocr_facts.specs.declared.fact.Fact.TheVariants.{IsSet, Short}
 use Rattle.ocr_meaning.specs.declared.call.Call as body
@@ -29,10 +32,7 @@ use Rattle.ocr_parts.specs.Legal.{IsSaid, IsStop}
 use Rattle.ocr_parts.specs.Progress.{made_ready, with_phase}
 use Rattle.ocr_parts.specs.Kinds.{is_acquiring_edt, next_in, progress_in}
 use Rattle.ocr_parts.specs.Taken.{is_within}
-use Rattle.ocr_quiet.specs.Waits.{awaits_in}
 use Rattle.ocr_slots.specs.declared.Slot.{Slot}
-use Rattle.ocr_standing.specs.Kept.{plan_from}
-use Rattle.ocr_standing.specs.Lasting.{is_own}
 use Rattle.ocr_rule.specs.Contract.{IsOf}
 use Rattle.ocr_rule.specs.Rule.{RunsIn}
 use Rattle.ocr_rule.specs.Steps.{Sees, deed, logged}

@@ -3,9 +3,9 @@ ghost use Rattle.ocr_facts.specs.Ocr.{meaning};
 ghost use Rattle.ocr_clerks.specs.Laws as laws;
 
 use ocr_base::NoMemory;
-use ocr_codes::{footprint, weight};
 use ocr_facts::{Fact, Setting};
 use ocr_history::{ARGUMENTS, Entry, MAIN_EDT, What};
+use ocr_machine::{footprint, weight};
 use ocr_parts::Part;
 use ocr_turns::Machine;
 use std::alloc::Global;

@@ -27,8 +27,7 @@ use Rattle.ocr_rule.specs.Contract.{SameHand}
 use Rattle.ocr_rule.specs.Steps.{fresh, gathered, parted}
 use Rattle.ocr_rule.specs.Sums.{load_of}
 use Rattle.ocr_rule.proofs.Totals.{at_append}
-use Rattle.ocr_worker.specs.Leaving.{DrainLeaves, WorkLeaves}
-use Rattle.ocr_advancing.specs.Working.{IsBetween}
+use Rattle.ocr_worker.specs.Leaving.{DrainLeaves, IsBetween, WorkLeaves}
 use Rattle.ocr_worker.specs.declared.leaving.Leave.{Leave}
 use Rattle.ocr_worker.specs.declared.leaving.Leave.TheVariants as leave
 use Rattle.ocr_crew.specs.Logs.{EndsBy, HasLogs, IsAnyShort, IsLog, KnowsEnd, LacksAmong, read, quiet}

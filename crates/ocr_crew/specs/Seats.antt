@@ -8,8 +8,7 @@ use Rattle.ocr_code.specs.declared.checked.Checked.{Checked}
 use Rattle.ocr_history.specs.declared.entry.Stop.TheVariants as by
 use Rattle.ocr_steal.specs.declared.pool.Pool.{Pool}
 use Rattle.ocr_steal.specs.Pool.{IsOf, hands_in}
-use Rattle.ocr_advancing.specs.Resting.{HasDelivered}
-use Rattle.ocr_advancing.specs.Working.{IsBetween}
+use Rattle.ocr_worker.specs.Leaving.{HasDelivered, IsBetween}
 use Rattle.ocr_worker.specs.declared.leaving.Leave.{Leave}
 use Rattle.ocr_worker.specs.declared.leaving.Leave.TheVariants as leave
 use Rattle.ocr_worker.specs.declared.leaving.Worked.{Worked}

@@ -3,10 +3,10 @@ ghost use Rattle.std.specs.Prelude.{◌≡◌, ◌≤◌, ◌+◌, [], IfOk, IfS
 ghost use Rattle.ocr_code.specs.Checked.{checked_tree};
 ghost use Rattle.ocr_facts.specs.Clerks.{of_terms};
 ghost use Rattle.ocr_rule.specs.Contract.{TermsAre};
-ghost use Rattle.ocr_advancing.specs.Resting.{IsAlone};
 ghost use Rattle.ocr_crew.specs.Ended.{CanRun, IsWhole, setting_of};
 ghost use Rattle.ocr_crew.specs.Logs.{HasLogs};
 ghost use Rattle.ocr_crew.specs.Seats.{IsGathering, IsHiring, IsLast};
+ghost use Rattle.ocr_worker.specs.Leaving.{IsAlone};
 ghost use Rattle.ocr_worker.specs.declared.leaving.Leave.TheVariants as leave;
 
 use crate::gathering::join_all;

@@ -5,9 +5,8 @@ ghost use Rattle.std.specs.Prelude.{◌≡◌, ◌↔◌, ℕ, ◌&&◌, not, []
 ghost use Rattle.ocr_guid.specs.Target.{is_unwanted, is_welcome, on_destroy};
 ghost use Rattle.ocr_event.specs.Event.{state_of, is_fired_sticky, is_fired_idem, refusal, after_satisfy, on_satisfy, after_link, on_link, after_destroy, RefusalLaw, SatisfyLaw, LinkLaw, DestroyLaw, DestroyedLaw, DeliveryLaw};
 
-use ocr_base::{NoMemory, Seq};
 use ocr_guid::target::{Linked, Satisfied, Target};
-use ocr_guid::{Code, Guid};
+use ocr_guid::{Code, Guid, NoMemory, Seq};
 use std::alloc::Global;
 use std::marker::Model;
 

@@ -9,4 +9,5 @@ mod text;
 
 pub use executed::{Executed, execute};
 pub use lines::line_of_fault;
+pub use ocr_crew::Merged;
 pub use text::{TextFault, TextStop, canonical_of, text_laws};

@@ -12,3 +12,4 @@ pub mod Sending
 pub mod Entered
 pub mod Owed
 pub mod Homes
+pub mod Standing

@@ -1,3 +1,4 @@
 pub mod Facts
 pub mod Ocr
 pub mod Clerks
+pub mod Standing

@@ -6,6 +6,7 @@ ghost use Rattle.ocr_guid.specs.Code.{number_of};
 
 pub mod target;
 
+pub use ocr_base::{NoMemory, Seq};
 use std::error::Error;
 use std::fmt;
 use std::marker::Model;

@@ -4,7 +4,8 @@ use Rattle.ocr_parts.specs.declared.part.Part.{Part}
 use Rattle.ocr_parts.specs.declared.part.Part.TheVariants as part
 use Rattle.ocr_parts.specs.Parts.{Parts}
 use Rattle.ocr_parts.specs.Taken.{as_core, is_within, place_of}
-use Rattle.ocr_codes.specs.Lookup.{part_at, face_at}
+use Rattle.ocr_codes.specs.Lookup.{part_at}
+pub use Rattle.ocr_codes.specs.Lookup.{face_at}
 
 abbrev pub core_at : ℕ → List Part → ℕ → Part
 core_at limit ps t = if is_within limit t then as_core (part_at ps (limit + t)) else part.Vacant

@@ -9,5 +9,6 @@ mod taken;
 
 pub use ending::{destroy, end_hold, end_step};
 pub use events::{deliver_step, depend, depend_all, satisfy_at};
+pub use ocr_codes::{footprint, weight};
 pub use scopes::{home_of, join_home, sent_by_end};
 pub use taken::Taken;

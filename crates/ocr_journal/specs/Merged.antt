@@ -1,7 +1,6 @@
 -- The journal of a run, told of the table that was finished.
 use Rattle.std.specs.Prelude.{◌≡◌, ℕ, List, length}
-use Rattle.ocr_facts.specs.Clerks.{OcrTerms, OcrView}
-use Rattle.ocr_facts.specs.Ocr.{meaning}
+use Rattle.ocr_clerks.specs.Work.{OcrTerms, OcrView, meaning}
 use Rattle.ocr_history.specs.declared.entry.Entry.{Entry}
 use Rattle.ocr_rule.specs.Contract.{Finished}
 

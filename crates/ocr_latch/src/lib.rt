@@ -5,9 +5,8 @@ ghost use Rattle.std.specs.Prelude.{◌≡◌, ◌↔◌, ◌+◌, ◌-◌, ◌^
 ghost use Rattle.ocr_guid.specs.Target.{is_unwanted, is_welcome, on_destroy};
 ghost use Rattle.ocr_latch.specs.Latch.{state_of, refusal, after_satisfy, on_satisfy, after_link, on_link, after_destroy, RefusalLaw, SatisfyLaw, DropLaw, LinkLaw, DestroyLaw, DestroyedLaw, DeliveryLaw};
 
-use ocr_base::{NoMemory, Seq};
 use ocr_guid::target::{Linked, Satisfied, Target};
-use ocr_guid::{Code, Guid};
+use ocr_guid::{Code, Guid, NoMemory, Seq};
 use std::alloc::Global;
 use std::marker::Model;
 

@@ -9,5 +9,5 @@ mod waking;
 
 pub use beginning::opening;
 pub use calling::Entered;
-pub use ocr_hand::home_of;
+pub use ocr_hand::{footprint, home_of, weight};
 pub use stepping::{SteppedAll, step, step_all};

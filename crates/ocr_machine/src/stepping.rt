@@ -6,7 +6,7 @@ ghost use Rattle.ocr_parts.specs.Kinds.{counted_on};
 ghost use Rattle.ocr_parts.specs.LegalOn.{IsLegalOn};
 ghost use Rattle.ocr_parts.specs.Messages.{sends, resumes};
 ghost use Rattle.ocr_parts.specs.Taken.{keys, parts_in, ArePlaced};
-ghost use Rattle.ocr_codes.specs.Lookup.{face_at};
+ghost use Rattle.ocr_hand.specs.All.{face_at};
 ghost use Rattle.ocr_hand.specs.AtHand.{state, Becomes};
 ghost use Rattle.ocr_hand.specs.All.{all_parts, AreAllPlaced};
 

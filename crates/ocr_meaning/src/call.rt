@@ -2,8 +2,7 @@
 ghost use Rattle.std.specs.Prelude.{◌≡◌, IsTrue, ◌↔◌};
 ghost use Rattle.ocr_meaning.specs.Call.{is_creation};
 
-use ocr_base::{NoMemory, Seq};
-use ocr_guid::{Code, Guid};
+use ocr_guid::{Code, Guid, NoMemory, Seq};
 
 /// A call with the values of its arguments. `ocrEventSatisfy` is `Satisfy` with slot 0, and a
 /// `function` is the function's number, from 1 in the order of the text.

@@ -15,8 +15,7 @@ ghost use Rattle.ocr_run.specs.Headline.{IsHeadline, IsAnswered, IsCopied, IsChe
 ghost use Rattle.ocr_run.specs.Wants.{IsServable, IsAnsweredAs, IsReadAs};
 
 use ocr_clerks::Gate;
-use ocr_crew::Merged;
-use ocr_execute::{Executed, TextFault, TextStop, canonical_of, execute, line_of_fault};
+use ocr_execute::{Executed, Merged, TextFault, TextStop, canonical_of, execute, line_of_fault};
 use ocr_io::{ReadStop, Sink, Source, read_all, write_all};
 use ocr_words::{Options, Wanted, WordsStop, command};
 use std::alloc::Global;

@@ -1,7 +1,7 @@
 -- What a worker that leaves has.
 use Rattle.std.specs.Prelude.{ℕ}
-use Rattle.ocr_advancing.specs.Resting.{HasDelivered, SeesQuiet}
-use Rattle.ocr_advancing.specs.Working.{IsBetween, IsClosed}
+pub use Rattle.ocr_advancing.specs.Resting.{HasDelivered, IsAlone, SeesQuiet}
+pub use Rattle.ocr_advancing.specs.Working.{IsBetween, IsClosed}
 use Rattle.ocr_clerks.specs.Entering.{OcrKnown}
 use Rattle.ocr_clerks.specs.Work.{OcrTable}
 use Rattle.ocr_code.specs.declared.checked.Checked.{Checked}
