@@ -1,5 +1,5 @@
 #!/usr/bin/env python3
-"""Runs the merge gate, `rt ci`, or its part for the crates named, and tells what it cost: processor minutes of each
+"""Runs the merge gate, `rt ci`, whole or for some crates, and tells what it cost: processor minutes of each
 crate's proofs, edits and tests. What an earlier run has proved is kept and costs nothing: for a whole sum, begin with
 nothing kept. Behind it stand the processor seconds of `rt selftest`, the kit's own example, which is the same work
 everywhere: by it tables of two machines can be compared. What `rt ci` itself takes, apart from the checks that it
@@ -11,14 +11,16 @@ kept, stands in, and one of tests by its flag. What is not a check (linking, the
 'other'.
 
 In any folder:  bench/gate.sh [FILE [CRATE]...]     FILE keeps the gate's own output (default: gate.log in the current
-folder).
+folder). Where crates are named, the gate runs on a copy of the repository with these and those below them.
 Ends with the gate's status.
 """
 import collections
 import os
 import re
+import shutil
 import subprocess
 import sys
+import tempfile
 import time
 
 ROOT = os.path.dirname(os.path.dirname(os.path.abspath(__file__)))
@@ -86,10 +88,24 @@ def own_seconds(pid):
     return (int(fields[11]) + int(fields[12])) / TICKS
 
 
-def measured(names, out):
+def part_of(names, room):
+    """Copies the crates named, and those below them, into a repository of their own."""
+    with open(f"{ROOT}/crates.txt", encoding="utf-8") as it:
+        lines = {line.split(":")[0].split()[0]: line for line in it if line.strip() and not line.startswith("#")}
+    wanted = list(names)
+    for name in wanted:
+        wanted += [it for it in lines[name].partition(":")[2].split() if it in lines and it not in wanted]
+    for name in wanted:
+        shutil.copytree(f"{ROOT}/crates/{name}", f"{room}/crates/{name}", ignore=shutil.ignore_patterns("out"))
+    shutil.copy(f"{ROOT}/HANDLES", room)
+    with open(f"{room}/crates.txt", "w", encoding="utf-8") as it:
+        it.writelines(line for name, line in lines.items() if name in wanted)
+
+
+def measured(folder, out):
     """Runs the gate, and returns its status and the processor seconds of each process below it."""
     seen = {}
-    gate = subprocess.Popen(["rt", "ci", *names], cwd=ROOT, stdout=out, stderr=subprocess.STDOUT)
+    gate = subprocess.Popen(["rt", "ci"], cwd=folder, stdout=out, stderr=subprocess.STDOUT)
     while gate.poll() is None:
         seen["rt ci"] = (("rt ci", "other"), max(own_seconds(gate.pid), seen.get("rt ci", [0, 0])[1]))
         for process, words, seconds in descendants(gate.pid):
@@ -106,8 +122,10 @@ def measured(names, out):
 def main():
     log = sys.argv[1] if len(sys.argv) > 1 else "gate.log"
     start = time.time()
-    with open(log, "w") as out:
-        status, seen = measured(sys.argv[2:], out)
+    with open(log, "w") as out, tempfile.TemporaryDirectory(prefix="gate-") as room:
+        if sys.argv[2:]:
+            part_of(sys.argv[2:], room)
+        status, seen = measured(room if sys.argv[2:] else ROOT, out)
     minutes = collections.Counter()
     for what, seconds in seen.values():
         minutes[what] += seconds / 60

@@ -3,19 +3,27 @@ use ocr_guid::Guid;
 use std::test::Fail;
 
 #[test]
-fn modes_have_the_numbers_from_0_to_4(rt: HostRuntime) {
-    assert_eq!(rt; Mode::of(0), Some(Mode::Null));
-    assert_eq!(rt; Mode::of(2), Some(Mode::Const));
-    assert_eq!(rt; Mode::of(4), Some(Mode::Ew));
-    assert_eq!(rt; Mode::of(5), None);
+fn modes_have_the_numbers_from_0_to_4(_rt: HostRuntime) {
+    let (least, constant, most) = (Mode::of(0), Mode::of(2), Mode::of(4));
+    prove!(least == Some(Mode::Null));
+    prove!(constant == Some(Mode::Const));
+    prove!(most == Some(Mode::Ew));
+    let none = Mode::of(5);
+    prove!(none.is_none());
 }
 
 #[test]
-fn a_mode_fits_beside_all_holders_or_not(rt: HostRuntime) {
+fn a_mode_fits_beside_all_holders_or_not(_rt: HostRuntime) {
     let sharing = [(Guid(2), Mode::Ro), (Guid(3), Mode::Rw)];
-    assert!(rt; fits(Mode::Rw, &sharing) && fits(Mode::Ro, &sharing));
-    assert!(rt; !fits(Mode::Const, &sharing) && !fits(Mode::Ew, &sharing));
-    assert!(rt; fits(Mode::Ew, &[]));
+    let (ro, rw) = (fits(Mode::Ro, &sharing), fits(Mode::Rw, &sharing));
+    prove!(ro && rw);
+    let (constant, ew) = (fits(Mode::Const, &sharing), fits(Mode::Ew, &sharing));
+    prove!(!constant && !ew);
+    let reading = [(Guid(2), Mode::Const)];
+    let (rw, ew) = (fits(Mode::Rw, &reading), fits(Mode::Ew, &reading));
+    prove!(!rw && !ew);
+    let alone = fits(Mode::Ew, &[]);
+    prove!(alone);
 }
 
 #[test]
@@ -28,7 +36,9 @@ fn the_strongest_mode_of_each_block_is_planned(rt: HostRuntime) -> Result<(), Fa
         (Guid(9), Mode::Null),
     ];
     let plan = plan(rt.alloc(), &slots)?;
-    let wanted = [(Guid(3), Mode::Const), (Guid(7), Mode::Ew)];
-    assert_eq!(rt; plan.as_slice(), wanted.as_slice());
+    prove!(plan.len() == 2);
+    let (first, second) = (plan[0], plan[1]);
+    prove!(first == (Guid(3), Mode::Const));
+    prove!(second == (Guid(7), Mode::Ew));
     Ok(())
 }

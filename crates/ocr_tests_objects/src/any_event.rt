@@ -1,6 +1,6 @@
-use crate::sent::{slot, targets};
-use ocr_any_event::{LATCH, ONCE, event_of};
-use ocr_guid::target::Linked;
+use crate::sent::{is_sent_to, slot};
+use ocr_any_event::{CHANNEL, IDEM, LATCH, ONCE, STICKY, event_of};
+use ocr_guid::target::{Linked, Satisfied};
 use ocr_guid::{Code, Guid};
 use std::test::Fail;
 
@@ -13,12 +13,11 @@ fn an_event_of_each_kind_sends_and_is_destroyed(rt: HostRuntime) -> Result<(), F
         assert_eq!(rt; event.refusal(Guid(3)), None);
         let first = event.satisfy(rt.alloc(), 1, Guid(3))?;
         let fired = if kind == LATCH {
-            targets(event.satisfy(rt.alloc(), 0, Guid(3))?)
+            event.satisfy(rt.alloc(), 0, Guid(3))?
         } else {
-            targets(first)
+            first
         };
-        let fired = fired.ok_or("it fires")?;
-        assert_eq!(rt; fired.as_slice(), [slot(7)].as_slice());
+        assert!(rt; is_sent_to(&fired, slot(7)));
         assert_eq!(rt; event.is_destroyed(), kind == ONCE || kind == LATCH);
         let gone = if event.is_destroyed() {
             Code::Stale
@@ -29,4 +28,51 @@ fn an_event_of_each_kind_sends_and_is_destroyed(rt: HostRuntime) -> Result<(), F
         assert_eq!(rt; event.refusal(Guid(3)), Some(Code::Stale));
     }
     Ok(())
+}
+
+#[test]
+fn each_number_makes_an_event_of_its_kind(rt: HostRuntime) -> Result<(), Fail> {
+    let mut once = event_of(rt.alloc(), ONCE, 1, 0);
+    let _fired = once.satisfy(rt.alloc(), 0, Guid(3))?;
+    let second = once.refusal(Guid(5));
+    prove!(second == Some(Code::Stale));
+    let mut idem = event_of(rt.alloc(), IDEM, 1, 0);
+    let _fired = idem.satisfy(rt.alloc(), 0, Guid(3))?;
+    let second = idem.satisfy(rt.alloc(), 0, Guid(5))?;
+    prove!(matches!(&second, Satisfied::Ignored));
+    let mut sticky = event_of(rt.alloc(), STICKY, 1, 0);
+    let _fired = sticky.satisfy(rt.alloc(), 0, Guid(3))?;
+    let second = sticky.refusal(Guid(5));
+    prove!(second == Some(Code::Eperm));
+    Ok(())
+}
+
+#[test]
+fn a_latch_counts_and_a_channel_keeps(rt: HostRuntime) -> Result<(), Fail> {
+    let mut latch = event_of(rt.alloc(), LATCH, 1, 0);
+    let up = latch.satisfy(rt.alloc(), 1, Guid(3))?;
+    prove!(matches!(&up, Satisfied::Kept));
+    let down = latch.satisfy(rt.alloc(), 0, Guid(3))?;
+    prove!(matches!(&down, Satisfied::Fired(_)));
+    let mut channel = event_of(rt.alloc(), CHANNEL, 1, 2);
+    let kept = channel.satisfy(rt.alloc(), 0, Guid(3))?;
+    prove!(matches!(&kept, Satisfied::Kept));
+    let oldest = channel.link(rt.alloc(), slot(7))?;
+    prove!(oldest == Linked::Now(Guid(3)));
+    let (destroyed, again) = (channel.destroy(), channel.destroy());
+    prove!(destroyed == Code::Done && again == Code::Stale);
+    Ok(())
+}
+
+#[test]
+fn the_flag_tells_whether_blocks_are_taken(rt: HostRuntime) {
+    let (taking, bare) = (
+        event_of(rt.alloc(), STICKY, 1, 0),
+        event_of(rt.alloc(), STICKY, 0, 0),
+    );
+    let (takes, takes_none) = (taking.takes_arg(), !bare.takes_arg());
+    prove!(takes && takes_none);
+    let (block, none) = (bare.refusal(Guid(3)), bare.refusal(Guid::NULL));
+    prove!(block == Some(Code::Einval));
+    prove!(none.is_none());
 }

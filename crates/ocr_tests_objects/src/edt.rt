@@ -2,13 +2,14 @@
 // way out.
 use ocr_acquire::{Mode, plan};
 use ocr_base::NoMemory;
-use ocr_edt::{Edt, Filling, Running, Waiting};
+use ocr_edt::{Edt, Filling, Running};
 use ocr_guid::Guid;
 use std::alloc::Global;
 use std::test::Fail;
 
-// An EDT that acquired one of its three blocks and waits for the next.
-fn let_wait(alloc: Global) -> Result<Option<Waiting>, NoMemory> {
+// An EDT acquires one of its three blocks, waits for the next and finds it stale, and acquires the
+// last one.
+fn started(alloc: Global) -> Result<Running, NoMemory> {
     let slots = [
         (Guid(7), Mode::Rw),
         (Guid(3), Mode::Const),
@@ -16,30 +17,31 @@ fn let_wait(alloc: Global) -> Result<Option<Waiting>, NoMemory> {
     ];
     let plan = plan(alloc, &slots)?;
     let edt = Filling::new(Guid(4), Guid::NULL, Guid(6), true).ready(plan);
-    if edt.next() != Some((Guid(3), Mode::Const)) {
-        return Ok(None);
-    }
+    let first = edt.next();
+    prove!(first == Some((Guid(3), Mode::Const)));
     let edt = edt.acquired(false);
-    if edt.next() != Some((Guid(5), Mode::Ew)) {
-        return Ok(None);
-    }
-    Ok(Some(edt.wait()))
-}
-
-// It finds the block stale, acquires the last one and starts.
-fn started(edt: Waiting) -> Option<Running> {
-    if edt.next() != (Guid(5), Mode::Ew) {
-        return None;
-    }
+    let second = edt.next();
+    prove!(second == Some((Guid(5), Mode::Ew)));
+    let edt = edt.wait();
+    let awaited = edt.next();
+    prove!(awaited == (Guid(5), Mode::Ew));
     let edt = edt.resumed().acquired(true);
-    if edt.next() != Some((Guid(7), Mode::Rw)) {
-        return None;
-    }
+    let last = edt.next();
+    prove!(last == Some((Guid(7), Mode::Rw)));
     let edt = edt.acquired(false);
-    if edt.next().is_some() {
-        return None;
-    }
-    Some(edt.start())
+    let none = edt.next();
+    prove!(none.is_none());
+    let mut edt = edt.start();
+    let (held, stale, least) = (edt.mode(Guid(3)), edt.mode(Guid(5)), edt.least_held());
+    prove!(held == Some(Mode::Const));
+    prove!(stale.is_none());
+    prove!(least == Some(Guid(3)));
+    let (is_stale, other) = (edt.is_stale(Guid(5)), edt.is_stale(Guid(3)));
+    prove!(is_stale && !other);
+    edt.drop_hold(Guid(5));
+    let is_stale = edt.is_stale(Guid(5));
+    prove!(is_stale);
+    Ok(edt)
 }
 
 fn holds_what_it_acquired(edt: &Running) -> bool {
@@ -49,13 +51,16 @@ fn holds_what_it_acquired(edt: &Running) -> bool {
         && !edt.is_stale(Guid(3))
 }
 
-// A hold that it has is one in `Rw` from then on.
-fn holds_what_it_makes(alloc: Global, edt: &mut Running) -> Result<bool, NoMemory> {
+// A hold that it has is one in `Rw` from then on, and none in any mode is left where it is dropped.
+fn holds_what_it_makes(alloc: Global, edt: &mut Running) -> Result<(), NoMemory> {
     edt.hold(alloc, Guid(2))?;
     edt.hold(alloc, Guid(3))?;
     let mode = edt.mode(Guid(3));
+    prove!(mode == Some(Mode::Rw));
     edt.drop_hold(Guid(3));
-    Ok(mode == Some(Mode::Rw) && edt.mode(Guid(3)).is_none())
+    let none = edt.mode(Guid(3));
+    prove!(none.is_none());
+    Ok(())
 }
 
 fn gives_back_the_least_first(edt: &mut Running) -> bool {
@@ -68,10 +73,9 @@ fn gives_back_the_least_first(edt: &mut Running) -> bool {
 
 #[test]
 fn an_edt_goes_through_its_phases(rt: HostRuntime) -> Result<(), Fail> {
-    let edt = let_wait(rt.alloc())?.ok_or("it acquires the blocks of its plan in order")?;
-    let mut edt = started(edt).ok_or("it goes on where it waited")?;
+    let mut edt = started(rt.alloc())?;
     assert!(rt; holds_what_it_acquired(&edt));
-    assert!(rt; holds_what_it_makes(rt.alloc(), &mut edt)?);
+    holds_what_it_makes(rt.alloc(), &mut edt)?;
     assert!(rt; gives_back_the_least_first(&mut edt));
     assert_eq!(rt; edt.least_held(), None);
     let edt = Edt::Ended(edt.end());

@@ -1,5 +1,9 @@
 //! Tests of the objects, each by its calls alone: modes and plans, slots, templates, EDTs, finish
 //! scopes, events of each kind, and data blocks with who holds one, who waits for it, and loans.
+//!
+//! What a call answers is claimed by `prove!`: it is proved by the contracts of the calls that come
+//! before it and by nothing else, so no body that answers otherwise there meets its contract. That
+//! the calls answer at all, with ample memory, is seen as the tests run.
 #![tactic(auto)]
 
 #[cfg(test)]
@@ -10,6 +14,8 @@ mod any_event;
 mod blocks;
 #[cfg(test)]
 mod channel_event;
+#[cfg(test)]
+mod codes;
 #[cfg(test)]
 mod edt;
 #[cfg(test)]
