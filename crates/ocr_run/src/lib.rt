@@ -4,7 +4,6 @@
 mod top;
 
 pub use ocr_clerks::{Gate, NoGate};
-pub use ocr_execute::Merged;
-pub use ocr_execute::{TextFault, text_laws};
+pub use ocr_execute::{Merged, TextFault, text_laws};
 pub use ocr_words::{Options, Reports, Wanted, WordsStop, command};
 pub use top::{Ended, ocr_main};
