@@ -61,9 +61,12 @@ fn gives_satisfactions_to_waiting_targets(rt: HostRuntime) -> Result<(), Fail> {
     Ok(())
 }
 
+// A target waits as it is destroyed.
 #[test]
 fn is_destroyed_once(rt: HostRuntime) -> Result<(), Fail> {
     let mut channel = Channel::new(rt.alloc(), 1, false);
+    let waits = channel.link(rt.alloc(), slot(4))?;
+    prove!(waits == Linked::Kept);
     let destroyed = channel.destroy();
     prove!(destroyed == Code::Done);
     let (gone, again) = (channel.is_destroyed(), channel.destroy());

@@ -1,4 +1,4 @@
-use crate::sent::slot;
+use crate::sent::{is_sent_to_nobody, slot};
 use ocr_event::{Event, EventKind};
 use ocr_guid::target::{Linked, Satisfied};
 use ocr_guid::{Code, Guid};
@@ -40,6 +40,7 @@ fn idem_passes_over_and_gives_its_first_payload(rt: HostRuntime) -> Result<(), F
     prove!(takes_arg);
     let first = event.satisfy(Guid(3));
     prove!(matches!(&first, Satisfied::Fired(_)));
+    assert!(rt; is_sent_to_nobody(&first));
     let second = event.satisfy(Guid(5));
     prove!(matches!(&second, Satisfied::Ignored));
     let gone = event.is_destroyed();
@@ -54,6 +55,7 @@ fn sticky_refuses_a_second_satisfaction(rt: HostRuntime) -> Result<(), Fail> {
     let mut event = Event::new(rt.alloc(), EventKind::Sticky, true);
     let first = event.satisfy(Guid(3));
     prove!(matches!(&first, Satisfied::Fired(_)));
+    assert!(rt; is_sent_to_nobody(&first));
     let second = event.satisfy(Guid(5));
     prove!(matches!(&second, Satisfied::Refused(Code::Eperm)));
     let later = event.link(rt.alloc(), slot(9))?;

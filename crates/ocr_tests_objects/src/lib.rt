@@ -1,9 +1,10 @@
 //! Tests of the objects, each by its calls alone: modes and plans, slots, templates, EDTs, finish
 //! scopes, events of each kind, and data blocks with who holds one, who waits for it, and loans.
 //!
-//! What a call answers is claimed by `prove!`: it is proved by the contracts of the calls that come
-//! before it and by nothing else, so no body that answers otherwise there meets its contract. That
-//! the calls answer at all, with ample memory, is seen as the tests run.
+//! What a call answers is mostly claimed by `prove!`: it is proved by the contracts of the calls
+//! that come before it and by nothing else, so no body that answers otherwise there meets its
+//! contract. That the calls answer at all, with ample memory, is seen as the tests run, and so is
+//! what is asserted.
 #![tactic(auto)]
 
 #[cfg(test)]

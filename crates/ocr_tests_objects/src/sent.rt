@@ -11,6 +11,16 @@ pub fn slot(object: u64) -> Target {
     }
 }
 
+/// Whether an event fires, and sends to nobody.
+pub fn is_sent_to_nobody(answer: &Satisfied) -> bool {
+    match answer {
+        Satisfied::Fired(targets) => targets.is_empty(),
+        Satisfied::Kept => false,
+        Satisfied::Ignored => false,
+        Satisfied::Refused(_) => false,
+    }
+}
+
 /// Whether an event sends to this target alone.
 pub fn is_sent_to(answer: &Satisfied, target: Target) -> bool {
     match answer {
