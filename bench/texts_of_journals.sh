@@ -1,8 +1,8 @@
 #!/usr/bin/env bash
-# Makes the texts of journals of about 2,000, 20,000 and 200,000 entries, and their five reports, and prints for each the
-# processor's seconds and the most memory, both besides what the journal takes alone. The seconds rise with the
-# entries. Fails where the text of a journal takes more than 0.3 s or more than 64 bytes of memory by the byte, or the reports
-# take more than 1 s.
+# Makes the texts of journals of about 2,000, 20,000 and 200,000 entries, and their reports, and prints for each the
+# processor's seconds and the most memory, both besides what the journal takes alone. The report on blocks is left out,
+# since it plays a run again (bench/replay.sh). The seconds rise with the entries. Fails where the text of a journal takes
+# more than 0.3 s or more than 64 bytes of memory by the byte, or the reports take more than 1 s.
 #
 # Build the program first: cd crates/ocr_bench_texts && rt run -- 2 1, which leaves it as
 # crates/ocr_bench_texts/out/ocr_bench_texts.

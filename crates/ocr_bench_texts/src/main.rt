@@ -10,7 +10,7 @@ use ocr_guid::{Code, Guid};
 use ocr_history::{Entry, Journal, Message, What, Writes};
 use ocr_journal::journal_text;
 use ocr_meaning::{Answer, Call};
-use ocr_report::{blocks_text, left_text, refused_text, stale_text, summary_text};
+use ocr_report::{left_text, refused_text, stale_text, summary_text};
 use ocr_tree::{Function, Name, Program};
 use std::alloc::Global;
 use std::io::{Error, ErrorKind};
@@ -99,14 +99,13 @@ fn journal(alloc: Global, edts: u64) -> Result<Journal, NoMemory>
     Ok(Journal::from_vec(entries))
 }
 
-// How many bytes the reports have.
+// How many bytes the reports have, but for that on blocks, which is of a run alone.
 fn reports(alloc: Global, journal: &Journal) -> Result<u64, NoMemory> {
     let mut bytes: u64 = 0;
     bytes = bytes.wrapping_add(summary_text(alloc, journal)?.len() as u64);
     bytes = bytes.wrapping_add(left_text(alloc, journal)?.len() as u64);
     bytes = bytes.wrapping_add(stale_text(alloc, journal)?.len() as u64);
-    bytes = bytes.wrapping_add(refused_text(alloc, journal)?.len() as u64);
-    Ok(bytes.wrapping_add(blocks_text(alloc, journal, &[])?.len() as u64))
+    Ok(bytes.wrapping_add(refused_text(alloc, journal)?.len() as u64))
 }
 
 fn measured(alloc: Global, edts: u64, what: u64) -> Result<(u64, u64), NoMemory>

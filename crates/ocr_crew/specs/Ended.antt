@@ -1,8 +1,6 @@
 -- The run of a program by workers, and how it ended.
 use Rattle.std.specs.Prelude.{◌≡◌, ◌⊎◌, ◌≤◌, ℕ, List, length, true}
 use Rattle.ocr_tree.specs.Tree.{FunctionTree}
-use Rattle.ocr_tree.specs.Runnable.{IsRunnable}
-use Rattle.ocr_code.specs.Checked.{checked_tree}
 use Rattle.ocr_facts.specs.declared.setting.Setting as facts
 use Rattle.ocr_history.specs.declared.entry.Entry.{Entry}
 use Rattle.ocr_history.specs.History.{History, Setting, history_of, is_stopped}
@@ -19,9 +17,8 @@ setting_of program args objects = record { program = program; args = args; limit
 abbrev pub IsFinished : Setting → History → Type 0
 IsFinished s past = (is_stopped past ≡ true) ⊎ IsQuiet s past
 
--- what may be run: a program that breaks no rule, with its arguments, within these limits
+-- what may be run: a program with its arguments, within these limits
 pub record CanRun (setting : facts.Setting) (limits : Limits) : Type 0 where
-  pub runnable : IsRunnable (checked_tree setting.program)
   pub args : length setting.args.items ≤ 32
   pub workers : (1 ≤ limits.workers) × (limits.workers ≤ 64)
   pub objects : (2 ≤ limits.objects) × (limits.objects ≤ 65536)

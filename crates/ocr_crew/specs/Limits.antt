@@ -39,7 +39,7 @@ abbrev pub IsEventsCause : Setting → ℕ → ℕ → History → ℕ → ℕ �
 IsEventsCause s workers share past worker k =
     (e : Entry) × IsPastShare s workers share past worker k e
 
--- a limit stops a run only where the run would pass it
+-- why a limit stopped a run: too few free numbers, or the weight of the whole run
 abbrev pub IsLimitCause : Setting → ℕ → ℕ → History → run.Stop → Type 0
 IsLimitCause s workers share past by.Objects = IsObjectsCause s workers past
 IsLimitCause s workers share past (by.Events worker k) =
@@ -52,7 +52,7 @@ IsLimitedBy s workers share (Stop why ∷ past) = IsLimitCause s workers share p
 IsLimitedBy s workers share (e ∷ past) = Unit {0}
 
 -- no run weighs more than the shares of its workers and of whoever comes last, and a limit stops it
--- only where it would be passed
+-- only for its cause
 pub record IsLimited (s : Setting) (workers share : ℕ) (past : History) : Type 0 where
   pub within : weight past ≤ (workers + 1) * share
   pub cause : IsLimitedBy s workers share past

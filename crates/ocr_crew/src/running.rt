@@ -78,6 +78,7 @@ fn open(
     ensures root { IfOk result (λ t. IsHiring t.0 setting.now.program 0 t.1
         × (t.1.view.quota ≡ limits.workers)) }
 {
+    setting.program.runnable_law();
     let main = setting.program.main_function();
     let parts = opening(alloc, main, setting.args.as_slice(), limits.objects)?;
     let seats = limits.workers + 1;

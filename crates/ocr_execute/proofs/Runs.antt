@@ -15,14 +15,14 @@ use Rattle.ocr_execute.specs.Executed.{IsRunOf}
 use Rattle.ocr_writing.specs.Output.{output_of}
 use Rattle.ocr_execute.proofs.Ends.{status_of_end}
 
--- the text tells the run whatever its setting is
-abbrev IsTextOf : List FunctionTree → List ℕ → Reports → List Entry → List ℕ → Type 0
-IsTextOf program args reports journal text =
-    (s : Setting) → s.program ≡ program → s.args ≡ args → text ≡ output_of s (history_of journal) reports
+-- the text tells the run
+abbrev IsTextOf : List FunctionTree → Options → List ℕ → List Entry → List ℕ → Type 0
+IsTextOf program options args journal text =
+    text ≡ output_of (setting_of program args options.objects) (history_of journal) options.reports
 
 run_here : (program : List FunctionTree) (options : Options) (args : List ℕ) (journal : List Entry) (text : List ℕ) (status : ℕ)
     → IsWhole (setting_of program args options.objects) options.workers options.events journal
-    → IsTextOf program args options.reports journal text → status ≡ end_status (end_of (history_of journal)) → IsRunOf program options args journal text status
+    → IsTextOf program options args journal text → status ≡ end_status (end_of (history_of journal)) → IsRunOf program options args journal text status
 run_here program options args journal text status is told ends =
     let s = setting_of program args options.objects in
     let past = history_of journal in
@@ -33,13 +33,13 @@ run_here program options args journal text status is told ends =
       set = set_law s past is.run;
       left = λ quiet. quiet_law s past quiet is.run;
       limited = is.limited;
-      output = told s refl refl;
+      output = told;
       ending = ends ∙ sym (status_of_end past);
     }
 
 pub run_of : (E : Type 0) (program : List FunctionTree) (options : Options) (args : List ℕ) (journal : List Entry) (result : Result Executed E)
     → IsWhole (setting_of program args options.objects) options.workers options.events journal
-    → IfOk result (λ e. e.journal ≡ journal) → IfOk result (λ e. IsTextOf program args options.reports journal e.text.items)
+    → IfOk result (λ e. e.journal ≡ journal) → IfOk result (λ e. IsTextOf program options args journal e.text.items)
     → IfOk result (λ e. e.status ≡ end_status (end_of (history_of journal)))
     → IfOk result (λ e. IsRunOf program options args e.journal e.text.items e.status)
 run_of E program options args journal (Ok e) is same told ends =

@@ -7,8 +7,8 @@ use Rattle.ocr_execute.specs.declared.text.TextStop.{TextStop}
 use Rattle.ocr_execute.specs.declared.text.TextStop.TheVariants.{Fault, NoMemory}
 
 abbrev pub fault_text : TextFault → List ℕ
-fault_text (Lexical place) = codes "no token begins at byte " ++ decimal place
-fault_text (Syntax place) = codes "no program goes on at byte " ++ decimal place
+fault_text (Lexical place) = codes "lex fault at " ++ decimal place
+fault_text (Syntax place) = codes "syntax fault at " ++ decimal place
 fault_text (Breach fault) = breach_text fault
 
 abbrev pub stop_text : TextStop → List ℕ

@@ -1,8 +1,9 @@
 // From the bytes of a program to the output of its run.
 ghost use Rattle.std.specs.Prelude.{◌≡◌, ◌≤◌, IfOk, IfErr, length};
 ghost use Rattle.ocr_code.specs.Checked.{checked_tree};
-ghost use Rattle.ocr_history.specs.History as history;
+ghost use Rattle.ocr_facts.specs.Ocr.{setting_of};
 ghost use Rattle.ocr_history.specs.History.{history_of};
+ghost use Rattle.ocr_parts.specs.Legal.{IsRun};
 ghost use Rattle.ocr_execute.specs.Ending.{IsMet, end_of, end_status};
 ghost use Rattle.ocr_execute.specs.Executed.{AreWithin, IsExecuted, IsRunOf};
 ghost use Rattle.ocr_execute.specs.Lines.{ending_line};
@@ -78,9 +79,8 @@ fn run_checked<R: Threads + Wait + Sync, G: Gate + Sync>(
         objects: options.objects,
         share: options.events,
     };
-    setting.program.runnable_law();
     let journal = run(rt, alloc, setting, limits, gate)?;
-    told(alloc, options.reports, setting, journal)
+    told(alloc, options.reports, setting, options.objects, journal)
 }
 
 // What is told of a run with this journal.
@@ -88,12 +88,15 @@ fn told(
     alloc: Global,
     reports: Reports,
     setting: &Setting,
+    limit: u64,
     journal: Merged,
 ) -> Result<Executed, NoMemory>
+    requires args { length setting.now.args.items ≤ 32 }
+    requires limit { (2 ≤ limit) × (limit ≤ 65536) }
+    requires run { IsRun (setting_of setting.now limit) (history_of journal) }
     ensures journal { IfOk result (λ e. e.journal ≡ journal) }
-    ensures text { IfOk result (λ e. (s : history.Setting)
-        → s.program ≡ checked_tree setting.now.program → s.args ≡ setting.now.args.items
-        → e.text.items ≡ output_of s (history_of journal) reports) }
+    ensures text { IfOk result (λ e. e.text.items
+        ≡ output_of (setting_of setting.now limit) (history_of journal) reports) }
     ensures status { IfOk result (λ e. e.status ≡ end_status (end_of (history_of journal))) }
     ensures line { IfOk result (λ e. e.line.items ≡ ending_line (history_of journal)) }
     ensures met { IfOk result (λ e. IsMet e.status) }
@@ -101,8 +104,7 @@ fn told(
     let entries = journal.journal();
     let ending = ending_of(alloc, entries.entries())?;
     let line = line_of_ending(alloc, &ending)?;
-    let program = setting.program.program();
-    let text = output_of(alloc, program, setting.args.as_slice(), entries, reports)?;
+    let text = output_of(alloc, setting, limit, entries, reports)?;
     Ok(Executed {
         journal,
         text,

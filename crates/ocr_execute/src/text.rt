@@ -38,8 +38,8 @@ impl fmt::Display for TextFault {
 
     fn fmt<W: fmt::Write>(&self, f: &mut fmt::Formatter<W>) -> fmt::Result {
         match self {
-            TextFault::Lexical(place) => write!(f, "no token begins at byte {place}"),
-            TextFault::Syntax(place) => write!(f, "no program goes on at byte {place}"),
+            TextFault::Lexical(place) => write!(f, "lex fault at {place}"),
+            TextFault::Syntax(place) => write!(f, "syntax fault at {place}"),
             TextFault::Breach(fault) => fault.fmt(f),
         }
     }

@@ -9,7 +9,6 @@ pub mod Lists
 pub mod Made
 pub mod Open
 pub mod Refused
-pub mod Sizes
 pub mod Slots
 pub mod Stale
 pub mod Summary

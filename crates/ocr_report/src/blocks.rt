@@ -1,110 +1,112 @@
 // The blocks that were made.
-ghost use Rattle.std.specs.Prelude.{◌≡◌, ◌++◌, ℕ, length, OnOk, IfOk};
-ghost use Rattle.std.specs.Ordering.{nat_cmp};
-ghost use Rattle.std.specs.BTreeSet as set;
-ghost use Rattle.ocr_history.specs.History as history;
+ghost use Rattle.std.specs.Prelude.{◌≡◌, ◌++◌, ◌≤◌, length, OnOk, IfOk};
+ghost use Rattle.ocr_datablock.specs.Block.{is_gone};
+ghost use Rattle.ocr_facts.specs.Ocr.{setting_of};
+ghost use Rattle.ocr_history.specs.History.{history_of};
+ghost use Rattle.ocr_parts.specs.Legal.{IsRun};
 ghost use Rattle.ocr_report.specs.Blocks as spec;
-ghost use Rattle.ocr_report.specs.Lists.{list_at};
-ghost use Rattle.ocr_report.specs.Sizes as size;
+ghost use Rattle.ocr_table.specs.Table.{face_on};
 
-use crate::destroyed::victims;
-use crate::edts::place;
+use crate::after::table_after;
 use crate::headed::{headed, line};
-use crate::holders::holders;
-use crate::lists::{Lists, list_of};
-use crate::sizes::{Sizes, size_at, sizes};
 use ocr_base::NoMemory;
-use ocr_guid::Code;
-use ocr_history::{ARGUMENTS, Entry, Journal};
+use ocr_datablock::Block;
+use ocr_facts::Setting;
+use ocr_history::Journal;
 use ocr_journal::phrase;
-use ocr_meaning::{Answer, Call};
+use ocr_parts::Part;
+use ocr_table::Table;
 use std::alloc::Global;
-use std::collections::BTreeSet;
 
-// The block that an entry makes.
-fn block_made(entry: &Entry) -> Option<u64>
-    ensures { result ≡ spec.block_in entry.now }
+// Whether an object is a block.
+fn is_block(table: &Table, object: u64) -> bool
+    ensures { result ≡ spec.is_block (face_on table.now object) }
 {
-    match entry {
-        Entry::Call {
-            call: Call::DbCreate { .. },
-            answer: Answer {
-                code: Code::Done,
-                value,
-                ..
-            },
-            ..
-        } => Some(*value),
-        _ => None,
-    }
+    matches!(table.face(object), Some(Part::Block(_)))
 }
 
-// The blocks that were made, rising.
-fn blocks(alloc: Global, entries: &[Entry]) -> Result<Vec<u64>, NoMemory>
+// The blocks, rising.
+#[tactic(auto, using(crate::proofs::Numbered::blocks_more))]
+fn blocks(alloc: Global, table: &Table) -> Result<Vec<u64>, NoMemory>
     ensures { IfOk result (λ blocks.
-        blocks.items ≡ spec.made_blocks (history.history_of entries.now)) }
+        blocks.items ≡ spec.blocks_to (face_on table.now) table.now.limit) }
 {
-    let mut blocks = BTreeSet::new(alloc);
-    place(&mut blocks, ARGUMENTS)?;
-    for entry in entries {
-        if let Some(block) = block_made(entry) {
-            place(&mut blocks, block)?;
+    let mut blocks = Vec::new(alloc);
+    for below in 0..table.limit {
+        if is_block(table, below + 1) {
+            blocks.push(below + 1)?;
         }
     }
-    Ok(blocks.into_iter().collect(alloc)?)
+    Ok(blocks)
 }
 
-fn state_words(is_destroyed: bool, holders: &[u64]) -> &'static [u8]
-    ensures { result.now ≡ spec.state_words is_destroyed holders.now }
+fn state_words(block: &Block) -> &'static [u8]
+    ensures { result.now ≡ spec.state_words block.now.destroyed (is_gone block.now) }
 {
-    match (is_destroyed, holders) {
+    match (block.is_destroyed(), block.is_gone()) {
         (false, _) => b" live",
-        (true, []) => b" gone",
-        (true, _) => b" destroyed",
+        (true, false) => b" destroyed",
+        (true, true) => b" gone",
     }
 }
 
 // Writes the line of a block.
-fn block_line(text: &mut Vec<u8>, block: u64, words: u64, state: &[u8]) -> Result<(), NoMemory>
+fn block_line(text: &mut Vec<u8>, number: u64, block: &Block) -> Result<(), NoMemory>
     ensures { OnOk result (text.new.items
-        ≡ text.old.items ++ spec.block_line block words state.now) }
+        ≡ text.old.items ++ spec.block_line number block.now) }
 {
-    phrase(text, b"block", &[block])?;
-    phrase(text, b" words", &[words])?;
-    line(text, state, &[])
+    phrase(text, b"block", &[number])?;
+    phrase(text, b" words", &[u64::from(block.words())])?;
+    line(text, state_words(block), &[])
 }
 
-fn block_lines(
-    alloc: Global,
-    sizes: &Sizes,
-    destroyed: &BTreeSet<u64>,
-    holders: &Lists,
-    blocks: &[u64],
-) -> Result<Vec<u8>, NoMemory>
-    ensures { IfOk result (λ text. text.items ≡ spec.block_lines (size.size_at sizes.now)
-        (set.contains nat_cmp destroyed.now) (list_at holders.now) blocks.now) }
+// Writes the line of an object, where it is a block.
+fn line_of(text: &mut Vec<u8>, table: &Table, object: u64) -> Result<(), NoMemory>
+    ensures { OnOk result (text.new.items
+        ≡ text.old.items ++ spec.line_of object (face_on table.now object)) }
+{
+    match table.face(object) {
+        Some(Part::Block(block)) => block_line(text, object, block.get()),
+        _ => Ok(()),
+    }
+}
+
+fn block_lines(alloc: Global, table: &Table, blocks: &[u64]) -> Result<Vec<u8>, NoMemory>
+    ensures { IfOk result (λ text.
+        text.items ≡ spec.block_lines (face_on table.now) blocks.now) }
 {
     let mut text = Vec::new(alloc);
     for block in blocks {
-        let state = state_words(destroyed.contains(block), list_of(holders, *block));
-        block_line(&mut text, *block, size_at(sizes, *block), state)?;
+        line_of(&mut text, table, *block)?;
     }
     Ok(text)
 }
 
-/// The report on the blocks that a run with these arguments made: how many there are, and for each,
-/// rising, its words, and whether it is live, destroyed or gone. NoMemory where memory is refused.
-pub fn blocks_text(alloc: Global, journal: &Journal, args: &[u64]) -> Result<Vec<u8>, NoMemory>
-    ensures { IfOk result (λ text. (s : history.Setting) → length s.args ≡ length args.now →
-        text.items ≡ spec.blocks_text s (history.history_of journal.now)) }
+// The report on the blocks of a table.
+fn blocks_in(alloc: Global, table: &Table) -> Result<Vec<u8>, NoMemory>
+    ensures { IfOk result (λ text.
+        text.items ≡ spec.blocks_in (face_on table.now) table.now.limit) }
 {
-    let entries = journal.entries();
-    let made = blocks(alloc, entries)?;
+    let made = blocks(alloc, table)?;
     let blocks = made.as_slice();
-    let sizes = sizes(alloc, args, entries)?;
-    let destroyed = victims(alloc, entries)?;
-    let holders = holders(alloc, entries)?;
-    let lines = block_lines(alloc, &sizes, &destroyed, &holders, blocks)?;
-    let text = headed(alloc, b"blocks", blocks.len() as u64, &lines)?;
-    Ok(text)
+    let lines = block_lines(alloc, table, blocks)?;
+    headed(alloc, b"blocks", blocks.len() as u64, &lines)
+}
+
+/// The report on the blocks that a run made: how many there are, and for each, rising, its words,
+/// and whether it is live, destroyed or gone. NoMemory where memory is refused.
+pub fn blocks_text(
+    alloc: Global,
+    setting: &Setting,
+    limit: u64,
+    journal: &Journal,
+) -> Result<Vec<u8>, NoMemory>
+    requires args { length setting.now.args.items ≤ 32 }
+    requires limit { (2 ≤ limit) × (limit ≤ 65536) }
+    requires run { IsRun (setting_of setting.now limit) (history_of journal.now) }
+    ensures { IfOk result (λ text.
+        text.items ≡ spec.blocks_text (setting_of setting.now limit) (history_of journal.now)) }
+{
+    let table = table_after(alloc, setting, limit, journal.entries())?;
+    blocks_in(alloc, &table)
 }

@@ -58,19 +58,6 @@ fn destroy(victims: &mut BTreeSet<u64>, entry: &Entry) -> Result<(), NoMemory>
     Ok(())
 }
 
-/// The objects that calls destroyed.
-#[tactic(auto, using(crate::proofs::Uses::destroyed_next))]
-pub fn victims(alloc: Global, entries: &[Entry]) -> Result<BTreeSet<u64>, NoMemory>
-    ensures { IfOk result (λ victims. (g : ℕ) →
-        set.contains nat_cmp victims g ≡ spec.was_destroyed (history_of entries.now) g) }
-{
-    let mut victims = BTreeSet::new(alloc);
-    for entry in entries {
-        destroy(&mut victims, entry)?;
-    }
-    Ok(victims)
-}
-
 /// What tells which objects are destroyed.
 #[derive(Drop)]
 pub struct Ends {

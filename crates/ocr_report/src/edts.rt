@@ -37,15 +37,6 @@ fn edt_made(entry: &Entry) -> Option<u64>
     }
 }
 
-/// Puts a number at its place.
-#[tactic(auto, using(crate::proofs::Placed::placed_key))]
-pub fn place(numbers: &mut BTreeSet<u64>, number: u64) -> Result<(), NoMemory>
-    ensures { OnOk result (numbers.new.keys ≡ placed number numbers.old.keys) }
-{
-    numbers.insert(number)?;
-    Ok(())
-}
-
 // How many of rising numbers are less. They are looked through from their end, as numbers come
 // almost in order.
 fn less_count(numbers: &[u64], number: u64) -> usize

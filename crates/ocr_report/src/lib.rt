@@ -1,16 +1,15 @@
 //! The reports on a run, told from its journal.
 #![tactic(auto)]
 
+mod after;
 mod beside;
 mod blocks;
 mod destroyed;
 mod edts;
 mod headed;
-mod holders;
 mod left;
 mod lists;
 mod refused;
-mod sizes;
 mod slots;
 mod stale;
 mod started;

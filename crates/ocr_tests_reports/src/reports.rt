@@ -3,7 +3,7 @@ use ocr_base::Seq;
 use ocr_guid::{Code, Guid};
 use ocr_history::{Entry, Journal, Message, Stop, What, Writes};
 use ocr_meaning::{Answer, Call};
-use ocr_report::{blocks_text, left_text, refused_text, stale_text, summary_text};
+use ocr_report::{left_text, refused_text, stale_text, summary_text};
 use std::alloc::Global;
 use std::test::Fail;
 
@@ -341,22 +341,6 @@ delivery 22 22
 }
 
 #[test]
-fn blocks_are_live_destroyed_or_gone(rt: HostRuntime) -> Result<(), Fail> {
-    let text = blocks_text(rt.alloc(), &journal(rt.alloc())?, &[7, 8])?;
-    assert_eq!(rt;
-        text.as_slice(),
-        b"blocks 4
-block 1 words 3 live
-block 4 words 2 gone
-block 5 words 65536 destroyed
-block 6 words 1 gone
-"
-            .as_slice()
-    );
-    Ok(())
-}
-
-#[test]
 fn no_entry_is_the_opening_alone(rt: HostRuntime) -> Result<(), Fail> {
     let alloc = rt.alloc();
     let journal = Journal::from_vec(Vec::new(alloc));
@@ -371,10 +355,5 @@ fn no_entry_is_the_opening_alone(rt: HostRuntime) -> Result<(), Fail> {
     assert_eq!(rt; stale.as_slice(), b"stale 0\n".as_slice());
     let refused = refused_text(alloc, &journal)?;
     assert_eq!(rt; refused.as_slice(), b"refused 0\n".as_slice());
-    let blocks = blocks_text(alloc, &journal, &[])?;
-    assert_eq!(rt;
-        blocks.as_slice(),
-        b"blocks 1\nblock 1 words 1 live\n".as_slice()
-    );
     Ok(())
 }

@@ -1,9 +1,13 @@
 // What a run writes.
-ghost use Rattle.std.specs.Prelude.{◌≡◌, ◌++◌, length, IfOk, OnOk};
+ghost use Rattle.std.specs.Prelude.{◌≡◌, ◌++◌, ◌≤◌, length, IfOk, OnOk};
+ghost use Rattle.ocr_code.specs.Checked.{checked_tree};
+ghost use Rattle.ocr_facts.specs.Ocr.{setting_of};
 ghost use Rattle.ocr_tree.specs.View.{tree_of};
-ghost use Rattle.ocr_history.specs.History.{Setting, history_of};
+ghost use Rattle.ocr_history.specs.History as history;
+ghost use Rattle.ocr_history.specs.History.{history_of};
 ghost use Rattle.ocr_history.specs.Output.{printed, line_of};
 ghost use Rattle.ocr_journal.specs.JournalText as journals;
+ghost use Rattle.ocr_parts.specs.Legal.{IsRun};
 ghost use Rattle.ocr_report.specs.Blocks as made;
 ghost use Rattle.ocr_report.specs.Left as lefts;
 ghost use Rattle.ocr_report.specs.Refused as refusals;
@@ -13,6 +17,7 @@ ghost use Rattle.ocr_writing.specs.Output.{asked_if, output_of};
 
 use itoa::Buffer;
 use ocr_base::NoMemory;
+use ocr_facts::Setting;
 use ocr_history::{Entry, Journal};
 use ocr_journal::journal_text;
 use ocr_meaning::Call;
@@ -25,20 +30,24 @@ use std::alloc::Global;
 /// prints, in their order, and the texts that are asked for.
 pub fn output_of(
     alloc: Global,
-    program: &Program,
-    args: &[u64],
+    setting: &Setting,
+    limit: u64,
     journal: &Journal,
     reports: Reports,
 ) -> Result<Vec<u8>, NoMemory>
-    ensures { IfOk result (λ text. (s : Setting) → s.program ≡ tree_of program.now
-        → s.args ≡ args.now → text.items ≡ output_of s (history_of journal.now) reports) }
+    requires args { length setting.now.args.items ≤ 32 }
+    requires limit { (2 ≤ limit) × (limit ≤ 65536) }
+    requires run { IsRun (setting_of setting.now limit) (history_of journal.now) }
+    ensures { IfOk result (λ text.
+        text.items ≡ output_of (setting_of setting.now limit) (history_of journal.now) reports) }
 {
     let mut text = prints(alloc, journal.entries())?;
     summary(alloc, &mut text, journal, reports.summary)?;
     left(alloc, &mut text, journal, reports.left)?;
     stale(alloc, &mut text, journal, reports.stale)?;
     refused(alloc, &mut text, journal, reports.refused)?;
-    blocks(alloc, &mut text, journal, args, reports.blocks)?;
+    blocks(alloc, &mut text, setting, limit, journal, reports.blocks)?;
+    let program = setting.program.program();
     entries(alloc, &mut text, journal, program, reports.journal)?;
     Ok(text)
 }
@@ -88,7 +97,7 @@ fn left(
     journal: &Journal,
     is_asked: bool,
 ) -> Result<(), NoMemory>
-    ensures { OnOk result ((s : Setting) → text.new.items ≡ text.old.items
+    ensures { OnOk result ((s : history.Setting) → text.new.items ≡ text.old.items
         ++ asked_if is_asked (lefts.left_text s (history_of journal.now))) }
 {
     if is_asked {
@@ -133,16 +142,19 @@ fn refused(
 fn blocks(
     alloc: Global,
     text: &mut Vec<u8>,
+    setting: &Setting,
+    limit: u64,
     journal: &Journal,
-    args: &[u64],
     is_asked: bool,
 ) -> Result<(), NoMemory>
-    ensures { OnOk result ((s : Setting) → length s.args ≡ length args.now
-        → text.new.items ≡ text.old.items
-        ++ asked_if is_asked (made.blocks_text s (history_of journal.now))) }
+    requires args { length setting.now.args.items ≤ 32 }
+    requires limit { (2 ≤ limit) × (limit ≤ 65536) }
+    requires run { IsRun (setting_of setting.now limit) (history_of journal.now) }
+    ensures { OnOk result (text.new.items ≡ text.old.items ++ asked_if is_asked
+        (made.blocks_text (setting_of setting.now limit) (history_of journal.now))) }
 {
     if is_asked {
-        let report = blocks_text(alloc, journal, args)?;
+        let report = blocks_text(alloc, setting, limit, journal)?;
         text.extend_from_slice(&report)?;
     }
     Ok(())

@@ -1,7 +1,7 @@
-use Rattle.std.proofs.Common.{◌≡◌, take}
-use Rattle.ocr_history.specs.History.{history_of}
-use Rattle.ocr_report.specs.Blocks.{made_blocks}
+use Rattle.std.proofs.Common.{◌≡◌}
+use Rattle.ocr_report.specs.Blocks.{blocks_to}
+use Rattle.ocr_table.specs.Table.{face_on}
 use Rattle.ocr_report.proofs.blocks.blocks.Given as goal
 
-abbrev pub invariant-loop-entry : goal.invariant-loop-entry
-invariant-loop-entry l = l.blocks.keys ≡ made_blocks (history_of (take l.entry-index l.entries))
+abbrev pub invariant-loop-below : goal.invariant-loop-below
+invariant-loop-below l = l.blocks.items ≡ blocks_to (face_on l.table) l.below
