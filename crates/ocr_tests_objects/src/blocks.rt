@@ -82,11 +82,9 @@ fn is_gone_with_its_last_holder(alloc: Global, block: &mut Block) -> Result<(), 
     prove!(by_other.len() == 0);
     let (destroyed, gone) = (block.is_destroyed(), block.is_gone());
     prove!(destroyed && !gone);
-    let late = block.ask(alloc, Guid(7), Mode::Ro)?;
-    prove!(late == Asked::Queued);
     let by_creator = block.release(alloc, Guid(2))?;
-    prove!(by_creator.len() == 2);
-    prove!(by_creator[0] == Guid(6) && by_creator[1] == Guid(7));
+    prove!(by_creator.len() == 1);
+    prove!(by_creator[0] == Guid(6));
     let gone = block.is_gone();
     prove!(gone);
     let last = block.ask(alloc, Guid(5), Mode::Ro)?;
@@ -173,6 +171,38 @@ fn a_destroyed_block_grants_nobody(rt: HostRuntime) -> Result<(), Fail> {
     Ok(())
 }
 
+// Who asks later waits, though nobody waits before it and it goes with all who hold the block.
+fn keeps_a_newcomer_waiting(alloc: Global, block: &mut Block) -> Result<(), NoMemory>
+    requires { block.old ≡ state_of 1 2 [] }
+{
+    let one = block.ask(alloc, Guid(5), Mode::Ro)?;
+    prove!(one == Asked::Granted);
+    let other = block.ask(alloc, Guid(8), Mode::Ro)?;
+    prove!(other == Asked::Granted);
+    let by_creator = block.doom(alloc, Guid(2))?;
+    prove!(by_creator.len() == 0);
+    let newcomer = block.ask(alloc, Guid(7), Mode::Ro)?;
+    prove!(newcomer == Asked::Queued);
+    let by_one = block.release(alloc, Guid(5))?;
+    prove!(by_one.len() == 0);
+    let (gone, waits) = (block.is_gone(), block.waits(Guid(7)));
+    prove!(!gone && waits);
+    let by_other = block.release(alloc, Guid(8))?;
+    prove!(by_other.len() == 1);
+    prove!(by_other[0] == Guid(7));
+    let gone = block.is_gone();
+    prove!(gone);
+    Ok(())
+}
+
+#[test]
+fn a_newcomer_waits_until_a_destroyed_block_is_gone(rt: HostRuntime) -> Result<(), Fail> {
+    let alloc = rt.alloc();
+    let mut block = Block::new(alloc, 1, Guid(2))?;
+    keeps_a_newcomer_waiting(alloc, &mut block)?;
+    Ok(())
+}
+
 fn has_the_words_of_a_loan(alloc: Global, block: &mut Block) -> Result<(), NoMemory>
     requires { block.old ≡ state_of 4 0 [] }
 {
@@ -213,12 +243,40 @@ fn a_loan_brings_its_writes_back(rt: HostRuntime) -> Result<(), Fail> {
     Ok(())
 }
 
+// The given writes take the place of those that the loan keeps, and one past the last word is none.
+fn has_the_given_writes(alloc: Global, block: &mut Block) -> Result<(), NoMemory>
+    requires { block.old ≡ state_of 2 0 [] }
+{
+    block.store(0, 9);
+    let granted = block.ask(alloc, Guid(5), Mode::Ew)?;
+    prove!(granted == Asked::Granted);
+    let mut loan = block.lend(Guid(5));
+    loan.store(alloc, 0, 7)?;
+    block.take_back_with(Guid(5), loan, &[(1, 5), (2, 6)]);
+    let (nobody, size) = (block.borrower(), block.words());
+    prove!(nobody.is_none());
+    prove!(size == 2);
+    let (first, second) = (block.load(0), block.load(1));
+    prove!(first == 9 && second == 5);
+    Ok(())
+}
+
+#[test]
+fn a_loan_brings_given_writes_back_in_place_of_its_own(rt: HostRuntime) -> Result<(), Fail> {
+    let alloc = rt.alloc();
+    let mut block = Block::new(alloc, 2, Guid::NULL)?;
+    has_the_given_writes(alloc, &mut block)?;
+    Ok(())
+}
+
 fn lends_a_copy(alloc: Global, block: &mut Block) -> Result<(), NoMemory>
     requires { block.old ≡ state_of 2 0 [] }
 {
     block.store(1, 6);
     let granted = block.ask(alloc, Guid(5), Mode::Const)?;
     prove!(granted == Asked::Granted);
+    let grantable = block.grantable(Mode::Ew);
+    prove!(!grantable);
     let loan = block.lend_const(alloc, Guid(5))?;
     block.store(1, 7);
     let (copied, writes) = (loan.load(1), loan.writes());

@@ -52,6 +52,7 @@ fn holds_what_it_acquired(edt: &Running) -> bool {
 }
 
 // A hold that it has is one in `Rw` from then on, and none in any mode is left where it is dropped.
+// No `requires`: the claim speaks of every running EDT, also of one that drops a hold in `Ew`.
 fn holds_what_it_makes(alloc: Global, edt: &mut Running) -> Result<(), NoMemory> {
     edt.hold(alloc, Guid(2))?;
     edt.hold(alloc, Guid(3))?;

@@ -10,6 +10,8 @@ fn a_slot_takes_one_link(rt: HostRuntime) -> Result<(), Fail> {
     prove!(first == Code::Done);
     let again = slots.link(0, Mode::Ew);
     prove!(again == Code::Eperm);
+    let alike = slots.link(0, Mode::Ro);
+    prove!(alike == Code::Eperm);
     let mode = slots.mode(0);
     prove!(mode == Mode::Ro);
     let past = slots.link(2, Mode::Ro);

@@ -21,6 +21,8 @@ fn counts_of_a_template(_rt: HostRuntime) {
     );
     prove!(open == Err(Code::Einval));
     prove!(past == Err(Code::Einval));
+    let open = counts(&template, EDT_PARAM_DEF, EDT_PARAM_DEF);
+    prove!(open == Err(Code::Einval));
     let (more, fewer) = (counts(&template, 2, 3), counts(&template, 0, 3));
     prove!(more == Err(Code::Einval));
     prove!(fewer == Err(Code::Einval));

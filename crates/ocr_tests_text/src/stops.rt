@@ -98,6 +98,11 @@ fn programs_stop_at_the_first_rule_that_they_break(rt: HostRuntime) {
             Stop::Rule(4, 1),
         ),
         ("fn f { } fn mainEdt { let x = x; }", Stop::Rule(4, 2)),
+        ("fn mainEdt { x = 1; }", Stop::Rule(4, 1)),
+        (
+            "fn mainEdt { if 1 { } else { print x; } }",
+            Stop::Rule(4, 1),
+        ),
         (
             "fn mainEdt { ocrEdtTemplateCreate(f, 0, 0); }",
             Stop::Rule(5, 1),
