@@ -9,20 +9,31 @@ use ocr_tree::{BinaryOp, CallName, Constant, Name, UnaryOp};
 #[cycle(node)]
 #[derive(Drop)]
 pub enum ExprCode {
+    /// A number.
     Number(u64),
+    /// A name that stands for a number.
     Constant(Constant),
+    /// The variable at this place.
     Variable(usize),
+    /// How many parameters there are.
     Paramc,
+    /// How many dependences there are.
     Depc,
+    /// The number of the code of the last call that has one, 0 before the first.
     LastCode,
+    /// The parameter at this index.
     Paramv(Box<ExprCode>),
+    /// What the dependence at this index brought.
     Depv(Box<ExprCode>),
+    /// An operator before an operand.
     Unary(UnaryOp, Box<ExprCode>),
+    /// An operator between two operands.
     Binary(BinaryOp, Box<ExprCode>, Box<ExprCode>),
     /// An operator between a variable and a number, which are nodes of their own in the tree.
     WithNumber(BinaryOp, usize, u64),
     /// An operator between two variables.
     WithVariable(BinaryOp, usize, usize),
+    /// A call.
     Invoke(CallCode),
 }
 
@@ -42,8 +53,11 @@ pub enum CallCode {
 #[cycle(node)]
 #[derive(Drop)]
 pub enum ArgCode {
+    /// No argument more.
     End,
+    /// A value, and the arguments after it.
     Value(Box<ExprCode>, Box<ArgCode>),
+    /// A list by its members, and the arguments after it.
     List(Box<ArgCode>, Box<ArgCode>),
     /// The name of a function, or that of the variable after `&`: each has a place among the names.
     Name(Named, Box<ArgCode>),
@@ -81,12 +95,19 @@ impl ArgCode {
 /// A statement of the code.
 #[derive(Drop)]
 pub enum StmtCode {
+    /// A `let` of the variable at this place, with its value.
     Let(usize, ExprCode),
+    /// An assignment to the variable at this place.
     Assign(usize, ExprCode),
+    /// A test, what is done where it holds, and what is done where it does not.
     If(ExprCode, Vec<StmtCode>, Vec<StmtCode>),
+    /// A test, and what is done as long as it holds.
     While(ExprCode, Vec<StmtCode>),
+    /// A value is printed.
     Print(ExprCode),
+    /// The body ends and returns a value.
     Return(ExprCode),
+    /// A call that stands alone.
     Invoke(CallCode),
 }
 

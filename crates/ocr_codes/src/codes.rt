@@ -38,7 +38,7 @@ enum Test {
 
 /// The code of a call of this EDT, by the parts that the call names: the first refusal, of ENOENT
 /// where an object is not there, EINVAL where one is of another kind, STALE where one is destroyed,
-/// EINVAL for a number, a count or a flag, and EPERM.
+/// EINVAL for a number, a count, a flag or a slot, EPERM, and EBUSY.
 pub fn decide(limit: u64, edt: Guid, call: &Call, parts: &[(u64, Part)]) -> Code
     ensures { result ≡ code_of edt (face_in limit parts.now) call.now }
 {

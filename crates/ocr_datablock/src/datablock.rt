@@ -1,4 +1,4 @@
-// A data block: its words, who holds it, and who waits for it.
+//! A data block: its words, who holds it, and who waits for it.
 ghost use Rattle.std.specs.Prelude.{◌≡◌, ◌≢◌, ◌<◌, ◌≤◌, ◌↔◌, List, [], ◌∷◌, ◌++◌, length, take, drop, slice_index, Some, None, true, false, is_some, IfOk, IfSome, OnErr};
 ghost use Rattle.ocr_acquire.specs.declared.Mode.TheVariants.{Const, Ew};
 ghost use Rattle.ocr_acquire.specs.Mode.{is_exclusive, is_null, mode_in};

@@ -15,7 +15,7 @@ use std::alloc::Global;
 use std::marker::Model;
 
 /// EDTs, none of them twice, in the order in which they came. Each call takes the same time however
-/// many there are.
+/// many there are, except those that answer or drop a list.
 #[derive(Drop)]
 pub struct Row {
     // the last who came first

@@ -1,4 +1,4 @@
-// The phases before an EDT starts.
+//! The phases before an EDT starts.
 ghost use Rattle.std.specs.Prelude.{◌≡◌, ◌<◌, IsSome, Some, None, length, true};
 ghost use Rattle.ocr_acquire.specs.Plan.{IsWellFormed};
 ghost use Rattle.ocr_edt.specs.Phases.{next_of};
@@ -25,7 +25,8 @@ impl Model for Filling {
 }
 
 impl Filling {
-    /// An EDT that was made in this scope, or in none, with this output event, or with none.
+    /// An EDT whose home is this scope, or that has none, with this output event, or with none. The
+    /// home of a finish EDT is its own scope.
     pub fn new(edt: Guid, scope: Guid, output: Guid, finish: bool) -> Filling
         ensures { result ≡ record { edt = edt; scope = scope; output = output; finish = finish } }
     {

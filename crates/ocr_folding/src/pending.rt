@@ -5,11 +5,17 @@ use ocr_tree::{BinaryOp, CallName, Expr, Name, UnaryOp};
 /// What an outermost expression is for.
 #[derive(Drop)]
 pub enum Purpose {
+    /// The value of a `let`.
     Let(Name),
+    /// The value of an assignment.
     Assign(Name),
+    /// The test of an `if`.
     Test,
+    /// The test of a `while`.
     Repeat,
+    /// What is printed.
     Print,
+    /// What is returned.
     Return,
 }
 
@@ -23,8 +29,11 @@ pub enum Indexed {
 /// An argument of a call.
 #[derive(Drop)]
 pub enum Arg {
+    /// A value.
     Value(Box<Expr>),
+    /// A list of values.
     List(Vec<Expr>),
+    /// The name of a function, or that of the variable after `&`.
     Named(Name),
 }
 

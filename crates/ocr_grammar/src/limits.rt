@@ -16,7 +16,9 @@ pub const MOST_BLOCKS: usize = 64;
 /// blocks are open.
 #[derive(Clone, Copy, PartialEq, Eq, Debug)]
 pub struct Tally {
+    /// The tokens of the outermost expression that is being read; None where none is.
     pub tokens: Option<usize>,
+    /// The blocks that are open, the function's own among them.
     pub depth: usize,
 }
 

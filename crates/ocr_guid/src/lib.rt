@@ -63,7 +63,7 @@ pub enum Code {
     Done,
     /// The call is not permitted in the object's state.
     Eperm,
-    /// An argument names no made object of the kind that is wanted.
+    /// An argument names no object that was made.
     Enoent,
     /// A channel is full.
     Ebusy,

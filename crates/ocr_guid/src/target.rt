@@ -1,4 +1,4 @@
-// What events send to, and what they answer.
+//! What events send to, and what they answer.
 use crate::{Code, Guid};
 use ocr_base::Seq;
 

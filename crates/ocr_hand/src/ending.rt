@@ -21,7 +21,8 @@ use ocr_history::{What, Writes};
 use ocr_parts::{BoxedBlock, Kept, Part};
 use std::alloc::Global;
 
-/// The EDT's hold of the block ends; gives who is resumed.
+/// The EDT's hold of the block ends; gives who is resumed. For want of memory what was taken is
+/// lost, and the run ends then.
 pub fn end_hold(
     alloc: Global,
     parts: &mut Taken,
@@ -100,6 +101,7 @@ fn give_back(state: &mut BoxedBlock, edt: u64, lent: Option<Lent>, writes: &Writ
 }
 
 /// The block is destroyed, and the EDT's hold of it ends, where it has one; gives who is resumed.
+/// For want of memory what was taken is lost, and the run ends then.
 pub fn destroy(
     alloc: Global,
     parts: &mut Taken,

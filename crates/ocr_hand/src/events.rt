@@ -22,7 +22,8 @@ use ocr_history::What;
 use ocr_parts::Part;
 use std::alloc::Global;
 
-/// What an accepted message does; gives what it sets off.
+/// What an accepted message does; gives what it sets off. For want of memory what was taken is
+/// lost, and the run ends then.
 pub fn deliver_step(alloc: Global, parts: &mut Taken, message: What) -> Result<Vec<What>, NoMemory>
     requires accepted { IsDeliverOn (state parts.old) message code.Done }
     requires counts { (g : ℕ) → counted_on ((state parts.old).face g) < 2 ^ 64 - 1 }
@@ -41,7 +42,8 @@ pub fn deliver_step(alloc: Global, parts: &mut Taken, message: What) -> Result<V
     }
 }
 
-/// The event is satisfied; gives what this sets off.
+/// The event is satisfied; gives what this sets off. For want of memory what was taken is lost, and
+/// the run ends then.
 pub fn satisfy_at(
     alloc: Global,
     parts: &mut Taken,
@@ -116,7 +118,8 @@ fn what_to(payload: Guid, target: Target) -> What
 }
 
 /// A dependence: an event that is named as its source is linked to the target, which gets at once
-/// what the event has for it; any other source reaches the target at once.
+/// what the event has for it; any other source reaches the target at once. For want of memory what
+/// was taken is lost, and the run ends then.
 pub fn depend(
     alloc: Global,
     parts: &mut Taken,
@@ -168,7 +171,8 @@ fn get_now(messages: &mut Vec<What>, linked: Linked, target: Target) -> Result<(
     Ok(())
 }
 
-/// The dependences that are given to a new EDT, slot by slot; gives what goes at once.
+/// The dependences that are given to a new EDT, slot by slot; gives what goes at once. For want of
+/// memory what was taken is lost, and the run ends then.
 pub fn depend_all(
     alloc: Global,
     parts: &mut Taken,

@@ -52,9 +52,11 @@ pub enum Stop {
     Abort { edt: Guid, code: u64 },
     /// The EDT's body had a fault.
     Fault { edt: Guid, fault: Fault },
-    /// No object is left to be made.
+    /// Too few numbers are left for a creation that a body says next, where other workers may each
+    /// hold up to three back.
     Objects,
-    /// The worker's next entry, of this weight, would pass its share.
+    /// With an entry of this weight the run would weigh more than a worker's share. The worker is
+    /// the one whose share was full.
     Events { worker: u32, weight: u64 },
     /// Memory was refused.
     Memory,

@@ -15,7 +15,7 @@ pub trait Source {
     /// The bytes that are left, where the source tells them.
     ghost left: { Self → Option (List ℕ) };
 
-    /// How many bytes it gave. The count stands still at 2^64 - 1.
+    /// How many bytes it gave. Of a count that would pass 2^64 - 1 nothing is said.
     ghost given: { Self → ℕ };
 
     /// How often it failed. The count stands still at 2^64 - 1.

@@ -1,4 +1,4 @@
-//! The output events of EDTs: each is satisfied once, by the end of its EDT.
+//! The output events of EDTs: each is sent its one Satisfy by the end of its EDT.
 #![tactic(auto)]
 
 mod laws;

@@ -104,7 +104,8 @@ impl BoxedCore {
         self.inner.loans.put(block, kept)
     }
 
-    /// A running EDT holds a block that it made, of so many words.
+    /// A running EDT holds a block that it made, of so many words. After an error something may be
+    /// kept with the block that is not held: the core is lost then, and the run ends.
     pub fn hold(&mut self, alloc: Global, block: Guid, size: u32) -> Result<(), NoMemory>
         ensures { IfOk result (λ _. self.new ≡ holding_core block size self.old) }
     {

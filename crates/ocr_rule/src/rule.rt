@@ -1,4 +1,4 @@
-// The rule of the table, and what each kind of step tells.
+//! The rule of the table, and what each kind of step tells.
 ghost use Rattle.std.specs.Prelude.{None};
 ghost use Rattle.ocr_rule.specs.Rule as rule;
 ghost use Rattle.ocr_rule.specs.Steps as steps;

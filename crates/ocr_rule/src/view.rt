@@ -15,9 +15,11 @@ pub struct Terms<G> {
 
 /// What a clerk knows of the table, for proofs alone.
 pub struct View<G, E, P, N, F> {
+    /// What the table was told; None once it was joined into another.
     pub terms: Option<Terms<G>>,
-    /// Its own entries with their numbers, and the logs of clerks that were joined into it.
+    /// Its own entries with their numbers.
     pub log: LinkedList<(u64, E)>,
+    /// The logs of clerks that were joined into it.
     pub joined: LinkedList<LinkedList<(u64, E)>>,
     /// The parts that it keeps, by place.
     pub parts: LinkedList<(u64, P)>,
@@ -39,18 +41,22 @@ pub struct View<G, E, P, N, F> {
     pub carried: Option<u64>,
     /// What its log weighs.
     pub weight: u64,
-    /// How many clerks it stands for, and how many it may still make.
+    /// How many clerks it stands for.
     pub seats: u64,
+    /// How many clerks it may still make.
     pub quota: u64,
-    /// How many of these learnt that the run has ended, and the commit word that it read so.
+    /// How many of those that it stands for learnt that the run has ended.
     pub shut: u64,
+    /// The commit word that it or a clerk joined into it read past the end of the run.
     pub closed: Option<u64>,
-    /// 1 for the root; 1 for another clerk that is not joined; how many such clerks are out, in the
-    /// root.
+    /// 1 for the root, else 0.
     pub root: u64,
+    /// 1 for another clerk that is not joined, else 0.
     pub seat: u64,
+    /// How many such clerks are out, in the root; else 0.
     pub out: u64,
-    /// What it owes to the words that count, and the EDTs that it has claimed.
+    /// What it owes to the words that count.
     pub debts: Debts,
+    /// The EDTs that it has claimed.
     pub claims: LinkedList<u64>,
 }

@@ -310,10 +310,11 @@ fn serve<R: Threads + Wait + Sync, S: Source, O: Sink, E: Sink, G: Gate + Sync>(
 /// The program: looks at the words, reads the input, does what the words ask for, and writes what
 /// comes of it.
 ///
-/// The words have one of the forms of docs/SPECIFICATION.md, "The words", which tells the statuses
-/// too; the line that goes with a status is written to `err`. For `run` the journal is given with
-/// each of the statuses 0, 4, 5, 6, 8 and 10, may be given with 9, and is not given with 2, 3 and
-/// 7. `check` gives none. Each worker of a run passes the gate before it enters an entry.
+/// The words may be any: docs/SPECIFICATION.md tells in "The words" which forms are taken, and in
+/// "The program" the statuses, 2 where the words have no form; the line that goes with a status is
+/// written to `err`. For `run` the journal is given with each of the statuses 0, 4, 5, 6, 8 and 10,
+/// may be given with 9, and is not given with 2, 3 and 7. `check` gives none. Each worker of a run
+/// passes the gate before it enters an entry.
 pub fn ocr_main<R: Threads + Wait + Sync, S: Source, O: Sink, E: Sink, G: Gate + Sync>(
     rt: &R,
     alloc: Global,

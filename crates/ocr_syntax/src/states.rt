@@ -46,26 +46,39 @@ pub enum State {
 /// What is wanted next in a function.
 #[derive(Drop)]
 pub enum Wanted {
+    /// A statement, or the end of the block at hand.
     Statement,
+    /// The name of the variable after `let`.
     LetName,
+    /// The `=` of a `let` of this variable.
     LetEquals(Name),
+    /// The `=` of an assignment to this variable.
     AssignEquals(Name),
     /// The semicolon after a call that stands alone.
     AfterCall(Box<Invoke>),
     /// `else`, or the next statement.
     MayElse(Box<Expr>, Vec<Stmt>),
+    /// The `{` after `else`.
     ElseOpen(Box<Expr>, Vec<Stmt>),
+    /// An operand, or what may stand before one.
     Operand(Stack),
+    /// The `[` after `paramv` or `depv`.
     IndexOpen(Indexed, Stack),
+    /// The `(` after the name of a call.
     CallOpen(CallName, CallSite),
+    /// The `)` after the last argument of a call, or after `(` where it has none.
     CallEnd(CallName, Vec<Arg>, CallSite),
+    /// The `[` of a list.
     ListOpen(CallName, Vec<Arg>, CallSite),
     /// The first member of a list, or its end.
     ListStart(CallName, Vec<Arg>, CallSite),
+    /// The name of a function, as an argument.
     NameAt(CallName, Vec<Arg>, CallSite),
+    /// The `,` after an argument, or the `)` after the last.
     AfterArgument(CallName, Vec<Arg>, CallSite),
     /// The `&` before an output.
     OutputAnd(CallName, Vec<Arg>, CallSite),
+    /// The name of the variable after `&`.
     OutputName(CallName, Vec<Arg>, CallSite),
     /// What goes on with an expression, or ends it.
     AfterOperand(Stack, Box<Expr>),

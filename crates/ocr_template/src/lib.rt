@@ -18,7 +18,7 @@ pub const EDT_PARAM_DEF: u64 = 4_294_967_294;
 /// an accepted destruction names it.
 #[derive(Clone, Copy, PartialEq, Eq, Debug)]
 pub struct Template {
-    /// The number of the function, from 0.
+    /// The number of the function, from 1 in the order of the text.
     pub function: u32,
     /// Whether it was destroyed.
     pub destroyed: bool,
@@ -31,7 +31,7 @@ pub struct Template {
 /// How many parameters and dependences an EDT gets that is made from the template with these
 /// counts: each count is the template's where `EDT_PARAM_DEF` is given, else the given one. EINVAL
 /// exactly where the default is asked for a count that the template leaves open, a count is given
-/// that differs from the template's, or one is above its limit.
+/// that differs from one that the template has not left open, or one is above its limit.
 pub fn counts(template: &Template, paramc: u64, depc: u64) -> Result<(u32, u32), Code>
     ensures answer { result ≡ counts_of template.now paramc depc }
     ensures refused { (result ≡ Err Code.Einval)

@@ -185,8 +185,8 @@ pub fn tokens(alloc: Global, bytes: &[u8]) -> Result<Vec<Token>, TokensStop>
     Ok(found)
 }
 
-/// The laws of tokens. A text has one list of tokens or one fault, and never both. The kinds and
-/// texts of its tokens are told from the front, one after another.
+/// The laws of tokens. A text has at most one list of tokens, at most one fault, and never both.
+/// The kinds and texts of its tokens are told from the front, one after another.
 pub fn tokens_laws()
     ensures tokens { TokensLaw }
     ensures texts { TextsLaw }

@@ -82,9 +82,10 @@ fn is_check(given: &Given<'_>) -> bool
         && given.numbers.is_empty()
 }
 
-/// What the words after the program's name ask for. `Refused` exactly where they are in none of the
-/// forms `run [--workers N] [--objects N] [--events N] [REPORT..] [NUMBER..]`, `check` and
-/// `load NUMBER [--workers N] [REPORT..]`. As yet `--races` and `load` are refused.
+/// What the words after the program's name ask for. Two forms are taken,
+/// `run [--workers N] [--objects N] [--events N] [REPORT..] [NUMBER..]` and `check`; `Refused`
+/// comes exactly where the words are in neither. The form `load NUMBER [--workers N] [REPORT..]`
+/// and the report `--races` are not built yet, and are refused.
 pub fn command(alloc: Global, words: &[String]) -> Result<Wanted, WordsStop>
     ensures ok { IfOk result (λ w. IsAsked (texts_of words.now) w) }
     ensures only { IfOk result
