@@ -3,6 +3,7 @@
 
 ghost use Rattle.std.specs.Prelude.{◌≡◌, ◌≤◌, ◌↔◌, ◌∷◌, ◌++◌, IsTrue, IsSome, IfSome, IfOk};
 ghost use Rattle.std.specs.List.{All, filter};
+ghost use Rattle.ocr_acquire.specs.declared.Mode.TheVariants as mode;
 ghost use Rattle.ocr_acquire.specs.Plan.{plan_of, IsPlan, IsWellFormed, asks, last_of_each, PlanLaw, OnlyPlanLaw, GivenLaw, LengthLaw};
 ghost use Rattle.ocr_acquire.specs.Writes.{PutLaw, WrittenLaw};
 ghost use Rattle.ocr_acquire.specs.Mode.{rank_of, mode_of, together, fits_all, NumberLaw, OrderLaw, SharingLaw, AloneLaw};
@@ -75,7 +76,9 @@ pub fn fits(mode: Mode, holders: &[(Guid, Mode)]) -> bool
 }
 
 impl Default for Mode {
-    fn default() -> Mode {
+    fn default() -> Mode
+        ensures { result ≡ mode.Null }
+    {
         Mode::Null
     }
 }

@@ -14,6 +14,7 @@ use Rattle.ocr_edt.specs.Edt.{EdtCall, Ready, Acquired, FoundStale, Wait, Resume
 abbrev pub mode_after : ℕ → EdtCall → Option Mode → Option Mode → Option Mode
 mode_after block (Hold g) acquired before = if block == g then Some mode.Rw else before
 mode_after block (DropHold g) acquired before = if block == g then None else before
+mode_after block End acquired before = None
 mode_after block call acquired before = acquired
 
 abbrev pub last_mode : ℕ → List EdtCall → Option Mode

@@ -37,8 +37,8 @@ pub record IsNamed (limit : ℕ) (f : Parts) (a : Answer) : Type 0 where
   pub fresh : is_done a.code ≡ true → IsFresh limit f a.value
   pub refused : is_done a.code ≡ false → a.value ≡ 0
 
--- a hold that ends: the core and the block have it in the same mode, and its loan is the one that
--- the block gave out
+-- a hold that ends: the core and the block have it in the same mode, and its loan is such as the
+-- block gave out: an exclusive one is lent to this EDT, and has as many words as the block
 pub record IsLoanFit (t : ℕ) (st : block.State) (l : Loan) : Type 0 where
   pub lent : is_number t st.borrower ≡ is_exclusive l.mode
   pub size : is_exclusive l.mode ≡ true → length l.began ≡ st.size
@@ -56,7 +56,7 @@ abbrev pub IsEnding : Parts → ℕ → ℕ → Type 0
 IsEnding f t d = IsBlock (f.face d) (IsHeld t (mode_on (f.core t) d) (loan_on (f.core t) d))
 
 -- a block that is destroyed: where the EDT holds it, core and block have the hold in the same mode,
--- and its loan is the one that the block gave out; where it does not, nothing is lent to it
+-- and its loan is such as the block gave out; where it does not, nothing is lent to it
 pub record IsAgreed (t : ℕ) (m : Option Mode) (loan : Option Loan) (st : block.State) : Type 0 where
   pub same : m ≡ mode_in t st.holders
   pub loan_back : IsLoanBack t loan st
@@ -64,7 +64,8 @@ pub record IsAgreed (t : ℕ) (m : Option Mode) (loan : Option Loan) (st : block
 abbrev pub IsDooming : Parts → ℕ → ℕ → Type 0
 IsDooming f t d = IsBlock (f.face d) (IsAgreed t (mode_on (f.core t) d) (loan_on (f.core t) d))
 
--- a word of a block that is held in RW or RO, and not lent
+-- a word of a block that is lent to nobody, and that the core and the block have in the same mode;
+-- a body makes such a call only where this mode is RW or RO
 pub record IsShared (t k : ℕ) (m : Option Mode) (st : block.State) : Type 0 where
   pub exists : k < st.size
   pub same : m ≡ mode_in t st.holders

@@ -1,6 +1,5 @@
 pub mod Bodies
 pub mod Calls
-pub mod Carried
 pub mod Codes
 pub mod Effects
 pub mod Footprint
