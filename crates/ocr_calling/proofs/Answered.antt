@@ -23,6 +23,7 @@ use Rattle.ocr_clerks.specs.Entering.{OcrKnown}
 use Rattle.ocr_running.specs.Calls.{IsAnswer, IsNextTo, drawn_for, makes_output, makes_scope}
 use Rattle.ocr_running.specs.Running.{HasLifted, new_places, places_made}
 use Rattle.ocr_calling.proofs.Drawn.{some_is}
+use Rattle.ocr_parts.proofs.Within.{done_is}
 
 -- A CALL THAT MAKES NOTHING
 none_made : (limit : ℕ) (c : body.Call) (a : Answer) → (is_creation c && is_done a.code) ≡ false → (places_made limit c a ≡ []) × (drawn_for c a ≡ [])
@@ -95,10 +96,6 @@ new_one limit c a creates none = rw (creates, none) refl
 pub still_drawn : (t : OcrTerms) (edt : ℕ) (old c : OcrKnown) (places drawn : List ℕ) (ps : List (ℕ × Part)) → HasLifted t edt old c places drawn ps → c.view.drawn ≡ drawn
 still_drawn t edt old c places drawn ps h = ap (λ (v : OcrView). v.drawn) h.view
 
-done_of : (k : Code) → is_done k ≡ true → k ≡ code.Done
-done_of code.Done is = refl
-done_of other is = cc is
-
 pub makes_one : (c : body.Call) (k : Code) → (is_creation c && is_done k) ≡ true → is_creation c ≡ true
 makes_one c k made = first (is_creation c) (is_done k) made
   where
@@ -114,7 +111,7 @@ makes_done c k made = second (is_creation c) (is_done k) made
     second false y is = cc is
 
 pub done_one : (c : body.Call) (k : Code) → (is_creation c && is_done k) ≡ true → k ≡ code.Done
-done_one c k made = done_of k (makes_done c k made)
+done_one c k made = done_is k (makes_done c k made)
 
 -- THE PLACES behind those that were taken
 drop_first : (all new : List ℕ) → 1 ≤ length all → drop 1 (all ++ new) ≡ drop 1 all ++ new

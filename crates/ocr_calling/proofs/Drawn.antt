@@ -4,6 +4,7 @@ use Rattle.std.specs.List.{All}
 use Rattle.std.proofs.lemmas.Grind.{common_steps}
 use Rattle.std.proofs.lemmas.List.{append-nil, length-append}
 use Rattle.std.proofs.lemmas.List.Elements.{All-cons, All-nil}
+use Rattle.std.proofs.lemmas.Bool.{and_parts}
 use Rattle.ocr_guid.specs.declared.Code.{Code}
 use Rattle.ocr_meaning.specs.Call.{is_creation}
 use Rattle.ocr_meaning.specs.Holds.{is_done}
@@ -116,10 +117,6 @@ stands_some : (n : ℕ) → 1 ≤ n → 1 ≤ times n (some_number n)
 stands_some zero low = absurd (omega (arith, low))
 stands_some (suc n) low = subst (λ (ns : List ℕ). 1 ≤ times (suc n) ns) (sym (some_is (suc n) (omega arith))) (let one = one_here (suc n) in omega (arith, one))
 
-both_parts : (x y : Bool) → (x && y) ≡ true → (x ≡ true) × (y ≡ true)
-both_parts true y is = (refl, is)
-both_parts false y is = cc is
-
 module _ (limit : ℕ) (c : body.Call) (k : Code) (c0 c1 c2 c3 : OcrKnown) (v s o : ℕ) (made : (is_creation c && is_done k) ≡ true) (none : c0.view.drawn ≡ []) (low : (1 ≤ v) × (v ≤ limit)) (view : c1.view ≡ with_drawn c0.view v) (hand : SameHand c0 c1) (sees : Sees meaning c1.view)
     (second : DrewIf (makes_scope c) limit c1 c2 s) (third : DrewIf (makes_output c) limit c2 c3 o) where
   abbrev answered : Answer
@@ -167,10 +164,10 @@ module _ (limit : ℕ) (c : body.Call) (k : Code) (c0 c1 c2 c3 : OcrKnown) (v s 
       by_scope (suc n) = subst (λ (k : ℕ). 1 ≤ times k (v ∷ some_number (suc n))) (sym (last_is n)) (let h = stands_some (suc n) (omega arith) in omega (arith, h))
 
   done : is_done k ≡ true
-  done = (both_parts (is_creation c) (is_done k) made).1
+  done = (and_parts (is_creation c) (is_done k) made).1
 
   creates : is_creation c ≡ true
-  creates = (both_parts (is_creation c) (is_done k) made).0
+  creates = (and_parts (is_creation c) (is_done k) made).0
 
   pub drew_all : Drew limit c answered c0 c3
   drew_all = record {

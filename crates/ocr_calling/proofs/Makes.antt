@@ -24,8 +24,7 @@ use Rattle.ocr_history.specs.declared.entry.Entry.TheVariants.{Call}
 use Rattle.ocr_parts.specs.declared.part.Core.{Core}
 use Rattle.ocr_parts.specs.declared.part.Part.{Part}
 use Rattle.ocr_parts.specs.declared.part.Part.TheVariants as part
-use Rattle.ocr_parts.specs.Codes.{ABlock, Sort, Source, code_of, counted_code, creation_code, wanted, wanted_payload, wanted_source, wanted_sources}
-use Rattle.ocr_parts.specs.Calls.{is_object}
+use Rattle.ocr_parts.specs.Codes.{Sort, code_of, counted_code, creation_code, wanted}
 use Rattle.ocr_parts.specs.Effects.{settled_core}
 use Rattle.ocr_parts.specs.Footprint.{Covers, makes_core}
 use Rattle.ocr_parts.specs.Kinds.{work_in}
@@ -43,38 +42,18 @@ use Rattle.ocr_running.specs.Running.{HasLifted, IsCalled, IsCoreOf, Runs, first
 use Rattle.ocr_running.specs.Serving.{holds_in, own_log}
 use Rattle.ocr_running.proofs.Asked.{blank}
 use Rattle.ocr_running.proofs.Called.{runnable_in}
-use Rattle.ocr_running.proofs.Calls.{next_of}
-
--- FEW PARTS are named by a call of a program that may be run
-sources_few : (ds : List ℕ) → length (wanted_sources ds) ≤ length ds
-sources_few [] = omega arith
-sources_few (d ∷ ds) = elim (is_object d) as (λ b. length (if b then (d, Source) ∷ wanted_sources ds else wanted_sources ds) ≤ length (d ∷ ds)) [
-  | true ↦ let r = sources_few ds in omega (arith, r)
-  | false ↦ let r = sources_few ds in omega (arith, r)
-]
+use Rattle.ocr_facts.proofs.Lawful.{wanted_few, asked_call}
 
 none_or_one : (b : Bool) (x : ℕ × Sort) → length (if b then [] else x ∷ []) ≤ 1
 none_or_one true x = omega arith
 none_or_one false x = omega arith
 
-source_few : (d : ℕ) → length (wanted_source d) ≤ 1
-source_few d = none_or_one (d == 0) (d, Source)
-
-payload_few : (p : ℕ) → length (wanted_payload p) ≤ 1
-payload_few p = none_or_one (p == 0) (p, ABlock)
-
-served_few : (functions : ℕ) (c : body.Call) → IsServed functions c → length (wanted c) ≤ 33
-served_few functions (call.EdtCreate from pc ps dc ds fl o) served = let few = served.1 in let r = sources_few ds in omega (arith, few, r)
-served_few functions (call.AddDependence from x i m) served = let r = source_few from in omega (arith, r)
-served_few functions (call.Satisfy e p slot) served = let r = payload_few p in omega (arith, r)
-served_few functions other served = omega arith
-
 pub call_few : (table : OcrTable) (program : Checked) (c : OcrKnown) (edt : ℕ) (b : Body) (made : body.Call) (private : List (ℕ × ℕ)) → AtWork table program c → Runs table.1 edt b c → IsNextWith made private (says b (own_log c.view.log edt)) → length (wanted made) ≤ 33
 call_few table program c edt b made private work runs next =
     let runnable = runnable_in table program c work in
     let same : b.program ≡ checked_tree table.1.setting.value.program = ap (λ (x : Body). x.program) runs.serves.body in
-    served_few (length b.program) made
-    (next_of (IsServed (length b.program)) (says b (own_log c.view.log edt)) made private
+    wanted_few (length b.program) made
+    (asked_call (IsServed (length b.program)) (says b (own_log c.view.log edt)) made private
     (served_law b (own_log c.view.log edt) (ap are_functions_named same ∙ runnable.named) (ap are_lists_short same ∙ runnable.short)) next)
 
 -- MORE PARTS behind those that it names

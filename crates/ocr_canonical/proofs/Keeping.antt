@@ -1,6 +1,7 @@
 -- Lexemes that keep the limits, from a tally on.
-use Rattle.std.proofs.Common.{◌≡◌, ◌≤◌, ℕ, zero, suc, List, [], ◌∷◌, Bool, true, false, Some, None, length, take, refl, arith}
+use Rattle.std.proofs.Common.{◌≡◌, ◌≤◌, ℕ, zero, suc, List, [], ◌∷◌, Bool, true, false, Some, None, length, take, arith}
 use Rattle.std.proofs.lemmas.Grind.{common_steps}
+use Rattle.std.proofs.lemmas.Bool.{false_from_ne_true}
 use Rattle.ocr_grammar.specs.declared.lexeme.Lexeme.{Lexeme}
 use Rattle.ocr_grammar.specs.Limits.{Tally, tally_after, tally, is_over}
 
@@ -32,14 +33,10 @@ inside_low n d is = grind (arith, common_steps)
 pub outer_low : (d : ℕ) → is_over (outer d) ≡ false → d ≤ 64
 outer_low d is = grind (arith, common_steps)
 
-false_or_true : (b : Bool) → (b ≡ true → ⊥) → b ≡ false
-false_or_true true never = absurd (never refl)
-false_or_true false never = refl
-
 pub from_fits : (ts : List Lexeme) (y : Tally) → ((k : ℕ) → k ≤ length ts → is_over (tally y (take k ts)) ≡ true → ⊥) → Keeps y ts
-from_fits [] y fits = false_or_true (is_over y) (fits 0 (omega arith))
+from_fits [] y fits = false_from_ne_true (is_over y) (fits 0 (omega arith))
 from_fits (t ∷ ts) y fits =
-    (false_or_true (is_over y) (fits 0 (omega arith)), from_fits ts (tally_after y t) (λ k low over. fits (suc k) (omega (arith, low)) over))
+    (false_from_ne_true (is_over y) (fits 0 (omega arith)), from_fits ts (tally_after y t) (λ k low over. fits (suc k) (omega (arith, low)) over))
 
 not_both : (b : Bool) → b ≡ true → b ≡ false → ⊥
 not_both b p q = cc

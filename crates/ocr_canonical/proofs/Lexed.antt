@@ -4,14 +4,16 @@ use Rattle.std.proofs.lemmas.Fmt.{digits_decimal, digits_value-decimal, decimal_
 use Rattle.std.proofs.lemmas.Str.Parse.{IsNumeralModel, IsDigitsTest, FoldsDigits, numerals_by_fold}
 use Rattle.std.specs.Prelude.{decimal}
 use Rattle.std.specs.List.{list_all}
+use Rattle.std.proofs.lemmas.Bool.{and_parts, or_parts}
 use Rattle.ocr_text.specs.declared.token.TokenKind.{TokenKind}
 use Rattle.ocr_text.specs.declared.token.TokenKind.TheVariants as kind
 use Rattle.ocr_text.specs.Forms.{is_blank, is_digit, is_letter, is_form, is_double, value_on, value_of}
 use Rattle.ocr_text.specs.Scan.{kind_at, goes_on, run_of, second_of, rest_of, found, found_as}
-use Rattle.ocr_text.proofs.Bytes.{first_byte, and_left, and_right, and_both}
+use Rattle.ocr_text.proofs.Bytes.{first_byte, kind_blank}
 use Rattle.ocr_grammar.specs.declared.lexeme.Lexeme.{Lexeme}
 use Rattle.ocr_grammar.specs.declared.lexeme.Lexeme.TheVariants as lexeme
 use Rattle.ocr_grammar.specs.Texts as texts
+use Rattle.ocr_text.proofs.Laws.{pair_is, none_some}
 
 -- what a token of this kind and these bytes is to the grammar
 pub data Gives : TokenKind → List ℕ → Lexeme → Type 0 where
@@ -28,12 +30,6 @@ pub data IsLexed : List ℕ → List Lexeme → Type 0 where
 
 -- ---- blanks
 
-some_pair : (a b : TokenKind × ℕ) → Some a ≡ Some b → a ≡ b
-some_pair a b is = cc
-
-none_some : {x : TokenKind × ℕ} → None ≡ Some x → ⊥
-none_some is = cc
-
 abbrev chain : Bool → Bool → Bool → Bool → Bool → Option TokenKind
 chain x1 x2 x3 x4 x5 =
     cond x1 (Some kind.Blank) (cond x2 (Some kind.Comment) (cond x3 (Some kind.Number) (cond x4 (Some kind.Name) (cond x5 (Some kind.Symbol) None))))
@@ -46,12 +42,9 @@ blank_first false false false true x5 is = cc
 blank_first false false false false true is = cc
 blank_first false false false false false is = cc
 
-kind_blank : (b : ℕ) → is_blank b ≡ true → kind_at b ≡ Some kind.Blank
-kind_blank b is = first_byte kind.Blank b [] (and_both _ _ is refl)
-
 found_kind : (o : Option TokenKind) (b : ℕ) (bs : List ℕ) (k : TokenKind) (n : ℕ) → found_as o b bs ≡ Some (k, n) → o ≡ Some k
 found_kind None b bs k n is = absurd (none_some is)
-found_kind (Some t) b bs k n is = ap (λ (x : TokenKind × ℕ). Some x.0) (some_pair (t, rest_of t b bs + 1) (k, n) is)
+found_kind (Some t) b bs k n is = ap (λ (x : TokenKind × ℕ). Some x.0) (pair_is (t, rest_of t b bs + 1) (k, n) is)
 
 -- what is read at the front of these bytes, and how many of them are blank
 blank_run : (bytes : List ℕ) (n : ℕ) → found bytes ≡ Some (kind.Blank, n) → run_of (goes_on kind.Blank) bytes ≡ n
@@ -59,7 +52,7 @@ blank_run [] n is = absurd (none_some is)
 blank_run (b ∷ bs) n is =
     let first : kind_at b ≡ Some kind.Blank = found_kind (kind_at b) b bs kind.Blank n is in
     let test : is_blank b ≡ true = blank_first _ _ _ _ _ first in
-    let size : run_of (goes_on kind.Blank) bs + 1 ≡ n = ap (λ (x : TokenKind × ℕ). x.1) (some_pair (kind.Blank, run_of (goes_on kind.Blank) bs + 1) (kind.Blank, n) (sym (ap (λ (o : Option TokenKind). found_as o b bs) first) ∙ is)) in
+    let size : run_of (goes_on kind.Blank) bs + 1 ≡ n = ap (λ (x : TokenKind × ℕ). x.1) (pair_is (kind.Blank, run_of (goes_on kind.Blank) bs + 1) (kind.Blank, n) (sym (ap (λ (o : Option TokenKind). found_as o b bs) first) ∙ is)) in
     ap (λ (x : Bool). cond x (run_of (goes_on kind.Blank) bs + 1) 0) test ∙ size
 
 no_run : (b : ℕ) (bs : List ℕ) (x : Bool) → is_blank b ≡ x → (k : TokenKind) (n : ℕ) → (k ≡ kind.Blank → ⊥) → found (b ∷ bs) ≡ Some (k, n) → cond x (run_of (goes_on kind.Blank) bs + 1) 0 ≡ 0
@@ -100,7 +93,7 @@ line_feed rest ls d = blank_before 10 rest ls refl d
 
 pub blanks : (margin rest : List ℕ) (ls : List Lexeme) → list_all is_blank margin ≡ true → IsLexed rest ls → IsLexed (margin ++ rest) ls
 blanks [] rest ls is d = d
-blanks (b ∷ margin) rest ls is d = blank_before b _ ls (and_left _ _ is) (blanks margin rest ls (and_right (is_blank b) _ is) d)
+blanks (b ∷ margin) rest ls is d = blank_before b _ ls (and_parts _ _ is).0 (blanks margin rest ls (and_parts (is_blank b) _ is).1 d)
 
 -- ---- words and numbers
 
@@ -112,20 +105,16 @@ Stops (b ∷ bs) = (is_letter b || is_digit b) ≡ false
 run_stopped : (test : ℕ → Bool) (piece rest : List ℕ) → list_all test piece ≡ true → run_of test rest ≡ 0 → run_of test (piece ++ rest) ≡ length piece
 run_stopped test [] rest all is = is
 run_stopped test (b ∷ bs) rest all is =
-    let more : run_of test (bs ++ rest) + 1 ≡ suc (length bs) = omega (arith, run_stopped test bs rest (and_right (test b) _ all) is) in
-    ap (λ (x : Bool). cond x (run_of test (bs ++ rest) + 1) 0) (and_left _ _ all) ∙ more
+    let more : run_of test (bs ++ rest) + 1 ≡ suc (length bs) = omega (arith, run_stopped test bs rest (and_parts (test b) _ all).1 is) in
+    ap (λ (x : Bool). cond x (run_of test (bs ++ rest) + 1) 0) (and_parts _ _ all).0 ∙ more
 
 stops_name : (rest : List ℕ) → Stops rest → run_of (goes_on kind.Name) rest ≡ 0
 stops_name [] is = refl
 stops_name (b ∷ bs) is = ap (λ (x : Bool). cond x (run_of (goes_on kind.Name) bs + 1) 0) is
 
-or_right : (a b : Bool) → (a || b) ≡ false → b ≡ false
-or_right true b is = cc
-or_right false b is = is
-
 stops_number : (rest : List ℕ) → Stops rest → run_of (goes_on kind.Number) rest ≡ 0
 stops_number [] is = refl
-stops_number (b ∷ bs) is = ap (λ (x : Bool). cond x (run_of (goes_on kind.Number) bs + 1) 0) (or_right (is_letter b) _ is)
+stops_number (b ∷ bs) is = ap (λ (x : Bool). cond x (run_of (goes_on kind.Number) bs + 1) 0) (or_parts (is_letter b) _ is).1
 
 take_front : (piece rest : List ℕ) → take (length piece) (piece ++ rest) ≡ piece
 take_front [] rest = search rules
@@ -145,7 +134,7 @@ whole k piece rest l ls f g d =
 found_name : (x rest : List ℕ) → is_form kind.Name x ≡ true → Stops rest → found (x ++ rest) ≡ Some (kind.Name, length x)
 found_name [] rest form stops = cc
 found_name (b ∷ bs) rest form stops =
-    let more : run_of (goes_on kind.Name) (bs ++ rest) + 1 ≡ suc (length bs) = omega (arith, run_stopped (goes_on kind.Name) bs rest (and_right (is_letter b) _ form) (stops_name rest stops)) in
+    let more : run_of (goes_on kind.Name) (bs ++ rest) + 1 ≡ suc (length bs) = omega (arith, run_stopped (goes_on kind.Name) bs rest (and_parts (is_letter b) _ form).1 (stops_name rest stops)) in
     ap (λ (o : Option TokenKind). found_as o b (bs ++ rest)) (first_byte kind.Name b bs form) ∙ ap (λ (n : ℕ). Some (kind.Name, n)) more
 
 pub word : (x rest : List ℕ) (l : Lexeme) (ls : List Lexeme) → is_form kind.Name x ≡ true → texts.lexeme_of_name x ≡ l → Stops rest → IsLexed rest ls → IsLexed (x ++ rest) (l ∷ ls)
@@ -154,7 +143,7 @@ word x rest l ls form is stops d = whole kind.Name x rest l ls (found_name x res
 found_number : (x rest : List ℕ) → is_form kind.Number x ≡ true → Stops rest → found (x ++ rest) ≡ Some (kind.Number, length x)
 found_number [] rest form stops = cc
 found_number (b ∷ bs) rest form stops =
-    let more : run_of (goes_on kind.Number) (bs ++ rest) + 1 ≡ suc (length bs) = omega (arith, run_stopped (goes_on kind.Number) bs rest (and_right (is_digit b) _ form) (stops_number rest stops)) in
+    let more : run_of (goes_on kind.Number) (bs ++ rest) + 1 ≡ suc (length bs) = omega (arith, run_stopped (goes_on kind.Number) bs rest (and_parts (is_digit b) _ form).1 (stops_number rest stops)) in
     ap (λ (o : Option TokenKind). found_as o b (bs ++ rest)) (first_byte kind.Number b bs form) ∙ ap (λ (n : ℕ). Some (kind.Number, n)) more
 
 tells : IsDigitsTest (λ ds. list_all is_digit ds ≡ true)

@@ -3,6 +3,7 @@ use Rattle.std.proofs.Common.{◌≡◌, ◌+◌, ℕ, List, [], ◌∷◌, ◌+
 use Rattle.std.proofs.lemmas.Grind.{common_steps}
 use Rattle.std.specs.Prelude.{decimal}
 use Rattle.std.specs.List.{list_all}
+use Rattle.std.proofs.lemmas.Bool.{and_parts}
 use Rattle.ocr_tree.specs.declared.tree.UnaryOp.{UnaryOp}
 use Rattle.ocr_tree.specs.declared.tree.UnaryOp.TheVariants as unary
 use Rattle.ocr_tree.specs.declared.tree.BinaryOp.{BinaryOp}
@@ -11,7 +12,6 @@ use Rattle.ocr_tree.specs.Tree.{Expression, Arguments, empty, value, list, named
 use Rattle.ocr_text.specs.declared.token.TokenKind.TheVariants as kind
 use Rattle.ocr_text.specs.Forms.{is_blank, is_digit, is_letter, is_form}
 use Rattle.ocr_text.specs.Scan.{second_of}
-use Rattle.ocr_text.proofs.Bytes.{and_left}
 use Rattle.ocr_grammar.specs.declared.lexeme.Lexeme.{Lexeme}
 use Rattle.ocr_grammar.specs.declared.lexeme.Lexeme.TheVariants as lexeme
 use Rattle.ocr_grammar.specs.declared.lexeme.Word.TheVariants as reserved
@@ -74,11 +74,11 @@ digit_apart b is = grind (arith, common_steps)
 
 name_apart : (x rest : List ℕ) → is_form kind.Name x ≡ true → second_of 33 (x ++ rest) ≡ 0
 name_apart [] rest form = cc
-name_apart (b ∷ bs) rest form = no_equals b (bs ++ rest) (letter_apart b (and_left _ _ form))
+name_apart (b ∷ bs) rest form = no_equals b (bs ++ rest) (letter_apart b (and_parts _ _ form).0)
 
 number_apart : (x rest : List ℕ) → is_form kind.Number x ≡ true → second_of 33 (x ++ rest) ≡ 0
 number_apart [] rest form = cc
-number_apart (b ∷ bs) rest form = no_equals b (bs ++ rest) (digit_apart b (and_left _ _ form))
+number_apart (b ∷ bs) rest form = no_equals b (bs ++ rest) (digit_apart b (and_parts _ _ form).0)
 
 unary_apart : (op : UnaryOp) (x rest : List ℕ) → second_of 33 (sign_text op ++ x ++ rest) ≡ 0
 unary_apart unary.Not x rest = refl
@@ -194,7 +194,7 @@ AreLines x front = (rest : List ℕ) (ls : List Lexeme) → IsLexed rest ls → 
 
 deeper_blank : (margin : List ℕ) → list_all is_blank margin ≡ true → list_all is_blank (deeper margin) ≡ true
 deeper_blank [] is = refl
-deeper_blank (b ∷ bs) is = both (is_blank b) _ (and_left _ _ is) (deeper_blank bs (right (is_blank b) _ is))
+deeper_blank (b ∷ bs) is = both (is_blank b) _ (and_parts _ _ is).0 (deeper_blank bs (right (is_blank b) _ is))
   where
     both : (x y : Bool) → x ≡ true → y ≡ true → (x && y) ≡ true
     both true y first second = second

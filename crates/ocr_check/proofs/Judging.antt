@@ -10,7 +10,7 @@ use Rattle.ocr_tree.specs.Tree as tree
 use Rattle.ocr_check.specs.Check.{Mention, rule_broken, is_among, is_declared, let_names, most_lets, mentions_of, mentions_of_expression, mentions_of_statement, mentions_of_statements}
 use Rattle.ocr_check.specs.Check as check
 use Rattle.ocr_check.specs.Checking.{mention_rule, expression_rule, value_rule, let_rule, with_name, Declarations, Outcome, Passed, Broken, told, and_then, leaving, statement_outcome, statements_outcome, rule_of, function_rule, no_declarations}
-use Rattle.ocr_check.proofs.Parts.{or_of_none}
+use Rattle.ocr_check.proofs.Parts.{or_of_none, or_first}
 use Rattle.ocr_check.proofs.Mentions.{onto, onto-append, first_broken, first_broken-append, option_or-None, IsQuiet, quiet-used, quiet-expression, IsInner, inner-statements, block, block-declared, known_of, expression_agrees}
 
 -- the names that are kept are those that the mentions tell of
@@ -35,9 +35,6 @@ tells-told : (names : List (List ℕ)) (past : List Mention) (k : Declarations) 
 tells-told names past k None mentions q t e = (e, tracks-quiet k past mentions q t)
 tells-told names past k (Some r) mentions q t e = e
 
-or_of_some : (a b : Option ℕ) (r : ℕ) → a ≡ Some r → option_or a b ≡ Some r
-or_of_some a b r e = ap (λ (o : Option ℕ). option_or o b) e
-
 tells-after : (names : List (List ℕ)) (past xs ys : List Mention) (o : Outcome) → first_broken names past xs ≡ None → Tells names (onto past xs) o ys → Tells names past o (xs ++ ys)
 tells-after names past xs ys (Passed k) e t = (
   first_broken-append names past xs ys ∙ or_of_none (first_broken names past xs) (first_broken names (onto past xs) ys) e ∙ t.0,
@@ -50,7 +47,7 @@ tells-after names past xs ys (Broken r) e t =
 tells-then : (names : List (List ℕ)) (past xs ys : List Mention) (o : Outcome) (next : Declarations → Outcome) → Tells names past o xs → ((k : Declarations) → Tracks k (onto past xs) → Tells names (onto past xs) (next k) ys) → Tells names past (and_then o next) (xs ++ ys)
 tells-then names past xs ys (Passed k) next t more = tells-after names past xs ys (next k) t.0 (more k t.1)
 tells-then names past xs ys (Broken r) next t more =
-    first_broken-append names past xs ys ∙ or_of_some (first_broken names past xs) (first_broken names (onto past xs) ys) r t
+    first_broken-append names past xs ys ∙ or_first (first_broken names past xs) (first_broken names (onto past xs) ys) r t
 
 -- a block that is left
 tells-leaving : (names : List (List ℕ)) (past inner : List Mention) (k : Declarations) (o : Outcome) → IsInner inner → Tracks k past → Tells names (check.BlockOpened ∷ past) o inner → Tells names past (leaving k o) (block inner)
@@ -65,7 +62,7 @@ tells-leaving names past inner k (Passed m) p t u = (
 )
 tells-leaving names past inner k (Broken r) p t u =
     first_broken-append names (check.BlockOpened ∷ past) inner (check.BlockClosed ∷ [])
-    ∙ or_of_some (first_broken names (check.BlockOpened ∷ past) inner) None r u
+    ∙ or_first (first_broken names (check.BlockOpened ∷ past) inner) None r u
 
 tracks-block : (k : Declarations) (past : List Mention) → Tracks k past → Tracks k (check.BlockOpened ∷ past)
 tracks-block k past t = record { lets = λ x. t.lets x; count = t.count; declared = λ x. t.declared x }

@@ -1,6 +1,6 @@
 -- In a function that breaks no rule the functions that its calls name are there, and their lists are short.
 use Rattle.std.proofs.Common.{◌≡◌, ◌≤◌, ◌+◌, ℕ, suc, nat_le, nat_lt, slice_index_or, Bool, true, false, ◌&&◌, ◌||◌, if◌then◌else◌, cond, List, [], ◌∷◌, length, Option, None, Some, refl, bytes_eq, arith}
-use Rattle.std.proofs.lemmas.Bool.{le-leb}
+use Rattle.std.proofs.lemmas.Bool.{le-leb, and_parts, and_from}
 use Rattle.std.specs.Option.{option_or}
 use Rattle.ocr_tree.specs.Tree.{Expression, Arguments, Statement, Statements, FunctionTree, names_in}
 use Rattle.ocr_tree.specs.Tree as tree
@@ -9,24 +9,13 @@ use Rattle.ocr_tree.specs.Rules.{has_function, is_function_named, are_functions_
 use Rattle.ocr_tree.specs.Functions.{number_named}
 use Rattle.ocr_tree.specs.declared.tree.CallName.TheVariants as name
 use Rattle.ocr_tree.specs.declared.tree.CallName.{CallName}
-use Rattle.ocr_check.specs.Check.{FailsNowhere, Breaks, BreaksSome}
+use Rattle.ocr_check.specs.Check.{FailsNowhere, BreaksSome}
 use Rattle.ocr_check.specs.Check as check
 use Rattle.ocr_check.specs.Checking.{Declarations, Outcome, Passed, Broken, told, and_then, leaving, let_rule, value_rule, with_name, mention_rule, expression_rule, arguments_rule, statement_outcome, statements_outcome, rule_of, function_rule, no_declarations}
 use Rattle.ocr_check.specs.declared.names.ListKind.{ListKind}
 use Rattle.ocr_check.specs.declared.names.ListKind.TheVariants.{Parameters, Dependences}
 use Rattle.ocr_check.proofs.Mentions.{known_of}
 use Rattle.ocr_check.proofs.Programs.{function_stops}
-
-both_true : (a b : Bool) → a ≡ true → b ≡ true → (a && b) ≡ true
-both_true a b p q = λ i. p i && q i
-
-left_true : (a b : Bool) → (a && b) ≡ true → a ≡ true
-left_true true b e = refl
-left_true false b e = e
-
-right_true : (a b : Bool) → (a && b) ≡ true → b ≡ true
-right_true true b e = e
-right_true false b e = absurd (cc)
 
 left_none : (a b : Option ℕ) → option_or a b ≡ None → a ≡ None
 left_none None b e = refl
@@ -59,27 +48,27 @@ mutual
   expression_keeps known p kept declared (tree.Depv e) has h = expression_keeps known p kept declared e has h
   expression_keeps known p kept declared (tree.Unary op e) has h = expression_keeps known p kept declared e has h
   expression_keeps known p kept declared (tree.Binary op a b) has h =
-      both_true (is_each_call p a) (is_each_call p b)
-      (expression_keeps known p kept declared a (left_true _ (is_each_call has_function b) has) (left_none (expression_rule known declared a) (expression_rule known declared b) h))
-      (expression_keeps known p kept declared b (right_true (is_each_call has_function a) _ has) (right_none (expression_rule known declared a) (expression_rule known declared b) h))
+      and_from (is_each_call p a) (is_each_call p b)
+      (expression_keeps known p kept declared a (and_parts _ (is_each_call has_function b) has).0 (left_none (expression_rule known declared a) (expression_rule known declared b) h))
+      (expression_keeps known p kept declared b (and_parts (is_each_call has_function a) _ has).1 (right_none (expression_rule known declared a) (expression_rule known declared b) h))
   expression_keeps known p kept declared (tree.Invoked call xs) has h =
-      both_true (p call xs) (is_each_call_of_all p xs) (kept declared call xs (left_true _ (is_each_call_of_all has_function xs) has) h)
-      (arguments_keep known p kept declared call Parameters xs (right_true (has_function call xs) _ has) h)
+      and_from (p call xs) (is_each_call_of_all p xs) (kept declared call xs (and_parts _ (is_each_call_of_all has_function xs) has).0 h)
+      (arguments_keep known p kept declared call Parameters xs (and_parts (has_function call xs) _ has).1 h)
 
   arguments_keep : (known : List ℕ → Bool) (p : CallName → Arguments → Bool) (kept : IsKept known p) (declared : List ℕ → Bool) (call : CallName) (kind : ListKind) (xs : Arguments)
       → is_each_call_of_all has_function xs ≡ true → arguments_rule known declared call kind xs ≡ None → is_each_call_of_all p xs ≡ true
   arguments_keep known p kept declared call kind tree.empty has h = refl
   arguments_keep known p kept declared call kind (tree.value e rest) has h =
-      both_true (is_each_call p e) (is_each_call_of_all p rest)
-      (expression_keeps known p kept declared e (left_true _ (is_each_call_of_all has_function rest) has) (left_none (expression_rule known declared e) (arguments_rule known declared call kind rest) h))
-      (arguments_keep known p kept declared call kind rest (right_true (is_each_call has_function e) _ has) (right_none (expression_rule known declared e) (arguments_rule known declared call kind rest) h))
+      and_from (is_each_call p e) (is_each_call_of_all p rest)
+      (expression_keeps known p kept declared e (and_parts _ (is_each_call_of_all has_function rest) has).0 (left_none (expression_rule known declared e) (arguments_rule known declared call kind rest) h))
+      (arguments_keep known p kept declared call kind rest (and_parts (is_each_call has_function e) _ has).1 (right_none (expression_rule known declared e) (arguments_rule known declared call kind rest) h))
   arguments_keep known p kept declared call kind (tree.list es rest) has h =
       let members : Option ℕ = arguments_rule known declared call kind es in
       let closed : Option ℕ = mention_rule known declared (check.ListClosed kind (check.count_of es)) in
       let others : Option ℕ = arguments_rule known declared call Dependences rest in
-      both_true (is_each_call_of_all p es) (is_each_call_of_all p rest)
-      (arguments_keep known p kept declared call kind es (left_true _ (is_each_call_of_all has_function rest) has) (left_none members (option_or closed others) h))
-      (arguments_keep known p kept declared call Dependences rest (right_true (is_each_call_of_all has_function es) _ has)
+      and_from (is_each_call_of_all p es) (is_each_call_of_all p rest)
+      (arguments_keep known p kept declared call kind es (and_parts _ (is_each_call_of_all has_function rest) has).0 (left_none members (option_or closed others) h))
+      (arguments_keep known p kept declared call Dependences rest (and_parts (is_each_call_of_all has_function es) _ has).1
       (right_none closed others (right_none members (option_or closed others) h)))
   arguments_keep known p kept declared call kind (tree.named x rest) has h =
       arguments_keep known p kept declared call kind rest has
@@ -121,18 +110,18 @@ mutual
       let inner = inner_passes test.0 branch.0 (statements_outcome known first test.0) branch.1 in
       let other = inner_passes branch.0 m (statements_outcome known second branch.0) branch.2 in
       let blocks : (is_each_call_in_all has_function first && is_each_call_in_all has_function second) ≡ true =
-      right_true (is_each_call has_function e) _ has in
-      both_true (is_each_call p e) (is_each_call_in_all p first && is_each_call_in_all p second)
-      (value_keeps known p kept k test.0 e (left_true _ (is_each_call_in_all has_function first && is_each_call_in_all has_function second) has) test.1)
-      (both_true (is_each_call_in_all p first) (is_each_call_in_all p second)
-      (statements_keep known p kept first test.0 inner.0 (left_true _ (is_each_call_in_all has_function second) blocks) inner.1)
-      (statements_keep known p kept second branch.0 other.0 (right_true (is_each_call_in_all has_function first) _ blocks) other.1))
+      (and_parts (is_each_call has_function e) _ has).1 in
+      and_from (is_each_call p e) (is_each_call_in_all p first && is_each_call_in_all p second)
+      (value_keeps known p kept k test.0 e (and_parts _ (is_each_call_in_all has_function first && is_each_call_in_all has_function second) has).0 test.1)
+      (and_from (is_each_call_in_all p first) (is_each_call_in_all p second)
+      (statements_keep known p kept first test.0 inner.0 (and_parts _ (is_each_call_in_all has_function second) blocks).0 inner.1)
+      (statements_keep known p kept second branch.0 other.0 (and_parts (is_each_call_in_all has_function first) _ blocks).1 other.1))
   statement_keeps known p kept (tree.While e body) k m has h =
       let test = first_passes (told k (value_rule known k e)) (λ n. leaving n (statements_outcome known body n)) m h in
       let inner = inner_passes test.0 m (statements_outcome known body test.0) test.2 in
-      both_true (is_each_call p e) (is_each_call_in_all p body)
-      (value_keeps known p kept k test.0 e (left_true _ (is_each_call_in_all has_function body) has) test.1)
-      (statements_keep known p kept body test.0 inner.0 (right_true (is_each_call has_function e) _ has) inner.1)
+      and_from (is_each_call p e) (is_each_call_in_all p body)
+      (value_keeps known p kept k test.0 e (and_parts _ (is_each_call_in_all has_function body) has).0 test.1)
+      (statements_keep known p kept body test.0 inner.0 (and_parts (is_each_call has_function e) _ has).1 inner.1)
   statement_keeps known p kept (tree.Print e) k m has h = value_keeps known p kept k m e has h
   statement_keeps known p kept (tree.Return e) k m has h = value_keeps known p kept k m e has h
   statement_keeps known p kept (tree.Do call xs) k m has h = value_keeps known p kept k m (tree.Invoked call xs) has h
@@ -142,9 +131,9 @@ mutual
   statements_keep known p kept tree.nothing k m has h = refl
   statements_keep known p kept (tree.statement s rest) k m has h =
       let part = first_passes (statement_outcome known s k) (λ n. statements_outcome known rest n) m h in
-      both_true (is_each_call_in p s) (is_each_call_in_all p rest)
-      (statement_keeps known p kept s k part.0 (left_true _ (is_each_call_in_all has_function rest) has) part.1)
-      (statements_keep known p kept rest part.0 m (right_true (is_each_call_in has_function s) _ has) part.2)
+      and_from (is_each_call_in p s) (is_each_call_in_all p rest)
+      (statement_keeps known p kept s k part.0 (and_parts _ (is_each_call_in_all has_function rest) has).0 part.1)
+      (statements_keep known p kept rest part.0 m (and_parts (is_each_call_in has_function s) _ has).1 part.2)
 
 passed_or_broken : (known : List ℕ → Bool) (p : CallName → Arguments → Bool) (kept : IsKept known p) (ss : Statements) (o : Outcome)
     → is_each_call_in_all has_function ss ≡ true → statements_outcome known ss no_declarations ≡ o → rule_of o ≡ None → is_each_call_in_all p ss ≡ true
@@ -163,9 +152,9 @@ keeps_each : (names : List (List ℕ)) (p : CallName → Arguments → Bool) (ke
     → is_each_call_of has_function fs ≡ true → FailsNowhere (BreaksSome names) fs → is_each_call_of p fs ≡ true
 keeps_each names p kept [] has none = refl
 keeps_each names p kept (f ∷ fs) has none =
-    both_true (is_each_call_in_all p f.body) (is_each_call_of p fs)
-    (function_keeps names p kept f (function_rule (known_of names) f) (left_true _ (is_each_call_of has_function fs) has) refl (none [] fs f refl))
-    (keeps_each names p kept fs (right_true (is_each_call_in_all has_function f.body) _ has) (λ before after g is b. none (f ∷ before) after g (λ i. f ∷ is i) b))
+    and_from (is_each_call_in_all p f.body) (is_each_call_of p fs)
+    (function_keeps names p kept f (function_rule (known_of names) f) (and_parts _ (is_each_call_of has_function fs) has).0 refl (none [] fs f refl))
+    (keeps_each names p kept fs (and_parts (is_each_call_in_all has_function f.body) _ has).1 (λ before after g is b. none (f ∷ before) after g (λ i. f ∷ is i) b))
 
 -- NAMED
 here : (b c : Bool) (n most : ℕ) → (b || c) ≡ true → (c ≡ true → n ≤ most) → (if b then 1 else n + 1) ≤ suc most
@@ -210,7 +199,7 @@ short_arguments known declared call kind (tree.list es rest) h =
     let members : Option ℕ = arguments_rule known declared call kind es in
     let closed : Option ℕ = mention_rule known declared (check.ListClosed kind (check.count_of es)) in
     let others : Option ℕ = arguments_rule known declared call Dependences rest in
-    both_true (nat_le (check.count_of es) (check.most_members kind)) (are_short 32 rest)
+    and_from (nat_le (check.count_of es) (check.most_members kind)) (are_short 32 rest)
     (held (nat_le (check.count_of es) (check.most_members kind)) 6 (left_none closed others (right_none members (option_or closed others) h)))
     (short_arguments known declared call Dependences rest (right_none closed others (right_none members (option_or closed others) h)))
 short_arguments known declared call kind (tree.named x rest) h =

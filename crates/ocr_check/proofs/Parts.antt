@@ -1,5 +1,5 @@
 -- One part after another: the rule of the first that breaks one.
-use Rattle.std.proofs.Common.{◌≡◌, ℕ, Option, None, Some, refl, ap, ◌∙◌}
+use Rattle.std.proofs.Common.{◌≡◌, ℕ, Option, None, Some, ap, ◌∙◌}
 use Rattle.std.specs.Option.{option_or}
 
 pub or_both : (a b : Option ℕ) → a ≡ None → b ≡ None → option_or a b ≡ None
@@ -10,11 +10,6 @@ or_first a b r p = ap (λ (o : Option ℕ). option_or o b) p
 
 pub or_second : (a b : Option ℕ) (r : ℕ) → a ≡ None → b ≡ Some r → option_or a b ≡ Some r
 or_second a b r p q = ap (λ (o : Option ℕ). option_or o b) p ∙ q
-
--- after the last part nothing follows
-pub or_end : (a : Option ℕ) → option_or a None ≡ a
-or_end None = refl
-or_end (Some r) = refl
 
 -- after a part that breaks no rule come the others
 pub or_of_none : (a b : Option ℕ) → a ≡ None → option_or a b ≡ b

@@ -1,5 +1,5 @@
 -- What kept parts tell of each history that fits.
-use Rattle.std.proofs.Common.{◌≡◌, ◌≢◌, ℕ, ◌+◌, ◌-◌, ◌≤◌, Bool, true, false, if◌then◌else◌, List, reverse, Option, Some, None, refl, ap, sym, ◌∙◌, arith}
+use Rattle.std.proofs.Common.{◌≡◌, ◌≢◌, ℕ, ◌+◌, ◌-◌, Bool, true, false, if◌then◌else◌, List, reverse, Option, Some, None, refl, ap, sym, ◌∙◌, arith}
 use Rattle.std.proofs.lemmas.Grind.{common_steps}
 use mathlib.Core.Option.{some}
 use lib.ListN.{get_elem?}
@@ -19,16 +19,14 @@ use Rattle.ocr_facts.proofs.Runs.{run_is}
 use Rattle.ocr_facts.proofs.Waits.{waits_is}
 use Rattle.ocr_rule.specs.Counting.{awaited, is_ended, is_started, tied_to}
 use Rattle.ocr_rule.specs.Rule.{Fits}
+use Rattle.ocr_facts.proofs.Places.{within_is}
 
 -- THE PLACES of cores lie behind those of faces
 pub core_place : (limit t : ℕ) → is_within limit t ≡ true → (is_within limit (limit + t) ≡ false) × ((limit + t) - limit ≡ t)
 core_place limit t is = (grind (arith, common_steps), omega arith)
 
-pub within_bounds : (limit g : ℕ) → is_within limit g ≡ true → (1 ≤ g) × (g ≤ limit)
-within_bounds limit g is = (grind (arith, common_steps), grind (arith, common_steps))
-
 pub core_apart : (limit t g : ℕ) → is_within limit t ≡ true → is_within limit g ≡ true → limit + t ≢ g
-core_apart limit t g wt wg same = let a = within_bounds limit t wt in let b = within_bounds limit g wg in let c = a.0 in let d = b.1 in absurd (omega (arith, same, c, d))
+core_apart limit t g wt wg same = let a = within_is limit t wt in let b = within_is limit g wg in let c = a.0 in let d = b.1 in absurd (omega (arith, same, c, d))
 
 -- WHAT IS KEPT is so after the history, but for what was stored in loans
 pub core_is : (t : OcrTerms) (J : List Entry) (v : OcrView) (k edt : ℕ) (c : Core) → Fits meaning t J v → is_within t.limit edt ≡ true → get_elem? v.parts k ≡ some (t.limit + edt, part.Core c)

@@ -61,7 +61,7 @@ module _ (t : OcrTerms) (c : OcrKnown) (e : Entry) (h : Hand) (places : List ℕ
       }
 
 -- THE CLERK whose parts were lifted, or not
-still : (v : OcrView) → Calm v v
+pub still : (v : OcrView) → Calm v v
 still v = record { terms = refl; root = refl; seat = refl; out = refl; joined = refl; log = refl; weight = refl; drawn = refl; full = refl; reached = refl; closed = refl }
 
 pub lifted_work : (table : OcrTable) (p : Checked) (old new : OcrKnown) → AtWork table p old → new.table ≡ old.table → new.view ≡ old.view → SameRoom old new → length new.parts ≡ length old.parts → AtWork table p new

@@ -1,7 +1,7 @@
 -- Code over a longer list of names.
-use Rattle.std.proofs.Common.{◌≡◌, ◌<◌, ◌≤◌, ◌+◌, ℕ, zero, suc, List, [], ◌∷◌, ◌++◌, Bool, true, false, ◌||◌, ◌&&◌, not, length, take, take_all, bytes_eq, nat_lt, ◌==◌, refl, sym, ◌∙◌, ap, append_assoc, append-nil, arith, length-append, Box, Global}
+use Rattle.std.proofs.Common.{◌≡◌, ◌<◌, ◌≤◌, ◌+◌, ℕ, zero, suc, List, [], ◌∷◌, ◌++◌, Bool, true, false, ◌||◌, ◌&&◌, length, take, take_all, bytes_eq, nat_lt, ◌==◌, refl, sym, ◌∙◌, ap, append_assoc, append-nil, arith, length-append, Box, Global}
 use Rattle.std.specs.List.{list_any}
-use Rattle.std.proofs.lemmas.Bool.{ltb-true, lt-ltb}
+use Rattle.std.proofs.lemmas.Bool.{ltb-true, lt-ltb, or_parts, not-true, false_from_ne_true, or_from, not_from_false}
 use Rattle.std.proofs.lemmas.List.Folds.{list_any-append, list_any_more}
 use Rattle.std.proofs.lemmas.Slice.Eq.{bytes_eq-Decides}
 use Rattle.ocr_tree.specs.Tree as tree
@@ -18,7 +18,7 @@ use Rattle.ocr_code.specs.declared.code.ArgCode.{ArgCode}
 use Rattle.ocr_code.specs.declared.code.ArgCode.TheVariants as args
 use Rattle.ocr_code.specs.declared.code.StmtCode.{StmtCode, Row_of-StmtCode, end_of-StmtCode, more_of-StmtCode}
 use Rattle.ocr_code.specs.declared.code.StmtCode.TheVariants as step
-use Rattle.ocr_code.proofs.Sides.{first_of, second_of, neither_first, neither_second, denied}
+use Rattle.ocr_code.proofs.Sides.{first_of, second_of}
 
 pub both : (a b : Bool) → a ≡ true → b ≡ true → (a && b) ≡ true
 both true b p q = q
@@ -29,20 +29,8 @@ neither true b p q = cc p
 neither false true p q = cc q
 neither false false p q = refl
 
-neither_of : (a b : Bool) → a ≡ false → b ≡ false → (a || b) ≡ false
-neither_of true b p q = cc p
-neither_of false b p q = q
-
-affirmed : (a : Bool) → a ≡ false → not a ≡ true
-affirmed true p = cc p
-affirmed false p = refl
-
-not_true : (a : Bool) → (a ≡ true → ⊥) → a ≡ false
-not_true true none = absurd (none refl)
-not_true false none = refl
-
 differs_back : (x y : List ℕ) → bytes_eq y x ≡ false → bytes_eq x y ≡ false
-differs_back x y apart = not_true _ (λ p.
+differs_back x y apart = false_from_ne_true _ (λ p.
     let same : y ≡ x = sym ((bytes_eq-Decides x y).0 p) in
     cc (sym ((bytes_eq-Decides y x).1 same) ∙ apart))
 
@@ -50,10 +38,10 @@ differs_back x y apart = not_true _ (λ p.
 distinct_with : (xs : List (List ℕ)) (y : List ℕ) → are_distinct xs ≡ true → list_any (bytes_eq y) xs ≡ false → are_distinct (xs ++ y ∷ []) ≡ true
 distinct_with [] y distinct none = refl
 distinct_with (x ∷ xs) y distinct none =
-    let apart : bytes_eq x y ≡ false = differs_back x y (neither_first _ _ none) in
+    let apart : bytes_eq x y ≡ false = differs_back x y (or_parts _ _ none).0 in
     let here : list_any (bytes_eq x) (xs ++ y ∷ []) ≡ false =
-    list_any-append (bytes_eq x) xs (y ∷ []) ∙ neither _ _ (denied _ (first_of _ _ distinct)) apart in
-    both _ _ (affirmed _ here) (distinct_with xs y (second_of _ _ distinct) (neither_second _ _ none))
+    list_any-append (bytes_eq x) xs (y ∷ []) ∙ neither _ _ (not-true _ (first_of _ _ distinct)) apart in
+    both _ _ (not_from_false _ here) (distinct_with xs y (second_of _ _ distinct) (or_parts _ _ none).1)
 
 pub pushed_distinct : (xs ys : List (List ℕ)) (y : List ℕ) → ys ≡ xs ++ y ∷ [] → are_distinct xs ≡ true → list_any (bytes_eq y) xs ≡ false → are_distinct ys ≡ true
 pushed_distinct xs ys y is distinct none = ap are_distinct is ∙ distinct_with xs y distinct none
@@ -232,7 +220,7 @@ pub none_more : (x : List ℕ) (xs : List (List ℕ)) (i : ℕ) (y : List ℕ) �
     → list_any (bytes_eq x) (take (i + 1) xs) ≡ false
 none_more x xs i y less is none apart =
     let here : bytes_eq x (name_at xs i) ≡ false = ap (bytes_eq x) (sym is) ∙ differs_back x y apart in
-    list_any_more (bytes_eq x) xs i [] less ∙ neither_of _ _ none here
+    list_any_more (bytes_eq x) xs i [] less ∙ or_from _ _ none here
 
 pub none_all : (x : List ℕ) (xs : List (List ℕ)) (i : ℕ) → length xs ≤ i → list_any (bytes_eq x) (take i xs) ≡ false → list_any (bytes_eq x) xs ≡ false
 none_all x xs i le none = ap (list_any (bytes_eq x)) (sym (take_all i xs le)) ∙ none

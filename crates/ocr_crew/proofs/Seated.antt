@@ -1,5 +1,5 @@
 -- Clerks that are made, work and come home.
-use Rattle.std.proofs.Common.{◌≡◌, ℕ, get_or, zero, suc, ◌+◌, ◌<◌, ◌≤◌, ◌⊎◌, inl, inr, ⊎_elim, List, [], ◌∷◌, ◌++◌, length, refl, ap, sym, subst, ◌∙◌, arith, true, Option, Some, None, Result, Ok, Err, IfOk, All, is_some, length-append}
+use Rattle.std.proofs.Common.{◌≡◌, ℕ, get_or, zero, suc, ◌+◌, ◌<◌, ◌≤◌, ◌⊎◌, inl, inr, ⊎_elim, List, [], ◌∷◌, ◌++◌, length, refl, ap, sym, subst, ◌∙◌, arith, true, Option, Some, None, All, is_some, length-append}
 use Rattle.std.specs.Prelude.{MatchOption}
 use Rattle.std.specs.Option.{option_or}
 use Rattle.std.proofs.lemmas.List.Elements.{All-append}
@@ -398,13 +398,6 @@ ended_last table program workers word root is = record {
   knows = read is.leaves;
 }
 
--- each of a list at its place, and one behind them
-pub snoc_each : {X : Type 0} (P : ℕ → X → Type 0) (xs : List X) (x : X) → ((k : ℕ) (d : X) → k < length xs → P k (get_or xs k d)) → P (length xs) x → (k : ℕ) (d : X) → k < length (xs ++ x ∷ []) → P k (get_or (xs ++ x ∷ []) k d)
-snoc_each P [] x each last zero d lt = last
-snoc_each P [] x each last (suc k) d lt = absurd (omega (arith, lt))
-snoc_each P (y ∷ ys) x each last zero d lt = each 0 d (omega arith)
-snoc_each P (y ∷ ys) x each last (suc k) d lt = snoc_each (λ n. P (suc n)) ys x (λ n e below. each (suc n) e (omega (arith, below))) last k d (omega (arith, lt))
-
 -- THE NEXT of those that come home, and those behind it
 next_back : (table : OcrTable) (program : Checked) (pool : Pool) (n : ℕ) (items rest : List (CachePadded Worked)) (back : CachePadded Worked) → items ≡ back ∷ rest → ((k : ℕ) (d : CachePadded Worked) → k < length items → IsBack table program pool (hands_in pool) (n + k) (padded_value (get_or items k d))) → (k : ℕ) (d : CachePadded Worked) → k < length (back ∷ rest) → IsBack table program pool (hands_in pool) (n + k) (padded_value (get_or (back ∷ rest) k d))
 next_back table program pool n items rest back same all = subst (λ (l : List (CachePadded Worked)). (k : ℕ) (d : CachePadded Worked) → k < length l → IsBack table program pool (hands_in pool) (n + k) (padded_value (get_or l k d))) same all
@@ -432,7 +425,3 @@ first_hand pool n items rest hand same all = let first = all_hands pool n items 
 
 pub later_hands : (pool : Pool) (n m : ℕ) (items rest : List Hand) (hand : Hand) → items ≡ hand ∷ rest → m ≡ n + 1 → ((k : ℕ) (d : Hand) → k < length items → IsOf pool (get_or items k d) × ((get_or items k d).number ≡ n + k)) → (k : ℕ) (d : Hand) → k < length rest → IsOf pool (get_or rest k d) × ((get_or rest k d).number ≡ m + k)
 later_hands pool n m items rest hand same more all k d lt = let next = all_hands pool n items rest hand same all (suc k) d (omega (arith, lt)) in let at = next.1 in (next.0, omega (arith, more))
-
-pub if_ok : {A E : Type 0} (r : Result A E) (P Q : A → Type 0) → ((x : A) → P x → Q x) → IfOk r P → IfOk r Q
-if_ok (Ok x) P Q to is = to x is
-if_ok (Err e) P Q to is = tt

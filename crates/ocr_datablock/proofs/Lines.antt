@@ -202,7 +202,7 @@ none_push : (t : ℕ) (list : List (ℕ × Mode)) (one : ℕ × Mode) → mode_i
 none_push t [] one none apart = rw apart refl
 none_push t (first ∷ rest) one none apart = grind (arith, common_steps, none_push t rest one)
 
-none_both : (t : ℕ) (first second : List (ℕ × Mode)) → mode_in t first ≡ None → mode_in t second ≡ None → mode_in t (first ++ second) ≡ None
+pub none_both : (t : ℕ) (first second : List (ℕ × Mode)) → mode_in t first ≡ None → mode_in t second ≡ None → mode_in t (first ++ second) ≡ None
 none_both t [] second none none' = none'
 none_both t (one ∷ rest) second none none' = grind (arith, common_steps, none_both t rest second)
 

@@ -1,5 +1,5 @@
 -- What a clerk is while it delivers a message to the face of an object.
-use Rattle.std.proofs.Common.{◌≡◌, ℕ, ◌+◌, ◌≤◌, true, if◌then◌else◌, List, [], ◌∷◌, ◌++◌, reverse, Option, None, refl, ap, sym, ◌∙◌, subst, arith}
+use Rattle.std.proofs.Common.{◌≡◌, ℕ, ◌+◌, ◌≤◌, true, List, [], ◌∷◌, ◌++◌, reverse, Option, refl, ap, sym, ◌∙◌, subst, arith}
 use Rattle.std.proofs.lemmas.List.{append-nil}
 use Rattle.std.proofs.lemmas.List.Elements.{All-cons, All-nil}
 use mathlib.Core.Option.{some}
@@ -9,21 +9,17 @@ use Rattle.ocr_code.specs.Checked.{checked_tree}
 use Rattle.ocr_code.specs.declared.checked.Checked.{Checked}
 use Rattle.ocr_tree.specs.Runnable.{IsRunnable}
 use Rattle.ocr_guid.specs.declared.Code.{Code}
-use Rattle.ocr_meaning.specs.Holds.{is_done}
 use Rattle.ocr_history.specs.declared.entry.Entry.{Entry}
 use Rattle.ocr_history.specs.declared.entry.Entry.TheVariants.{Deliver}
 use Rattle.ocr_history.specs.declared.entry.Message.{Message}
 use Rattle.ocr_history.specs.declared.entry.What.{What}
 use Rattle.ocr_history.specs.declared.entry.What.TheVariants as what
-use Rattle.ocr_parts.specs.LegalOn.{delivery_code}
-use Rattle.ocr_parts.specs.Messages.{satisfied, sent_by_message}
 use Rattle.ocr_parts.specs.Parts.{parts_of}
-use Rattle.ocr_parts.specs.Taken.{as_face, face_in, has, is_within, parts_in}
+use Rattle.ocr_parts.specs.Taken.{as_face, face_in, has, is_within}
 use Rattle.ocr_parts.specs.declared.part.Part.{Part}
-use Rattle.ocr_facts.specs.Clerks.{AreAtHand, HasEvent, MayEnter, OcrView, of_terms}
+use Rattle.ocr_facts.specs.Clerks.{AreAtHand, MayEnter, OcrView, of_terms}
 use Rattle.ocr_facts.specs.Ocr.{ends, meaning, set_by, starts, touches}
-use Rattle.ocr_facts.proofs.Owed.{deliver_law, hand_counted, knows_satisfiable}
-use Rattle.ocr_rule.specs.Contract.{LookTells}
+use Rattle.ocr_facts.proofs.Owed.{hand_counted}
 use Rattle.ocr_rule.specs.Rule.{Fits, RunsIn}
 use Rattle.ocr_rule.specs.Counting.{leaves}
 use Rattle.ocr_rule.specs.Owing.{listed, without_all}
@@ -36,9 +32,10 @@ use Rattle.ocr_clerks.specs.Entering.{CanMake, OcrKnown}
 use Rattle.ocr_clerks.specs.Work.{AtWork, EntersAs, EntersKept, HasAllAtHand, IsIdle, KeepsLoose, OcrTable, Took, in_hand, lifted}
 use Rattle.ocr_clerks.proofs.Entries.{turns_keys}
 use Rattle.ocr_clerks.proofs.Hands.{in_hand_some, lifted_keys, some_keys}
-use Rattle.ocr_clerks.proofs.Seen.{face_is, within_bounds}
+use Rattle.ocr_clerks.proofs.Seen.{face_is}
 use Rattle.ocr_clerks.proofs.Whole.{entered_whole}
-use Rattle.ocr_delivering.specs.Delivering.{Answers, Delivers, IsOwed, OwesTo}
+use Rattle.ocr_delivering.specs.Delivering.{Answers, Delivers, IsOwed}
+use Rattle.ocr_facts.proofs.Places.{within_is}
 
 -- A LIST of one part
 pub record IsOne (n : ℕ) (ps : List (ℕ × Part)) : Type 0 where
@@ -55,7 +52,7 @@ one_once n x p = let o = one_most p n in omega (arith, o)
 
 -- A FACE has a place that can be taken
 pub face_low : (limit g : ℕ) → is_within limit g ≡ true → g ≤ limit + limit
-face_low limit g within = let b = within_bounds limit g within in let c = b.1 in omega (arith, c)
+face_low limit g within = let b = within_is limit g within in let c = b.1 in omega (arith, c)
 
 -- THE CLERK that took the face
 module _ (old mid : OcrKnown) (g : ℕ) (idle : IsIdle old) (took : Took old mid (g ∷ [])) where

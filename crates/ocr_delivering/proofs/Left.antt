@@ -1,45 +1,31 @@
 -- What a clerk is while it delivers a message that leaves a scope.
-use Rattle.std.proofs.Common.{◌≡◌, ℕ, ◌+◌, ◌≤◌, true, if◌then◌else◌, List, [], ◌∷◌, ◌++◌, reverse, Option, None, refl, ap, sym, ◌∙◌, subst, arith}
-use Rattle.std.proofs.lemmas.List.{append-nil}
-use Rattle.std.proofs.lemmas.List.Elements.{All-cons, All-nil}
+use Rattle.std.proofs.Common.{◌≡◌, ℕ, ◌+◌, true, List, [], ◌∷◌, reverse, None, refl, ap, sym, ◌∙◌, subst}
 use mathlib.Core.Option.{some}
 use lib.ListN.{get_elem?}
-use Rattle.ocr_code.specs.Checked.{checked_tree}
 use Rattle.ocr_code.specs.declared.checked.Checked.{Checked}
-use Rattle.ocr_tree.specs.Runnable.{IsRunnable}
 use Rattle.ocr_guid.specs.declared.Code.{Code}
 use Rattle.ocr_guid.specs.declared.Code.TheVariants as code
-use Rattle.ocr_meaning.specs.Holds.{is_done}
 use Rattle.ocr_history.specs.declared.entry.Entry.{Entry}
 use Rattle.ocr_history.specs.declared.entry.Entry.TheVariants.{Deliver}
 use Rattle.ocr_history.specs.declared.entry.Message.{Message}
 use Rattle.ocr_history.specs.declared.entry.What.{What}
 use Rattle.ocr_history.specs.declared.entry.What.TheVariants as what
-use Rattle.ocr_parts.specs.LegalOn.{delivery_code}
 use Rattle.ocr_parts.specs.Messages.{sends, sent_by_leave, sent_by_message}
 use Rattle.ocr_parts.specs.Parts.{parts_of}
-use Rattle.ocr_parts.specs.Taken.{as_face, face_in, has, is_within, parts_in}
+use Rattle.ocr_parts.specs.Taken.{face_in, is_within, parts_in}
 use Rattle.ocr_parts.specs.declared.part.Part.{Part}
 use Rattle.ocr_facts.specs.Clerks.{MayEnter, OcrView, OwesLeave, of_terms}
-use Rattle.ocr_facts.specs.Ocr.{ends, meaning, set_by, starts, touches}
+use Rattle.ocr_facts.specs.Ocr.{meaning, set_by, touches}
 use Rattle.ocr_facts.proofs.Owed.{knows_member, leave_law}
 use Rattle.ocr_rule.specs.Contract.{LookTells}
-use Rattle.ocr_rule.specs.Rule.{Fits, RunsIn}
+use Rattle.ocr_rule.specs.Rule.{Fits}
 use Rattle.ocr_rule.specs.Counting.{leaves}
-use Rattle.ocr_rule.specs.Owing.{listed, without_all}
-use Rattle.ocr_rule.specs.Steps.{SeesBoth, deed, logged}
-use Rattle.ocr_rule.specs.Sums.{as_some, keys, one_at, weigh}
-use Rattle.ocr_rule.proofs.Histories.{ran}
-use Rattle.ocr_rule.proofs.Numbered.{weigh_keys}
-use Rattle.ocr_rule.proofs.Totals.{one_most}
-use Rattle.ocr_clerks.specs.Entering.{CanMake, OcrKnown}
-use Rattle.ocr_clerks.specs.Work.{AtWork, EntersAs, EntersKept, HasAllAtHand, IsIdle, KeepsLoose, OcrTable, Took, in_hand, lifted}
-use Rattle.ocr_clerks.proofs.Entries.{turns_keys}
-use Rattle.ocr_clerks.proofs.Hands.{in_hand_some, lifted_keys, some_keys}
-use Rattle.ocr_clerks.proofs.Seen.{face_is, within_bounds}
-use Rattle.ocr_clerks.proofs.Whole.{entered_whole}
+use Rattle.ocr_rule.specs.Owing.{listed}
+use Rattle.ocr_rule.specs.Sums.{one_at}
+use Rattle.ocr_clerks.specs.Entering.{OcrKnown}
+use Rattle.ocr_clerks.specs.Work.{AtWork, IsIdle, OcrTable, Took}
 use Rattle.ocr_delivering.proofs.Faced.{fitting, owed_now, runnable_now, took_at_hand, took_here}
-use Rattle.ocr_delivering.specs.Delivering.{Answers, Delivers, IsOwed, OwesTo}
+use Rattle.ocr_delivering.specs.Delivering.{Answers, IsOwed}
 
 -- A DELIVERY to a scope names it alone
 named_scope : (limit : ℕ) (m : Message) (c : Code) (x p : ℕ) → m.what ≡ what.Leave x → is_within limit x ≡ true → touches limit (Deliver m c) p ≡ one_at p x + 0

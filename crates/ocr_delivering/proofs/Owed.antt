@@ -1,11 +1,9 @@
 -- A message that a clerk owes and that sets a slot may be delivered, whatever the history is.
-use Rattle.std.proofs.Common.{◌≡◌, ℕ, ◌-◌, Bool, true, false, ◌&&◌, if◌then◌else◌, List, [], reverse, Option, refl, ap, sym, subst, arith}
-use mathlib.Core.Option.{some-ne-none}
+use Rattle.std.proofs.Common.{◌≡◌, ℕ, ◌-◌, true, false, ◌&&◌, if◌then◌else◌, List, [], Option, refl, ap, sym, subst, arith}
 use Rattle.ocr_code.specs.Checked.{checked_tree}
 use Rattle.ocr_code.specs.declared.checked.Checked.{Checked}
 use Rattle.ocr_tree.specs.Runnable.{IsRunnable}
 use Rattle.ocr_guid.specs.declared.Code.TheVariants as code
-use Rattle.ocr_history.specs.declared.entry.Entry.{Entry}
 use Rattle.ocr_history.specs.declared.entry.Message.{Message}
 use Rattle.ocr_history.specs.declared.entry.What.{What}
 use Rattle.ocr_history.specs.declared.entry.What.TheVariants as what
@@ -15,31 +13,23 @@ use Rattle.ocr_parts.specs.Messages.{sends}
 use Rattle.ocr_parts.specs.declared.part.Part.{Part}
 use Rattle.ocr_parts.specs.Parts.{Parts}
 use Rattle.ocr_parts.specs.Taken.{is_within}
-use Rattle.ocr_quiet.proofs.Sent.{sent_law}
 use Rattle.ocr_standing.specs.Kept.{kept_ready}
-use Rattle.ocr_facts.specs.Clerks.{MayEnter, OcrTerms, OcrView, of_terms}
-use Rattle.ocr_facts.specs.Ocr.{meaning, touches}
-use Rattle.ocr_facts.specs.declared.fact.Fact.{Fact}
-use Rattle.ocr_facts.proofs.Owed.{owed_is}
-use Rattle.ocr_facts.proofs.Runs.{run_is}
-use Rattle.ocr_rule.specs.Rule.{Fits, FactsOf}
+use Rattle.ocr_facts.specs.Clerks.{MayEnter}
+use Rattle.ocr_facts.specs.Ocr.{touches}
+use Rattle.ocr_facts.proofs.Owed.{owed_is, no_facts}
 use Rattle.ocr_rule.specs.Sums.{as_some, keys}
 use Rattle.ocr_clerks.specs.Entering.{CanMake, OcrKnown}
 use Rattle.ocr_clerks.specs.Work.{AtWork, HasAllAtHand, IsIdle, OcrTable, in_hand}
 use Rattle.ocr_clerks.proofs.Counters.{none_counted}
-use Rattle.ocr_delivering.specs.Delivering.{IsFirstOwed, IsOwed, SetsSlot, delivery_of, no_parts}
-
--- A DELIVERY to a slot names no part
-and_off : (b : Bool) → (b && false) ≡ false
-and_off true = refl
-and_off false = refl
+use Rattle.ocr_delivering.specs.Delivering.{IsOwed, SetsSlot, delivery_of, no_parts}
+use Rattle.ocr_base.proofs.Booleans.{and_false}
 
 brought_none : (x : What) (p : ℕ) → SetsSlot x → is_brought_to x p ≡ false
 brought_none (what.Set edt slot payload) p sets = refl
 brought_none other p sets = absurd sets
 
 untouched : (limit : ℕ) (m : Message) (p : ℕ) → SetsSlot m.what → is_touched limit (delivery_of m) p ≡ false
-untouched limit m p sets = elim (is_within limit p) as (λ b. (if b then is_brought_to m.what p else (is_within limit (p - limit) && false)) ≡ false) [ true ↦ brought_none m.what p sets | false ↦ and_off (is_within limit (p - limit)) ]
+untouched limit m p sets = elim (is_within limit p) as (λ b. (if b then is_brought_to m.what p else (is_within limit (p - limit) && false)) ≡ false) [ true ↦ brought_none m.what p sets | false ↦ and_false (is_within limit (p - limit)) ]
 
 covers_none : (limit : ℕ) (m : Message) → SetsSlot m.what → Covers limit (delivery_of m) []
 covers_none limit m sets = λ p on. let off = untouched limit m p sets in cc (on, off)
@@ -57,9 +47,6 @@ sends_none m f sets = none_of m.what sets
     none_of : (x : What) → SetsSlot x → sends (delivery_of (record m { what = x })) f ≡ []
     none_of (what.Set edt slot payload) is = refl
     none_of other is = absurd is
-
-no_facts : (P : Fact → Type 0) → FactsOf P []
-no_facts P k f at = absurd (some-ne-none f (sym at))
 
 set_on : (f : Parts) (x : What) → SetsSlot x → IsDeliverOn f x code.Done
 set_on f (what.Set edt slot payload) is = refl

@@ -2,7 +2,6 @@
 use Rattle.std.proofs.Common.{◌≡◌, ◌≢◌, ◌⊎◌, inl, inr, ℕ, zero, suc, ◌+◌, ◌-◌, ◌<◌, ◌≤◌, List, [], ◌∷◌, filter, cond, not, reverse, Bool, true, false, nat_lt, nat_le, ◌&&◌, Option, Some, None, is_some, refl, sym, ◌∙◌, ap, subst, arith}
 use Rattle.std.specs.List.{range_with_len}
 use Rattle.std.proofs.lemmas.Grind.{common_steps}
-use Rattle.ocr_acquire.specs.declared.Mode.{Mode}
 use Rattle.ocr_acquire.specs.Mode.{mode_in}
 use Rattle.ocr_slots.specs.Slots as slot
 use Rattle.ocr_history.specs.declared.entry.Entry.{Entry}
@@ -37,6 +36,7 @@ use Rattle.ocr_facts.proofs.Runs.{run_is}
 use Rattle.ocr_facts.proofs.Slots.{edt_slots, ended_is, payload_is, slots_are, slots_in, started_is}
 use Rattle.ocr_facts.proofs.Waits.{waits_is}
 use Rattle.ocr_drained.specs.Drained.{IsLone, OrderlyLaw, OwesNothing, PassLaw, RestLaw}
+use Rattle.ocr_standing.proofs.Plain.{some_mode}
 
 -- MESSAGES
 no_messages : (ms : List (ℕ × ℕ × What)) → tally (λ _. 1) ms ≡ 0 → ms ≡ []
@@ -134,10 +134,6 @@ true_if false one = absurd (omega (arith, one))
 awaited_if : (o : Option ℕ) → 1 ≤ 1 - is_none o → (d : ℕ) × (o ≡ Some d)
 awaited_if None one = absurd (omega (arith, one))
 awaited_if (Some d) one = (d, refl)
-
-some_mode : (o : Option Mode) → is_some o ≡ true → (m : Mode) × (o ≡ Some m)
-some_mode None is = cc is
-some_mode (Some m) is = (m, refl)
 
 waiting_idle : (t : OcrTerms) (past : History) (n d : ℕ) → 2 ≤ t.limit → IsRun (of_terms t) past → awaited meaning t past n ≡ Some d → IsIdle (of_terms t) past n
 waiting_idle t past n d enough run waits =

@@ -1,14 +1,12 @@
 -- Who waits, as the words that count see it, is who stands in a queue.
-use Rattle.std.proofs.Common.{◌≡◌, ◌⊎◌, inl, inr, ℕ, ◌+◌, ◌/◌, ◌≤◌, List, [], ◌∷◌, Bool, true, false, not, ◌==◌, ◌||◌, if◌then◌else◌, Option, Some, None, is_some, refl, sym, ◌∙◌, ap, subst, arith}
-use Rattle.std.proofs.lemmas.Grind.{common_steps}
-use Rattle.std.proofs.lemmas.Bool.{eqb-true}
+use Rattle.std.proofs.Common.{◌≡◌, ◌⊎◌, inl, inr, ℕ, ◌+◌, ◌/◌, ◌≤◌, List, [], ◌∷◌, Bool, true, false, not, ◌==◌, if◌then◌else◌, Option, Some, None, is_some, refl, sym, ◌∙◌, ap, subst}
+use Rattle.std.proofs.lemmas.Bool.{eqb-true, or_left, true_from_ne_false, cond-true, cond-false}
 use Rattle.ocr_base.proofs.Booleans.{same as number_same}
 use Rattle.ocr_acquire.specs.declared.Mode.{Mode}
 use Rattle.ocr_acquire.specs.Mode.{mode_in}
 use Rattle.ocr_datablock.specs.Block as block
 use Rattle.ocr_datablock.specs.Lent.{Loan}
 use Rattle.ocr_datablock.specs.Steps as block_steps
-use Rattle.ocr_edt.specs.declared.Edt.{Edt}
 use Rattle.ocr_edt.specs.declared.Edt.TheVariants as phase
 use Rattle.ocr_slots.specs.Steps.{after_link}
 use Rattle.ocr_meaning.specs.Holds.{is_done}
@@ -29,7 +27,7 @@ use Rattle.ocr_parts.specs.Effects.{brought, called, changed, deps_linked, doome
 use Rattle.ocr_parts.specs.Progress.{linked_if, next_mode_on, readied_on, with_core, with_face}
 use Rattle.ocr_finish.specs.Scope as scope
 use Rattle.ocr_parts.specs.Footprint.{on_face}
-use Rattle.ocr_parts.specs.Kinds.{IsBlock, is_acquiring, is_acquiring_edt, home_on, is_edt_face, loan_on, with_block, with_links, with_template, with_event, with_scope}
+use Rattle.ocr_parts.specs.Kinds.{IsBlock, home_on, is_edt_face, loan_on, with_block, with_links, with_template, with_event, with_scope}
 use Rattle.ocr_parts.specs.LegalOn.{IsCallOn, IsTaken}
 use Rattle.ocr_parts.specs.Legal.{IsRun, IsLegal}
 use Rattle.ocr_parts.specs.Messages.{resumed_by, resumed_by_call, resumed_by_doom, resumes}
@@ -37,14 +35,14 @@ use Rattle.ocr_parts.specs.Parts.{Parts, new_identity, parts_of}
 use Rattle.ocr_parts.specs.Taken.{IsWithin, is_within}
 use Rattle.ocr_parts.proofs.Beside.{beside_keeps, edt_free}
 use Rattle.ocr_parts.proofs.Within.{within_law}
-use Rattle.ocr_quiet.specs.Waits.{AreStanding, IsOnce, awaits, awaits_in, queue_on, standing}
-use Rattle.ocr_quiet.proofs.Choices.{on_from}
+use Rattle.ocr_quiet.specs.Waits.{AreStanding, IsOnce, awaits, queue_on, standing}
 use Rattle.ocr_quiet.proofs.Stages.{once}
 use Rattle.ocr_rule.specs.Counting.{is_in}
 use Rattle.ocr_any_event.specs.declared.AnyEvent.{AnyEvent}
 use Rattle.ocr_facts.proofs.Queues.{Leaves, doomed, granted_queue, links_queue, released, scope_queue, template_queue, event_queue}
 use Rattle.ocr_any_event.specs.AnyEvent as event
 use Rattle.ocr_guid.specs.declared.target.Target.{Target}
+use Rattle.ocr_standing.proofs.Plain.{some_mode}
 
 -- WHO STANDS in the queue of a block
 abbrev pub IsQueued : Parts → ℕ → ℕ → Type 0
@@ -54,22 +52,10 @@ pub record IsAwaiting (o : Option ℕ) (f : Parts) (n : ℕ) : Type 0 where
   pub told : (d : ℕ) → o ≡ Some d → IsQueued f n d
   pub all : (d : ℕ) → IsQueued f n d → o ≡ Some d
 
-some_mode : (o : Option Mode) → is_some o ≡ true → (m : Mode) × (o ≡ Some m)
-some_mode None is = cc is
-some_mode (Some m) is = (m, refl)
-
 pub unqueued : (f : Parts) (n d : ℕ) → AreStanding f → awaits (f.core n) ≡ None → IsQueued f n d → ⊥
 unqueued f n d standing none is =
     let m = some_mode (mode_in n (queue_on (f.face d))) is in
     let waits = standing.queued n d m.0 m.1 in cc (none, waits)
-
-acquiring_edt : (e : Edt) → is_acquiring_edt e ≡ true → awaits_in e ≡ None
-acquiring_edt (phase.Acquiring s) is = refl
-acquiring_edt other is = cc is
-
-pub acquiring_awaits : (x : Part) → is_acquiring x ≡ true → awaits x ≡ None
-acquiring_awaits (part.Core c) is = acquiring_edt c.edt is
-acquiring_awaits other is = cc is
 
 -- WHAT AN ENTRY DOES to the queues: nothing, or some leave the queue of one block
 abbrev Still : Parts → Parts → Type 0
@@ -183,26 +169,14 @@ doom_leaves : (x : Part) (t : ℕ) (w : List (ℕ × ℕ)) (loan : Option Loan) 
 doom_leaves (part.Block st) t w loan P is once = doomed t w loan st once
 doom_leaves other t w loan P is once = absurd is
 
-chosen_on : {A : Type 0} (b : Bool) (x y : A) → b ≡ true → (if b then x else y) ≡ x
-chosen_on true x y is = refl
-chosen_on false x y is = cc is
-
-chosen_off : {A : Type 0} (b : Bool) (x y : A) → b ≡ false → (if b then x else y) ≡ y
-chosen_off true x y is = cc is
-chosen_off false x y is = refl
-
 ended_moves : (f h : Parts) (d : ℕ) (x : Part) (woken : List ℕ) → ((e : ℕ) → h.face e ≡ (if d == e then x else f.face e)) → Leaves (queue_on (f.face d)) (queue_on x) woken → Moves f h woken d
 ended_moves f h d x woken is leaves = record {
-  leaves = subst (λ (y : Part). Leaves (queue_on (f.face d)) (queue_on y) woken) (sym (is d ∙ chosen_on (d == d) x (f.face d) (number_same d))) leaves;
-  others = λ e apart. ap queue_on (is e ∙ chosen_off (d == e) x (f.face e) apart);
+  leaves = subst (λ (y : Part). Leaves (queue_on (f.face d)) (queue_on y) woken) (sym (is d ∙ cond-true (d == d) x (f.face d) (number_same d))) leaves;
+  others = λ e apart. ap queue_on (is e ∙ cond-false (d == e) x (f.face e) apart);
 }
 
 pub block_within : (limit : ℕ) (f : Parts) (d : ℕ) (P : block.State → Type 0) → IsWithin limit f → IsBlock (f.face d) P → is_within limit d ≡ true
-block_within limit f d P within is = on_from (is_within limit d) (λ off. subst (λ (x : Part). IsBlock x P) (within.faces d off) is)
-
-or_on : (a b : Bool) → a ≡ true → (a || b) ≡ true
-or_on true b is = refl
-or_on false b is = cc is
+block_within limit f d P within is = true_from_ne_false (is_within limit d) (λ off. subst (λ (x : Part). IsBlock x P) (within.faces d off) is)
 
 -- EACH CALL
 done_effect : (limit : ℕ) (f : Parts) (u home : ℕ) (c : body.Call) (a : Answer) (w : List (ℕ × ℕ)) → IsCallOn limit f u home c a w → is_done a.code ≡ true → IsOnce f → IsWithin limit f
@@ -229,10 +203,10 @@ done_effect limit f u home (call.EventDestroy x) a w legal done once within = in
 done_effect limit f u home (call.TemplateDestroy x) a w legal done once within = inl (refl, face_still f x (with_template (f.face x) doomed_template) (template_queue (f.face x) doomed_template))
 done_effect limit f u home (call.DbRelease d) a w legal done once within =
     let leaves = release_leaves (f.face d) u w (loan_on (f.core u) d) _ (legal.value.0 done) (once d) in
-    inr (d, ended_moves f (called u (call.DbRelease d) a w f) d _ _ (λ e. refl) leaves, record { named = or_on _ _ (or_on (d == d) false (number_same d)); within = block_within limit f d _ within (legal.value.0 done) })
+    inr (d, ended_moves f (called u (call.DbRelease d) a w f) d _ _ (λ e. refl) leaves, record { named = or_left _ _ (or_left (d == d) false (number_same d)); within = block_within limit f d _ within (legal.value.0 done) })
 done_effect limit f u home (call.DbDestroy d) a w legal done once within =
     let leaves = doom_leaves (f.face d) u w (loan_on (f.core u) d) _ (legal.value.0 done) (once d) in
-    inr (d, ended_moves f (called u (call.DbDestroy d) a w f) d _ _ (λ e. refl) leaves, record { named = or_on _ _ (or_on (d == d) false (number_same d)); within = block_within limit f d _ within (legal.value.0 done) })
+    inr (d, ended_moves f (called u (call.DbDestroy d) a w f) d _ _ (λ e. refl) leaves, record { named = or_left _ _ (or_left (d == d) false (number_same d)); within = block_within limit f d _ within (legal.value.0 done) })
 done_effect limit f u home other a w legal done once within = inl (refl, λ e. refl)
 
 -- a home that is joined has no queue

@@ -1,6 +1,6 @@
 -- The machine obeys the laws of the words that count.
-use Rattle.std.proofs.Common.{◌≡◌, inl, inr, ℕ, ◌+◌, ◌<◌, ◌≤◌, List, [], ◌∷◌, reverse, Bool, true, false, ◌==◌, ◌&&◌, ◌||◌, if◌then◌else◌, Option, Some, None, refl, sym, ◌∙◌, ap, subst, arith}
-use Rattle.std.proofs.lemmas.Bool.{eqb-true}
+use Rattle.std.proofs.Common.{◌≡◌, inl, inr, ℕ, ◌+◌, ◌<◌, ◌≤◌, List, [], ◌∷◌, reverse, Bool, true, false, ◌==◌, if◌then◌else◌, Option, Some, None, refl, sym, ◌∙◌, ap, subst, arith}
+use Rattle.std.proofs.lemmas.Bool.{eqb-true, and_from, or_right, cond-true}
 use Rattle.std.proofs.lemmas.List.{reverse-reverse}
 use Rattle.std.proofs.lemmas.Option.{same_Some, some_pair_parts}
 use Rattle.ocr_base.proofs.Booleans.{same as number_same}
@@ -33,7 +33,7 @@ use Rattle.ocr_rule.specs.Sums.{one_at, sum_of}
 use Rattle.ocr_rule.specs.declared.view.Terms.{Terms}
 use Rattle.ocr_rule.proofs.Totals.{one_here}
 use Rattle.ocr_facts.specs.Facts.{Stands}
-use Rattle.ocr_facts.specs.Ocr.{beside, creates, ends, meaning, resumed, set_by, sets, setting_of, stands, starts, touches, waits}
+use Rattle.ocr_facts.specs.Ocr.{beside, creates, ends, meaning, resumed, set_by, sets, stands, starts, touches, waits}
 use Rattle.ocr_facts.specs.Ocr as ocr
 use Rattle.ocr_facts.specs.declared.fact.Fact.TheVariants.{IsSet}
 use Rattle.ocr_facts.specs.declared.setting.Setting.{Setting}
@@ -41,7 +41,7 @@ use Rattle.ocr_facts.proofs.Awaiting.{Effect, IsNamedBlock, block_within, entry_
 use Rattle.ocr_facts.proofs.Making.{few_slots}
 use Rattle.ocr_facts.proofs.Places.{named_place}
 use Rattle.ocr_facts.proofs.Runs.{Comes, comes, of_terms}
-use Rattle.ocr_facts.proofs.Slots.{chosen_on, depc_edt, edt_slots, payload_is, slots_are}
+use Rattle.ocr_facts.proofs.Slots.{depc_edt, edt_slots, payload_is, slots_are}
 use Rattle.ocr_facts.proofs.Waits.{ready, resumed_is, running, waits_is}
 
 -- THE OPENING
@@ -57,11 +57,6 @@ pair_is : (b : Bool) (v D n d : ℕ) → pair_if b v D ≡ Some (n, d) → (b �
 pair_is true v D n d is = let same = some_pair_parts v n D d is in (refl, same.0, same.1)
 pair_is false v D n d is = cc is
 
-both_on : (a b : Bool) → a ≡ true → b ≡ true → (a && b) ≡ true
-both_on true true p q = refl
-both_on true false p q = cc q
-both_on false b p q = cc p
-
 creating : (t : Terms Setting) (past : List Entry) (e : Entry) (n d : ℕ) → MayCome meaning t past e → creates t.setting.value t.limit (reverse past) e ≡ Some (n, d) → (1 ≤ sum_of (one_at n) (ocr.makes e)) × (d ≤ 32)
 creating t past (Call u home (call.EdtCreate from pc ps dc ds fl o) a w) n d may is =
     let s = of_terms t in let e : Entry = Call u home (call.EdtCreate from pc ps dc ds fl o) a w in
@@ -70,9 +65,9 @@ creating t past (Call u home (call.EdtCreate from pc ps dc ds fl o) a w) n d may
     let r = pair_is (is_done a.code) a.value D n d is in
     let number : a.value ≡ n = r.1 in let count : D ≡ d = r.2 in
     let rest : List ℕ = beside (call.EdtCreate from pc ps dc ds fl o) a in
-    let same : (if is_done a.code then a.value ∷ rest else []) ≡ a.value ∷ rest = chosen_on (is_done a.code) (a.value ∷ rest) [] r.0 in
-    let made_n : makes a a.value ≡ true = both_on (is_done a.code) (a.value == a.value) r.0 (number_same a.value) in
-    let slots : depc_of s (e ∷ past) a.value ≡ depc_in (edt_from (made s past from) ps dc) = ap depc_in (chosen_on (makes a a.value) (edt_from (made s past from) ps dc) (made_beside a home a.value (made s past a.value)) made_n) in
+    let same : (if is_done a.code then a.value ∷ rest else []) ≡ a.value ∷ rest = cond-true (is_done a.code) (a.value ∷ rest) [] r.0 in
+    let made_n : makes a a.value ≡ true = and_from (is_done a.code) (a.value == a.value) r.0 (number_same a.value) in
+    let slots : depc_of s (e ∷ past) a.value ≡ depc_in (edt_from (made s past from) ps dc) = ap depc_in (cond-true (makes a a.value) (edt_from (made s past from) ps dc) (made_beside a home a.value (made s past a.value)) made_n) in
     let bound = few_slots s past u home from pc dc fl ps ds o a w r.0 c.legal in
     let twice : D ≡ depc_of s (e ∷ past) a.value = ap (λ (K : History). depc_of s (e ∷ K) a.value) (reverse-reverse past) in
     let one = one_here a.value in
@@ -127,17 +122,13 @@ place_is false d p is = cc is
 named_within : (limit : ℕ) (e : Entry) (d : ℕ) → IsNamedBlock limit e d → 1 ≤ touches limit e d
 named_within limit e d named = named_place limit e d (rw named.within named.named)
 
-or_on : (a b : Bool) → b ≡ true → (a || b) ≡ true
-or_on true b is = refl
-or_on false b is = is
-
 waiting : (t : Terms Setting) (past : List Entry) (e : Entry) (n p : ℕ) → MayCome meaning t past e → waits e n ≡ Some p → IsReady meaning t past n × (1 ≤ touches t.limit e p)
 waiting t past (Wait u d) n p may is =
     let s = of_terms t in
     let come = comes t past (Wait u d) may in
     let r = place_is (u == n) d p is in
     let inside : is_within t.limit d ≡ true = block_within t.limit (parts_of s past) d (IsRefused u (next_mode_on (readied_on s past (Wait u d) (parts_of s past)) u)) (within_law s past come.enough come.run) come.legal.on_parts.refused in
-    let named : IsNamedBlock t.limit (Wait u d) d = record { named = or_on (u == d) (d == d) (number_same d); within = inside } in (
+    let named : IsNamedBlock t.limit (Wait u d) d = record { named = or_right (u == d) (d == d) (number_same d); within = inside } in (
       subst (IsReady meaning t past) (eqb-true u n r.0) (ready t past u come.enough come.run come.legal.on_facts come.legal.on_parts.acquiring),
       subst (λ (k : ℕ). 1 ≤ touches t.limit (Wait u d) k) r.1 (named_within t.limit (Wait u d) d named),
     )

@@ -1,7 +1,7 @@
 -- An entry that is legal on the parts that a clerk has at hand is legal after every history that fits its view.
-use Rattle.std.proofs.Common.{◌≡◌, ℕ, zero, suc, ◌≤◌, Bool, true, false, ◌==◌, ◌||◌, ◌&&◌, if◌then◌else◌, List, [], ◌∷◌, ◌++◌, reverse, Option, Some, None, refl, ap, sym, ◌∙◌, subst, arith}
+use Rattle.std.proofs.Common.{◌≡◌, ℕ, zero, suc, ◌≤◌, Bool, true, false, ◌==◌, ◌||◌, if◌then◌else◌, List, [], ◌∷◌, ◌++◌, reverse, Option, Some, None, refl, ap, sym, ◌∙◌, subst, arith}
 use Rattle.std.proofs.lemmas.Grind.{common_steps}
-use Rattle.std.proofs.lemmas.Bool.{eqb-true}
+use Rattle.std.proofs.lemmas.Bool.{eqb-true, or_parts, and_from, or_left, not-false, true_from_ne_false, cond-true}
 use Rattle.std.proofs.lemmas.List.{reverse-append}
 use Rattle.ocr_base.proofs.Booleans.{same as number_same}
 use Rattle.ocr_guid.specs.Target.{EventCall}
@@ -32,7 +32,7 @@ use Rattle.ocr_parts.specs.Taken.{ArePartsOf, as_face, has, is_within, keys, loo
 use Rattle.ocr_parts.proofs.After.{done_is}
 use Rattle.ocr_parts.proofs.Local.{call_named, effect_law}
 use Rattle.ocr_parts.proofs.Within.{within_law}
-use Rattle.ocr_quiet.proofs.Choices.{done_kinds, not_off, on_from, or_left}
+use Rattle.ocr_quiet.proofs.Choices.{done_kinds}
 use Rattle.ocr_standing.specs.Kept.{AreKept}
 use Rattle.ocr_standing.proofs.Kept.{after_kept_law, alike_kept, kept_law}
 use Rattle.ocr_rule.specs.Meaning.{Open}
@@ -44,7 +44,6 @@ use Rattle.ocr_facts.specs.Clerks.{EntryLaw, OcrTerms, OcrView, of_terms}
 use Rattle.ocr_facts.specs.Ocr.{MayFollow, counts, creates, meaning, part_of, slots_meant}
 use Rattle.ocr_facts.proofs.Runs.{reverse_snoc, run_is}
 use Rattle.ocr_facts.proofs.Sending.{readied_sends, settled_sends}
-use Rattle.ocr_facts.proofs.Slots.{chosen_on}
 use Rattle.ocr_finish.specs.Scope.{ScopeCall}
 
 -- LISTS OF PARTS
@@ -134,15 +133,6 @@ template_there : (x : Part) → is_template x ≡ true → x ≡ part.Vacant →
 template_there part.Vacant is none = cc is
 template_there other is none = let off : is_template other ≡ false = ap is_template none in cc (is, off)
 
-both_on : (a b : Bool) → a ≡ true → b ≡ true → (a && b) ≡ true
-both_on true true p q = refl
-both_on true false p q = cc q
-both_on false b p q = cc p
-
-or_on : (a b : Bool) → a ≡ true → (a || b) ≡ true
-or_on true b is = refl
-or_on false b is = cc is
-
 abbrev if_done : Bool → ℕ → ℕ → Option (ℕ × ℕ)
 if_done b v d = if b then Some (v, d) else None
 
@@ -157,14 +147,14 @@ counts_are t J (Call u home (call.EdtCreate from pc ps dc ds fl o) a w) kept eno
     same_count (is_done a.code) a.value (depc_of s (e ∷ past) a.value) (slots_meant (look kept from) dc) (λ done.
     let is_code : a.code ≡ code.Done = done_is a.code done in
     let kinds = done_kinds u f.face (call.EdtCreate from pc ps dc ds fl o) (sym legal.on_parts.code ∙ is_code) in
-    let template : is_template (f.face from) ≡ true = not_off _ (or_left (is_of_other_kind ATemplate (f.face from)) _ kinds) in
-    let inside : is_within t.limit from ≡ true = on_from (is_within t.limit from) (λ off. template_there (f.face from) template ((within_law s past enough run).faces from off)) in
-    let named : on_face e from ≡ true = call_named u home (call.EdtCreate from pc ps dc ds fl o) a w from (or_on _ _ (or_on (from == from) _ (number_same from))) in
+    let template : is_template (f.face from) ≡ true = not-false _ (or_parts (is_of_other_kind ATemplate (f.face from)) _ kinds).0 in
+    let inside : is_within t.limit from ≡ true = true_from_ne_false (is_within t.limit from) (λ off. template_there (f.face from) template ((within_law s past enough run).faces from off)) in
+    let named : on_face e from ≡ true = call_named u home (call.EdtCreate from pc ps dc ds fl o) a w from (or_left _ _ (or_left (from == from) _ (number_same from))) in
     let touched : is_touched t.limit e from ≡ true = rw inside named in
     let here = are from (covers from touched) in
     let seen_face : f.face from ≡ as_face (look kept from) = rw inside at here in
-    let made_v : makes a a.value ≡ true = both_on (is_done a.code) (a.value == a.value) done (number_same a.value) in
-    ap depc_in (chosen_on (makes a a.value) (edt_from (made s past from) ps dc) (made_beside a home a.value (made s past a.value)) made_v)
+    let made_v : makes a a.value ≡ true = and_from (is_done a.code) (a.value == a.value) done (number_same a.value) in
+    ap depc_in (cond-true (makes a a.value) (edt_from (made s past from) ps dc) (made_beside a home a.value (made s past a.value)) made_v)
     ∙ (face_slots (made s past from) (link_calls past from) (block_calls s past from) (event_calls s past from) (scope_calls past from) ps dc template
     ∙ (ap (λ (x : Part). slots_meant x dc) seen_face ∙ seen_slots (look kept from) dc)))
 counts_are t J (Call u home other a w) kept enough run legal covers are = refl

@@ -1,7 +1,7 @@
 -- The home of a running EDT takes one member more, where a clerk has a number for it.
-use Rattle.std.proofs.Common.{◌≡◌, ℕ, ◌+◌, ◌-◌, ◌≤◌, List, true, false, ◌==◌, if◌then◌else◌, None, reverse, refl, sym, ◌∙◌, ap, subst, arith}
-use Rattle.std.proofs.lemmas.Grind.{common_steps}
+use Rattle.std.proofs.Common.{◌≡◌, ℕ, ◌+◌, ◌-◌, ◌≤◌, List, true, false, ◌==◌, if◌then◌else◌, None, reverse, refl, sym, ◌∙◌, ap, subst}
 use Rattle.std.proofs.lemmas.List.{reverse-reverse}
+use Rattle.std.proofs.lemmas.Bool.{true_from_ne_false, cond-true}
 use Rattle.ocr_history.specs.declared.entry.Entry.{Entry}
 use Rattle.ocr_history.specs.History.{History}
 use Rattle.ocr_history.specs.Made.{made}
@@ -13,7 +13,6 @@ use Rattle.ocr_parts.specs.LegalOn.{IsFresh, IsJoinable}
 use Rattle.ocr_parts.specs.Parts.{Parts, parts_of}
 use Rattle.ocr_parts.specs.Taken.{as_core, core_in, has, is_within, look, place_of, seen}
 use Rattle.ocr_parts.proofs.Within.{within_law}
-use Rattle.ocr_quiet.proofs.Choices.{on_from}
 use Rattle.ocr_standing.proofs.Room.{joining_law}
 use Rattle.ocr_rule.specs.Owing.{times}
 use Rattle.ocr_rule.specs.Rule.{Fits}
@@ -25,7 +24,7 @@ use Rattle.ocr_facts.proofs.Entered.{fitting_parts}
 use Rattle.ocr_facts.proofs.Making.{unmade}
 use Rattle.ocr_facts.proofs.Owed.{hand_face}
 use Rattle.ocr_facts.proofs.Runs.{run_is}
-use Rattle.ocr_facts.proofs.Slots.{chosen_on}
+use Rattle.ocr_standing.proofs.Kept.{within_core}
 
 -- A DRAWN NUMBER names nothing
 pub drawn_free : (t : OcrTerms) (v : OcrView) (J : List Entry) (n : ℕ) → Fits meaning t J v → 1 ≤ times n v.drawn → made (of_terms t) (reverse J) n ≡ None
@@ -47,22 +46,18 @@ knows_home t v J u g done fits most running drawn = record {
   joinable = λ on some. joining_law (of_terms t) (reverse J) u g (run_is t.setting.value t.limit J fits.run) most running some (drawn_fresh t v J g fits (drawn on));
 }
 
--- THE CORE at hand is that of the history, but for what was stored in loans
-pub core_place : (limit t : ℕ) → is_within limit t ≡ true → (is_within limit (limit + t) ≡ false) × ((limit + t) - limit ≡ t)
-core_place limit t is = (grind (arith, common_steps), omega arith)
-
 pub placed_core : (limit t : ℕ) (f : Parts) → is_within limit t ≡ true → place_of limit f (limit + t) ≡ f.core t
-placed_core limit t f within = let w = core_place limit t within in rw (w.0, w.1, within) refl
+placed_core limit t f within = let w = within_core limit t within in rw (w.0, w.1, within) refl
 
 seen_core : (limit t : ℕ) (x : Part) → is_within limit t ≡ true → seen limit (limit + t) x ≡ settled (as_core x)
-seen_core limit t x within = let w = core_place limit t within in rw (w.0, w.1, within) refl
+seen_core limit t x within = let w = within_core limit t within in rw (w.0, w.1, within) refl
 
 pub hand_core : (t : OcrTerms) (v : OcrView) (J : List Entry) (hand : List (ℕ × Part)) (u : ℕ) → Fits meaning t J v → AreAtHand t.limit hand v.parts → is_within t.limit u ≡ true → has hand (t.limit + u) ≡ true
     → (parts_of (of_terms t) (reverse J)).core u ≡ settled (core_in t.limit hand u)
 hand_core t v J hand u fits at_hand within here =
     sym (placed_core t.limit u (parts_of (of_terms t) (reverse J)) within)
     ∙ (fitting_parts t J v fits (t.limit + u) (at_hand.there (t.limit + u) here) ∙ (sym (at_hand.alike (t.limit + u) here)
-    ∙ (seen_core t.limit u (look hand (t.limit + u)) within ∙ ap settled (sym (chosen_on (is_within t.limit u) (as_core (look hand (t.limit + u))) part.Vacant within)))))
+    ∙ (seen_core t.limit u (look hand (t.limit + u)) within ∙ ap settled (sym (cond-true (is_within t.limit u) (as_core (look hand (t.limit + u))) part.Vacant within)))))
 
 pub running_settled : (x : Part) → is_running (settled x) ≡ is_running x
 running_settled (part.Core c) = refl
@@ -92,6 +87,6 @@ hand_home t v u g done hand has_home =
       joinable = λ on some.
           let home : ℕ = home_on x in
           let there : IsJoinable (f.face home) = subst (λ (n : ℕ). IsJoinable (f.face n)) homes (known.joinable on (ap (λ (n : ℕ). n == 0) homes ∙ some)) in
-          let within : is_within t.limit home ≡ true = on_from (is_within t.limit home) (λ off. unjoinable (f.face home) there ((within_law s (reverse J) fits.limits (run_is t.setting.value t.limit J fits.run)).faces home off)) in
-          subst IsJoinable (sym (hand_face t v J hand home fits has_home.at_hand (has_home.home some) ∙ chosen_on (is_within t.limit home) (f.face home) part.Vacant within)) there;
+          let within : is_within t.limit home ≡ true = true_from_ne_false (is_within t.limit home) (λ off. unjoinable (f.face home) there ((within_law s (reverse J) fits.limits (run_is t.setting.value t.limit J fits.run)).faces home off)) in
+          subst IsJoinable (sym (hand_face t v J hand home fits has_home.at_hand (has_home.home some) ∙ cond-true (is_within t.limit home) (f.face home) part.Vacant within)) there;
     }

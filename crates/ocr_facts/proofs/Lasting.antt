@@ -1,11 +1,12 @@
 -- What stands lasts.
 use Rattle.std.proofs.Common.{◌≡◌, ℕ, List, [], ◌∷◌, map, Bool, true, false, ◌==◌, ◌||◌, if◌then◌else◌, Option, Some, None, refl, sym, ◌∙◌, ap, subst}
 use Rattle.std.proofs.lemmas.Bool.{eqb-true}
+use Rattle.std.proofs.Math.Bool.{or-true}
 use Rattle.ocr_slots.specs.declared.Slot.{Slot}
 use Rattle.ocr_slots.specs.Slots as slot
 use Rattle.ocr_meaning.specs.declared.call.Call.TheVariants as call
 use Rattle.ocr_history.specs.declared.entry.Entry.{Entry}
-use Rattle.ocr_history.specs.declared.entry.Entry.TheVariants.{Call, Deliver, Start}
+use Rattle.ocr_history.specs.declared.entry.Entry.TheVariants.{Call, Deliver}
 use Rattle.ocr_history.specs.declared.entry.What.{What}
 use Rattle.ocr_history.specs.declared.entry.What.TheVariants as what
 use Rattle.ocr_history.specs.Edts.{is_started}
@@ -17,18 +18,13 @@ use Rattle.ocr_parts.specs.Legal.{IsRun, IsLegal}
 use Rattle.ocr_quiet.proofs.Edts.{edts_law}
 use Rattle.ocr_standing.proofs.Lasting.{edt_not_new, stays_law}
 use Rattle.ocr_standing.proofs.Once.{set_once_law}
-use Rattle.ocr_standing.proofs.Own.{body_law, made_same, started_set}
+use Rattle.ocr_standing.proofs.Own.{body_law, made_same, started_set, still_started}
 use Rattle.ocr_facts.specs.Facts.{Stands, body_by}
 use Rattle.ocr_facts.specs.declared.fact.Fact.{Fact}
 use Rattle.ocr_facts.specs.declared.fact.Fact.TheVariants.{Count, IsSet, Began, Short}
 
--- AN EDT stays what it is
-or_true : (b : Bool) → (b || true) ≡ true
-or_true true = refl
-or_true false = refl
-
 pub edt_later : (past : History) (e : Entry) (t : ℕ) → is_edt past t ≡ true → is_edt (e ∷ past) t ≡ true
-edt_later past (Call u home (call.EdtCreate from pc ps dc ds fl o) a w) t is = ap (λ (b : Bool). makes a t || b) is ∙ or_true (makes a t)
+edt_later past (Call u home (call.EdtCreate from pc ps dc ds fl o) a w) t is = ap (λ (b : Bool). makes a t || b) is ∙ or-true (makes a t)
 edt_later past (Call u home other a w) t is = is
 edt_later past other t is = is
 
@@ -37,10 +33,6 @@ edt_made s past t run is = edts_law s past run t ∙ is
 
 pub made_stays : (s : Setting) (past : History) (e : Entry) (t : ℕ) → IsRun s past → IsLegal s past e → is_edt past t ≡ true → made s (e ∷ past) t ≡ made s past t
 made_stays s past e t run legal is = made_same s past e t (made s past t) refl (edt_made s past t run is) legal
-
-started_later : (past : History) (e : Entry) (t : ℕ) → is_started past t ≡ true → is_started (e ∷ past) t ≡ true
-started_later past (Start u) t is = ap (λ (b : Bool). (u == t) || b) is ∙ or_true (u == t)
-started_later past other t is = is
 
 -- A PAYLOAD stays
 step_later : (w : What) (t k p : ℕ) (calls : List slot.SlotCall) → ((i q : ℕ) → w ≡ what.Set t i q → slot.payload_of calls i ≡ None) → slot.payload_of calls k ≡ Some p → slot.payload_of (set_step w t calls) k ≡ Some p
@@ -93,7 +85,7 @@ stands_later s past e (IsSet t k p) run legal st = record {
 }
 stands_later s past e (Began t face c) run legal st = record {
   made = edt_later past e t st.made;
-  started = started_later past e t st.started;
+  started = still_started past e t st.started;
   body =
       let was : body_of s past t ≡ body_by s.program face c (payloads_of s past t) = st.body in
       let still : body_of s (e ∷ past) t ≡ body_of s past t = body_law s past e t run legal st.made st.started in

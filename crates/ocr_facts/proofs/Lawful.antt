@@ -1,6 +1,6 @@
 -- The machine obeys the laws of the table.
 use Rattle.std.proofs.Common.{◌≡◌, ℕ, ◌+◌, ◌/◌, ◌≤◌, List, [], ◌∷◌, ◌++◌, length, reverse, Bool, true, false, ◌==◌, ◌||◌, if◌then◌else◌, refl, sym, ◌∙◌, ap, subst, arith}
-use Rattle.std.proofs.lemmas.Bool.{eqb-true}
+use Rattle.std.proofs.lemmas.Bool.{eqb-true, false_from_ne_true}
 use Rattle.std.proofs.lemmas.List.{reverse-append, reverse-reverse}
 use Rattle.ocr_code.specs.Checked.{checked_tree}
 use Rattle.ocr_meaning.specs.Behaviour.{Asks, Behaviour, Ends, IsNextWith, Stops}
@@ -22,7 +22,6 @@ use Rattle.ocr_parts.specs.Footprint.{footprint_of, is_touched}
 use Rattle.ocr_parts.specs.Legal.{IsLegal, is_stop}
 use Rattle.ocr_parts.specs.Parts.{parts_of}
 use Rattle.ocr_parts.specs.Taken.{place_of}
-use Rattle.ocr_quiet.proofs.Choices.{off_from}
 use Rattle.ocr_standing.specs.Lasting.{has_own, is_own}
 use Rattle.ocr_standing.proofs.Kept.{own_core_law, untouched_law}
 use Rattle.ocr_standing.proofs.Own.{no_own_law}
@@ -71,7 +70,7 @@ unfolding stands
 lasting g limit J e f run may st = subst (λ (K : History). Stands (setting_of g limit) K f) (sym (reverse_snoc J e)) (stands_later (setting_of g limit) (reverse J) e f (run_is g limit J run) may.legal st)
 
 untouched : (limit : ℕ) (e : Entry) (p : ℕ) → touches limit e p ≡ 0 → is_touched limit e p ≡ false
-untouched limit e p none = off_from (is_touched limit e p) (λ on. let some = named_place limit e p on in omega (arith, some, none))
+untouched limit e p none = false_from_ne_true (is_touched limit e p) (λ on. let some = named_place limit e p on in omega (arith, some, none))
 
 local : (g : Setting) (limit : ℕ) (J : List Entry) (e : Entry) (p : ℕ) → 2 ≤ limit → Run (MayFollow g limit) J → MayFollow g limit J e → touches limit e p ≡ 0 → part_of g limit (J ++ e ∷ []) p ≡ part_of g limit J p
 unfolding part_of
@@ -103,7 +102,7 @@ starting (Start u) t is = is
 starting other t is = cc is
 
 -- PLACES. A call that a body says has short lists
-sources_few : (ds : List ℕ) → length (wanted_sources ds) ≤ length ds
+pub sources_few : (ds : List ℕ) → length (wanted_sources ds) ≤ length ds
 sources_few [] = omega arith
 sources_few (d ∷ rest) = elim (is_object d) as (λ b. length (if b then (d, Source) ∷ wanted_sources rest else wanted_sources rest) ≤ length (d ∷ rest)) [
   | true ↦ let r = sources_few rest in omega (arith, r)
@@ -113,16 +112,16 @@ sources_few (d ∷ rest) = elim (is_object d) as (λ b. length (if b then (d, So
 abbrev source_if : Bool → ℕ → List (ℕ × Sort)
 source_if b d = if b then [] else (d, Source) ∷ []
 
-source_few : (d : ℕ) → length (wanted_source d) ≤ 1
+pub source_few : (d : ℕ) → length (wanted_source d) ≤ 1
 source_few d = elim (d == 0) as (λ b. length (source_if b d) ≤ 1) [ true ↦ omega arith | false ↦ omega arith ]
 
 abbrev payload_if : Bool → ℕ → List (ℕ × Sort)
 payload_if b p = if b then [] else (p, ABlock) ∷ []
 
-payload_few : (p : ℕ) → length (wanted_payload p) ≤ 1
+pub payload_few : (p : ℕ) → length (wanted_payload p) ≤ 1
 payload_few p = elim (p == 0) as (λ b. length (payload_if b p) ≤ 1) [ true ↦ omega arith | false ↦ omega arith ]
 
-wanted_few : (functions : ℕ) (c : body.Call) → IsServed functions c → length (wanted c) ≤ 33
+pub wanted_few : (functions : ℕ) (c : body.Call) → IsServed functions c → length (wanted c) ≤ 33
 wanted_few functions (call.EdtCreate from pc ps dc ds fl o) served = let few = sources_few ds in let short = served.1 in omega (arith, few, short)
 wanted_few functions (call.AddDependence from x i m) served = let one = source_few from in omega (arith, one)
 wanted_few functions (call.Satisfy e p slot) served = let one = payload_few p in omega (arith, one)
@@ -133,7 +132,7 @@ wanted_few functions (call.Store d k v) served = omega arith
 wanted_few functions (call.TemplateDestroy x) served = omega arith
 wanted_few functions other served = omega arith
 
-asked_call : (IsSuch : body.Call → Type 0) (b : Behaviour) (c : body.Call) (private : List (ℕ × ℕ)) → MakesOnly IsSuch b → IsNextWith c private b → IsSuch c
+pub asked_call : (IsSuch : body.Call → Type 0) (b : Behaviour) (c : body.Call) (private : List (ℕ × ℕ)) → MakesOnly IsSuch b → IsNextWith c private b → IsSuch c
 asked_call IsSuch (Ends g holds) c private only next = absurd next
 asked_call IsSuch (Stops why) c private only next = absurd next
 asked_call IsSuch (Asks call writes go) c private only next = subst IsSuch next.0 only.0

@@ -1,6 +1,6 @@
 -- What an entry makes was not made before.
 use Rattle.std.proofs.Common.{◌≡◌, ◌≢◌, ℕ, zero, suc, ◌+◌, ◌<◌, ◌≤◌, List, [], ◌∷◌, ◌++◌, reverse, Bool, true, false, not, ◌==◌, ◌&&◌, ◌||◌, if◌then◌else◌, Option, Some, None, Ok, Err, is_some, refl, sym, ◌∙◌, ap, arith}
-use Rattle.std.proofs.lemmas.Bool.{eqb-true}
+use Rattle.std.proofs.lemmas.Bool.{eqb-true, or_left}
 use Rattle.std.proofs.lemmas.Grind.{common_steps}
 use Rattle.ocr_guid.specs.Target.{EventCall, was_destroyed}
 use Rattle.ocr_guid.specs.declared.Code.TheVariants as code
@@ -35,6 +35,7 @@ use Rattle.ocr_rule.proofs.Totals.{made_snoc, sum_append}
 use Rattle.ocr_facts.proofs.Runs.{reverse_cons}
 use Rattle.ocr_facts.specs.Ocr as ocr
 use Rattle.ocr_finish.specs.Scope.{ScopeCall}
+use Rattle.ocr_standing.proofs.Scopes.{new_done}
 
 -- A CALL that makes a number
 abbrev bit : Bool → ℕ
@@ -124,16 +125,8 @@ made_if : (b : Bool) (x : Made) (y : Option Made) → b ≡ true → is_some (if
 made_if true x y is = refl
 made_if false x y is = cc is
 
-or_left_true : (a b : Bool) → a ≡ true → (a || b) ≡ true
-or_left_true true b is = refl
-or_left_true false b is = cc is
-
 with_some : (edt : Option Made) (home : ℕ) (a : Answer) (n : ℕ) → (a.value == n) ≡ false → is_some (made_with edt home a n) ≡ true
 with_some edt home a n off = rw off (elim (names_new a.scope n) as (λ b. is_some (if b then Some (MadeScope home a.output) else Some (MadeEvent OUTPUT_KIND OUTPUT_FLAGS 0)) ≡ true) [ true ↦ refl | false ↦ refl ])
-
-edt_done : (done beside here : Bool) → ((done && beside) || (done && here)) ≡ true → done ≡ true
-edt_done true beside here is = refl
-edt_done false beside here is = cc is
 
 pub made_after : (s : Setting) (past : History) (u home : ℕ) (c : body.Call) (a : Answer) (w : List (ℕ × ℕ)) (n : ℕ) → IsRun s past → IsLegal s past (Call u home c a w) → is_new c a n ≡ true → is_some (made s (Call u home c a w ∷ past) n) ≡ true
 made_after s past u home (call.DbCreate z fl) a w n run legal new = made_if (makes a n) _ (made s past n) new
@@ -145,8 +138,8 @@ made_after s past u home (call.EdtCreate from pc ps dc ds fl o) a w n run legal 
     let edt : Option Made = edt_from (made s past from) ps dc in
     elim (a.value == n) as (λ b. (a.value == n) ≡ b → is_some (made s (e ∷ past) n) ≡ true) [
       | true ↦ λ here.
-          let made_n : makes a n ≡ true = rw (edt_done (is_done a.code) _ _ new) here in
-          edt_some (made s (e ∷ past) n) (edts_law s (e ∷ past) (run, legal) n ∙ or_left_true (makes a n) (is_edt past n) made_n)
+          let made_n : makes a n ≡ true = rw (new_done (is_done a.code) _ _ new) here in
+          edt_some (made s (e ∷ past) n) (edts_law s (e ∷ past) (run, legal) n ∙ or_left (makes a n) (is_edt past n) made_n)
       | false ↦ λ off.
           ap (λ (m : Option Made). is_some m) (made_new s past u home from pc ps dc ds fl o a w n ∙ ap (λ (b : Bool). if b then made_with edt home a n else made s past n) new) ∙ with_some edt home a n off
     ] refl

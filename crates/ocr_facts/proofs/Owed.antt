@@ -2,7 +2,7 @@
 -- members, and no event was satisfied too often to be counted.
 use Rattle.std.proofs.Common.{◌≡◌, ◌<◌, ℕ, zero, suc, Bool, true, false, ◌-◌, ◌^◌, ◌==◌, ◌||◌, ◌&&◌, if◌then◌else◌, List, [], ◌∷◌, reverse, refl, ap, sym, ◌∙◌, subst, arith}
 use Rattle.std.specs.List.{Contains}
-use Rattle.std.proofs.lemmas.Bool.{eqb-true}
+use Rattle.std.proofs.lemmas.Bool.{eqb-true, true_from_ne_false, cond-true}
 use Rattle.std.proofs.lemmas.List.{length-reverse, reverse-reverse}
 use mathlib.Core.Option.{some, some-injective, some-ne-none}
 use lib.ListN.{get_elem?}
@@ -31,12 +31,10 @@ use Rattle.ocr_rule.proofs.Histories.{owed_pending}
 use Rattle.ocr_facts.specs.Clerks.{AreAtHand, DeliverLaw, HandCounted, HandMember, HandSatisfiable, KnowsCounted, KnowsMember, KnowsSatisfiable, LeaveLaw, OcrTerms, OcrView, OwesLeave, OwesSatisfaction, of_terms}
 use Rattle.ocr_facts.specs.Ocr.{meaning}
 use Rattle.ocr_facts.specs.declared.fact.Fact.{Fact}
-use Rattle.ocr_quiet.proofs.Choices.{on_from}
 use Rattle.ocr_quiet.proofs.Sent.{sent_law}
 use Rattle.ocr_standing.proofs.Members.{leaving_law}
 use Rattle.ocr_facts.proofs.Entered.{fitting_parts}
 use Rattle.ocr_facts.proofs.Runs.{run_is}
-use Rattle.ocr_facts.proofs.Slots.{chosen_on}
 
 -- PENDING. What the table has is what the machine has
 pub mail_is : (t : OcrTerms) (J : List Entry) → mail meaning t J ≡ pending (of_terms t) (reverse J)
@@ -64,7 +62,7 @@ knows_satisfiable t v J e slot payload owes fits =
     let pends = owed_is t v J owes.0 owes.1 owes.2 (what.Satisfy e slot payload) fits owes.3 in
     let sound = sent_law s past run (owes.1, owes.2, what.Satisfy e slot payload) pends in
     record {
-      within = on_from (is_within t.limit e) (λ off. unsatisfiable slot ((parts_of s past).face e) sound.1 ((within_law s past fits.limits run).faces e off));
+      within = true_from_ne_false (is_within t.limit e) (λ off. unsatisfiable slot ((parts_of s past).face e) sound.1 ((within_law s past fits.limits run).faces e off));
       satisfiable = sound.1;
     }
 
@@ -89,7 +87,7 @@ hand_satisfiable t v J hand e slot payload owes fits at_hand here =
     let can = knows_satisfiable t v J e slot payload owes fits in
     let same = hand_face t v J hand e fits at_hand here in
     let f = parts_of (of_terms t) (reverse J) in
-    subst (IsSatisfiable slot) (sym (same ∙ chosen_on (is_within t.limit e) (f.face e) part.Vacant can.within)) can.satisfiable
+    subst (IsSatisfiable slot) (sym (same ∙ cond-true (is_within t.limit e) (f.face e) part.Vacant can.within)) can.satisfiable
 
 -- COUNTED
 pub knows_counted : KnowsCounted
@@ -121,7 +119,7 @@ knows_member t v J x owes fits =
     let pends = owed_is t v J owes.0 owes.1 owes.2 (what.Leave x) fits owes.3 in
     let member = leaving_law s past owes.1 owes.2 x run pends in
     record {
-      within = on_from (is_within t.limit x) (λ off. memberless ((parts_of s past).face x) member ((within_law s past fits.limits run).faces x off));
+      within = true_from_ne_false (is_within t.limit x) (λ off. memberless ((parts_of s past).face x) member ((within_law s past fits.limits run).faces x off));
       member = member;
     }
 
@@ -129,7 +127,7 @@ pub hand_member : HandMember
 hand_member t v J hand x owes fits at_hand here =
     let can = knows_member t v J x owes fits in
     let f = parts_of (of_terms t) (reverse J) in
-    subst HasMember (sym (hand_face t v J hand x fits at_hand here ∙ chosen_on (is_within t.limit x) (f.face x) part.Vacant can.within)) can.member
+    subst HasMember (sym (hand_face t v J hand x fits at_hand here ∙ cond-true (is_within t.limit x) (f.face x) part.Vacant can.within)) can.member
 
 -- A DELIVERY names its event or its scope alone
 off_core : (b : Bool) → (b && false) ≡ true → ⊥
@@ -142,7 +140,7 @@ touched limit m c x e n brings named = elim (is_within limit n) as (λ b. (if b 
   | false ↦ λ wrong. absurd (off_core (is_within limit (n - limit)) wrong)
 ]
 
-no_facts : (P : Fact → Type 0) → FactsOf P []
+pub no_facts : (P : Fact → Type 0) → FactsOf P []
 no_facts P k f at = absurd (some-ne-none f (sym at))
 
 pub deliver_law : DeliverLaw

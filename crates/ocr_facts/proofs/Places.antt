@@ -1,7 +1,7 @@
 -- The places of an entry: they differ, are from 1 to twice the limit, and are few.
 use Rattle.std.proofs.Common.{◌≡◌, ℕ, suc, ◌+◌, ◌-◌, ◌*◌, ◌<◌, ◌≤◌, ◌⊎◌, inl, inr, ⊎_elim, List, [], ◌∷◌, length, Bool, true, false, not, ◌==◌, ◌||◌, ◌&&◌, nat_lt, if◌then◌else◌, refl, sym, subst, arith}
 use Rattle.std.proofs.lemmas.Grind.{common_steps}
-use Rattle.std.proofs.lemmas.Bool.{eqb-true}
+use Rattle.std.proofs.lemmas.Bool.{eqb-true, and_parts}
 use mathlib.Core.Logic.{dite}
 use native.Mathlib.Decide.{dec_le}
 use Rattle.ocr_meaning.specs.Call.{is_creation}
@@ -165,16 +165,16 @@ pub places_differ : (limit : ℕ) (e : Entry) (p : ℕ) → sum_of (one_at p) (f
 places_differ limit e p = most_one p 1 (footprint_of limit e) (places_good limit e).rises
 
 -- WHAT IS NAMED is among the places
-abbrev IsAt : ℕ → List ℕ → Type 0
+abbrev pub IsAt : ℕ → List ℕ → Type 0
 IsAt p ns = 1 ≤ sum_of (one_at p) ns
 
-face_stays : (limit g p : ℕ) (ns : List ℕ) → IsAt p ns → IsAt p (and_face limit g ns)
+pub face_stays : (limit g p : ℕ) (ns : List ℕ) → IsAt p ns → IsAt p (and_face limit g ns)
 face_stays limit g p ns is = elim (is_within limit g) as (λ b. IsAt p (if b then placed g ns else ns)) [ true ↦ (placed_sum p g ns).0 is | false ↦ is ]
 
-core_stays : (limit t p : ℕ) (ns : List ℕ) → IsAt p ns → IsAt p (and_core limit t ns)
+pub core_stays : (limit t p : ℕ) (ns : List ℕ) → IsAt p ns → IsAt p (and_core limit t ns)
 core_stays limit t p ns is = elim (is_within limit t) as (λ b. IsAt p (if b then placed (limit + t) ns else ns)) [ true ↦ (placed_sum p (limit + t) ns).0 is | false ↦ is ]
 
-face_here : (limit g : ℕ) (ns : List ℕ) → is_within limit g ≡ true → IsAt g (and_face limit g ns)
+pub face_here : (limit g : ℕ) (ns : List ℕ) → is_within limit g ≡ true → IsAt g (and_face limit g ns)
 face_here limit g ns is = rw is ((placed_sum g g ns).1)
 
 core_here : (limit t : ℕ) (ns : List ℕ) → is_within limit t ≡ true → IsAt (limit + t) (and_core limit t ns)
@@ -201,14 +201,9 @@ wanted_here limit p (one ∷ rest) ns within is = either (one.0 == p) (is_wanted
     (λ here. face_at limit one.0 p (and_wanted limit rest ns) within here)
     (λ later. face_stays limit one.0 p (and_wanted limit rest ns) (wanted_here limit p rest ns within later))
 
-both : (a b : Bool) → (a && b) ≡ true → (a ≡ true) × (b ≡ true)
-both true true is = (refl, refl)
-both true false is = cc is
-both false b is = cc is
-
 made_face_here : (limit p : ℕ) (c : body.Call) (a : Answer) (ns : List ℕ) → is_within limit p ≡ true → (is_creation c && (a.value == p)) ≡ true → IsAt p (and_made limit c a ns)
 made_face_here limit p c a ns within is =
-    let r = both (is_creation c) (a.value == p) is in
+    let r = and_parts (is_creation c) (a.value == p) is in
     subst (λ b. IsAt p (if b then and_face limit a.value (if makes_core c then and_core limit a.value ns else ns) else ns)) (sym r.0)
     (face_at limit a.value p (if makes_core c then and_core limit a.value ns else ns) within r.1)
 
@@ -228,12 +223,12 @@ message_named limit (what.Leave x) p within is = face_at limit x p [] within is
 message_named limit other p within is = cc is
 
 -- the scope and the output event of an EDT that is made, and the home that it joins
-beside_stays : (limit home p : ℕ) (c : body.Call) (a : Answer) (ns : List ℕ) → IsAt p ns → IsAt p (and_beside limit home c a ns)
+pub beside_stays : (limit home p : ℕ) (c : body.Call) (a : Answer) (ns : List ℕ) → IsAt p ns → IsAt p (and_beside limit home c a ns)
 beside_stays limit home p (call.EdtCreate from pc ps dc ds fl o) a ns is = face_stays limit home p _ (face_stays limit a.scope p _ (face_stays limit a.output p ns is))
 beside_stays limit home p other a ns is = is
 
 new_at : (limit g p : ℕ) (ns : List ℕ) → is_within limit p ≡ true → names_new g p ≡ true → IsAt p (and_face limit g ns)
-new_at limit g p ns within is = face_at limit g p ns within (both (not (g == 0)) (g == p) is).1
+new_at limit g p ns within is = face_at limit g p ns within (and_parts (not (g == 0)) (g == p) is).1
 
 beside_here : (limit home p : ℕ) (c : body.Call) (a : Answer) (ns : List ℕ) → is_within limit p ≡ true → (joins c home p || names_beside c a p) ≡ true → IsAt p (and_beside limit home c a ns)
 beside_here limit home p (call.EdtCreate from pc ps dc ds fl o) a ns within is = either (names_new home p) (names_new a.scope p || names_new a.output p) is
@@ -274,7 +269,7 @@ pub named_place : (limit : ℕ) (e : Entry) (p : ℕ) → is_touched limit e p �
 named_place limit e p is = elim (is_within limit p) as (λ b. is_within limit p ≡ b → (if b then on_face e p else is_within limit (p - limit) && on_core_of e (p - limit)) ≡ true → IsAt p (footprint_of limit e)) [
   | true ↦ λ within named. face_named limit e p within named
   | false ↦ λ _ named.
-      let r = both (is_within limit (p - limit)) (on_core_of e (p - limit)) named in
+      let r = and_parts (is_within limit (p - limit)) (on_core_of e (p - limit)) named in
       let low = (within_is limit (p - limit) r.0).0 in
       let whole : limit + (p - limit) ≡ p = omega (arith, low) in
       subst (λ (k : ℕ). IsAt k (footprint_of limit e)) whole (core_named limit e (p - limit) r.0 r.1)

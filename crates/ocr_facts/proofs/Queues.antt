@@ -1,7 +1,6 @@
 -- Who stands in a block's queue, after a step.
 use Rattle.std.proofs.Common.{◌≡◌, inl, inr, ℕ, List, [], ◌∷◌, ◌++◌, Bool, true, false, ◌==◌, ◌||◌, ◌&&◌, not, if◌then◌else◌, Option, Some, None, is_some, refl, sym, ◌∙◌, ap, subst, arith}
-use Rattle.std.proofs.lemmas.Grind.{common_steps}
-use Rattle.std.proofs.lemmas.Bool.{eqb-true}
+use Rattle.std.proofs.lemmas.Bool.{eqb-true, and_left}
 use Rattle.std.proofs.lemmas.List.{append-nil}
 use Rattle.ocr_acquire.specs.declared.Mode.{Mode}
 use Rattle.ocr_acquire.specs.Mode.{mode_in, is_exclusive}
@@ -22,6 +21,7 @@ use Rattle.ocr_quiet.specs.Waits.{queue_on, stands}
 use Rattle.ocr_quiet.proofs.Standing.{once_tail, returned_kept}
 use Rattle.ocr_rule.specs.Counting.{is_in}
 use Rattle.ocr_rule.specs.Sums.{one_at, sum_of}
+use Rattle.ocr_base.proofs.Booleans.{eqb_flips}
 
 -- WHO LEAVES stood in front of the others
 splits : (b : Bool) (l : block.Line) → l.queue ≡ block.leavers b l ++ (block.line_after_grants b l).queue
@@ -41,9 +41,6 @@ pub record IsNotFirst (n : ℕ) (xs ys : List (ℕ × Mode)) : Type 0 where
   pub none : sum_of (one_at n) (block.names xs) ≡ 0
   pub same : mode_in n (xs ++ ys) ≡ mode_in n ys
 
-flip : (a b : ℕ) → (a == b) ≡ (b == a)
-flip a b = grind (arith, common_steps)
-
 at_one : (n k : ℕ) → (n == k) ≡ true → one_at n k ≡ 1
 at_one n k is = rw is refl
 
@@ -57,14 +54,14 @@ not_first n (one ∷ rest) ys off = elim (n == one.0) as (λ b. (n == one.0) ≡
   | false ↦ λ apart later.
       let r = not_first n rest ys later in let z = at_none n one.0 apart in
       let none = r.none in
-      record { none = omega (arith, z, none); same = rw (flip one.0 n, apart) r.same }
+      record { none = omega (arith, z, none); same = rw (eqb_flips one.0 n, apart) r.same }
 ] refl off
 
 none_in : (n : ℕ) (xs ys : List (ℕ × Mode)) → mode_in n (xs ++ ys) ≡ None → is_in n (block.names xs) ≡ false
 none_in n [] ys none = refl
 none_in n (one ∷ rest) ys none = elim (one.0 == n) as (λ b. (one.0 == n) ≡ b → (if b then Some one.1 else mode_in n (rest ++ ys)) ≡ None → is_in n (block.names (one ∷ rest)) ≡ false) [
   | true ↦ λ _ wrong. cc wrong
-  | false ↦ λ apart none. rw (flip n one.0, apart) (none_in n rest ys none)
+  | false ↦ λ apart none. rw (eqb_flips n one.0, apart) (none_in n rest ys none)
 ] refl none
 
 in_first : (n : ℕ) (xs ys : List (ℕ × Mode)) → block_steps.StandOnce (xs ++ ys) → is_in n (block.names xs) ≡ true → IsFirst n xs ys
@@ -75,10 +72,10 @@ in_first n (one ∷ rest) ys once is = elim (n == one.0) as (λ b. (n == one.0) 
       let none : mode_in n (rest ++ ys) ≡ None = subst (λ (k : ℕ). mode_in k (rest ++ ys) ≡ None) (sym same) once.0 in
       let off = not_first n rest ys (none_in n rest ys none) in
       let one_is = at_one n one.0 here in let rest_none = off.none in
-      record { once = omega (arith, one_is, rest_none); in_both = rw (flip one.0 n, here) refl; not_behind = sym off.same ∙ none }
+      record { once = omega (arith, one_is, rest_none); in_both = rw (eqb_flips one.0 n, here) refl; not_behind = sym off.same ∙ none }
   | false ↦ λ apart later.
       let r = in_first n rest ys once.1 later in let z = at_none n one.0 apart in let o = r.once in
-      record { once = omega (arith, z, o); in_both = rw (flip one.0 n, apart) r.in_both; not_behind = r.not_behind }
+      record { once = omega (arith, z, o); in_both = rw (eqb_flips one.0 n, apart) r.in_both; not_behind = r.not_behind }
 ] refl is
 
 -- A QUEUE from which these leave
@@ -136,16 +133,12 @@ held_if : (b : Bool) (st new : block.State) → (b ≡ false → new.queue ≡ s
 held_if true st new same = refl
 held_if false st new same = same refl
 
-off_and : (d x : Bool) → d ≡ false → (d && x) ≡ false
-off_and true x is = cc is
-off_and false x is = refl
-
 pub granted_queue : (t : ℕ) (m : Mode) (st : block.State) → IsTaken t m st → (granted t m st).queue ≡ st.queue
 granted_queue t m st taken =
     let asked : block.State = if is_some (mode_in t st.holders) then st else block_steps.after_ask st t m in
     lent_same (is_exclusive m) asked t ∙ held_if (is_some (mode_in t st.holders)) st (block_steps.after_ask st t m) (λ off. elim taken.fit [
       | inl held ↦ absurd (let on : is_some (mode_in t st.holders) ≡ true = ap (λ (o : Option Mode). is_some o) held in cc (on, off))
-      | inr free ↦ asked_queue _ _ (block.line st) (t, m) (off_and st.destroyed _ (can_alive st.destroyed _ free.grantable)) free.grantable
+      | inr free ↦ asked_queue _ _ (block.line st) (t, m) (and_left st.destroyed _ (can_alive st.destroyed _ free.grantable)) free.grantable
     ])
 
 -- and who waits comes last

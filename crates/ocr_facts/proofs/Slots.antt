@@ -1,7 +1,7 @@
 -- What the words that count see of slots is what the machine has.
 use Rattle.std.proofs.Common.{◌≡◌, ℕ, ◌<◌, List, [], ◌∷◌, reverse, Bool, true, false, ◌==◌, ◌&&◌, ◌||◌, if◌then◌else◌, Option, Some, None, is_some, refl, sym, ◌∙◌, ap, subst, arith}
 use Rattle.std.proofs.lemmas.Grind.{common_steps}
-use Rattle.std.proofs.lemmas.Bool.{eqb-true}
+use Rattle.std.proofs.lemmas.Bool.{eqb-true, and_from, or_left, cond-true}
 use Rattle.std.proofs.lemmas.List.{reverse-reverse}
 use Rattle.ocr_base.proofs.Booleans.{same as number_same}
 use Rattle.ocr_slots.specs.Slots as slot
@@ -28,7 +28,7 @@ use Rattle.ocr_standing.proofs.Lasting.{edt_not_new}
 use Rattle.ocr_standing.proofs.Once.{set_once_law}
 use Rattle.ocr_rule.specs.Counting.{count_if, is_ended, is_started, payload_if, payload_of, slots_of}
 use Rattle.ocr_rule.specs.declared.view.Terms.{Terms}
-use Rattle.ocr_facts.specs.Ocr.{creates, meaning}
+use Rattle.ocr_facts.specs.Ocr.{meaning}
 use Rattle.ocr_facts.specs.Ocr as ocr
 use Rattle.ocr_facts.specs.declared.setting.Setting.{Setting}
 use Rattle.ocr_facts.proofs.Lasting.{edt_later, edt_made}
@@ -72,26 +72,13 @@ edt_new true x y v n D before new was = elim (v == n) as (λ z. (v == n) ≡ z �
 ] refl
 edt_new false x y v n D before new was = was
 
-both_on : (a b : Bool) → a ≡ true → b ≡ true → (a && b) ≡ true
-both_on true true p q = refl
-both_on true false p q = cc q
-both_on false b p q = cc p
-
-or_on : (a b : Bool) → a ≡ true → (a || b) ≡ true
-or_on true b is = refl
-or_on false b is = cc is
-
-pub chosen_on : {A : Type 0} (b : Bool) (x y : A) → b ≡ true → (if b then x else y) ≡ x
-chosen_on true x y is = refl
-chosen_on false x y is = cc is
-
 -- what a creation says of the slots of the EDT that it makes
 created_slots : (s : history.Setting) (past : History) (u home from pc dc fl : ℕ) (ps ds : List ℕ) (o : Bool) (a : Answer) (w : List (ℕ × ℕ)) (n : ℕ) → IsRun s (Call u home (call.EdtCreate from pc ps dc ds fl o) a w ∷ past)
     → is_done a.code ≡ true → a.value ≡ n → slots_in (made s (Call u home (call.EdtCreate from pc ps dc ds fl o) a w ∷ past) n) ≡ Some (depc_of s (Call u home (call.EdtCreate from pc ps dc ds fl o) a w ∷ past) a.value)
 created_slots s past u home from pc dc fl ps ds o a w n run done is =
     let e : Entry = Call u home (call.EdtCreate from pc ps dc ds fl o) a w in
-    let makes_n : makes a n ≡ true = both_on (is_done a.code) (a.value == n) done (subst (λ (k : ℕ). (a.value == k) ≡ true) is (number_same a.value)) in
-    edt_slots (made s (e ∷ past) n) (edts_law s (e ∷ past) run n ∙ or_on (makes a n) (is_edt past n) makes_n) ∙ ap (λ (k : ℕ). Some (depc_of s (e ∷ past) k)) (sym is)
+    let makes_n : makes a n ≡ true = and_from (is_done a.code) (a.value == n) done (subst (λ (k : ℕ). (a.value == k) ≡ true) is (number_same a.value)) in
+    edt_slots (made s (e ∷ past) n) (edts_law s (e ∷ past) run n ∙ or_left (makes a n) (is_edt past n) makes_n) ∙ ap (λ (k : ℕ). Some (depc_of s (e ∷ past) k)) (sym is)
 
 pub slots_are : (t : Terms Setting) (past : History) (n : ℕ) → IsRun (of_terms t) past → slots_of meaning t past n ≡ slots_in (made (of_terms t) past n)
 slots_are t [] n run = opened_slots (of_terms t) n
@@ -107,8 +94,8 @@ slots_are t (Call u home (call.EdtCreate from pc ps dc ds fl o) a w ∷ past) n 
     let event : Option Made = if is_done a.code && names_new a.output n then Some (MadeEvent OUTPUT_KIND OUTPUT_FLAGS 0) else made s past n in
     edt_new (is_done a.code) (edt_from (made s past from) ps dc) (made_beside a home n (made s past n)) a.value n D (slots_of meaning t past n)
     (λ done is.
-    let makes_n : makes a n ≡ true = both_on (is_done a.code) (a.value == n) done (subst (λ (k : ℕ). (a.value == k) ≡ true) is (number_same a.value)) in
-    ap slots_in (sym (chosen_on (makes a n) (edt_from (made s past from) ps dc) (made_beside a home n (made s past n)) makes_n)) ∙ (created_slots s past u home from pc dc fl ps ds o a w n run done is ∙ ap (λ (K : History). Some (depc_of s (e ∷ K) a.value)) (sym (reverse-reverse past))))
+    let makes_n : makes a n ≡ true = and_from (is_done a.code) (a.value == n) done (subst (λ (k : ℕ). (a.value == k) ≡ true) is (number_same a.value)) in
+    ap slots_in (sym (cond-true (makes a n) (edt_from (made s past from) ps dc) (made_beside a home n (made s past n)) makes_n)) ∙ (created_slots s past u home from pc dc fl ps ds o a w n run done is ∙ ap (λ (K : History). Some (depc_of s (e ∷ K) a.value)) (sym (reverse-reverse past))))
     (beside_new (is_done a.code && names_new a.scope n) (MadeScope home a.output) event (slots_of meaning t past n) refl (λ on. was ∙ ap slots_in (beside_free _ (is_done a.code) s past _ a.scope n run.1.on_parts.scope on).0)
     (beside_new (is_done a.code && names_new a.output n) (MadeEvent OUTPUT_KIND OUTPUT_FLAGS 0) (made s past n) (slots_of meaning t past n) refl (λ on. was ∙ ap slots_in (beside_free _ (is_done a.code) s past _ a.output n run.1.on_parts.output on).0) was))
 slots_are t (Call u home other a w ∷ past) n run = slots_are t past n run.0

@@ -1,8 +1,8 @@
 -- Who waits after a run, and who may start or be let wait.
-use Rattle.std.proofs.Common.{◌≡◌, ℕ, ◌≤◌, List, [], ◌∷◌, ◌++◌, reverse, Bool, true, false, ◌==◌, ◌||◌, nat_lt, if◌then◌else◌, Option, Some, None, is_some, refl, sym, ◌∙◌, ap, subst, arith}
-use Rattle.std.proofs.lemmas.Grind.{common_steps}
-use Rattle.std.proofs.lemmas.Bool.{eqb-true}
+use Rattle.std.proofs.Common.{◌≡◌, ℕ, ◌≤◌, List, [], ◌∷◌, ◌++◌, reverse, Bool, true, false, ◌==◌, nat_lt, if◌then◌else◌, Option, Some, None, is_some, refl, sym, ◌∙◌, ap, subst}
+use Rattle.std.proofs.lemmas.Bool.{eqb-true, cond-true}
 use Rattle.std.proofs.lemmas.List.{reverse-reverse}
+use Rattle.std.proofs.Math.Bool.{or-false}
 use Rattle.ocr_base.proofs.Booleans.{same as number_same}
 use Rattle.ocr_acquire.specs.declared.Mode.{Mode}
 use Rattle.ocr_acquire.specs.Mode.{mode_in}
@@ -23,7 +23,7 @@ use Rattle.ocr_parts.specs.declared.part.Part.TheVariants as part
 use Rattle.ocr_parts.specs.Calls.{depc_of, edt_calls, loans_of, open_slots, plan_of, set_calls}
 use Rattle.ocr_parts.specs.Effects.{changed}
 use Rattle.ocr_parts.specs.Progress.{made_ready, next_mode_on, readied_on, ready_at, with_phase}
-use Rattle.ocr_parts.specs.Kinds.{IsBlock, is_acquiring, is_acquiring_edt, is_running, on_core, with_block, work_in}
+use Rattle.ocr_parts.specs.Kinds.{IsBlock, is_acquiring, is_acquiring_edt, is_running, on_core, with_block}
 use Rattle.ocr_parts.specs.LegalOn.{IsRefused}
 use Rattle.ocr_parts.specs.Legal.{IsRun, IsLegal}
 use Rattle.ocr_parts.specs.Messages.{resumes}
@@ -33,17 +33,20 @@ use Rattle.ocr_parts.proofs.After.{after_law}
 use Rattle.ocr_quiet.specs.Marks.{mark, mark_in}
 use Rattle.ocr_quiet.specs.Waits.{AreStanding, awaits, queue_on}
 use Rattle.ocr_quiet.proofs.Stages.{readied_standing, ready_told, standing_law, told_law}
-use Rattle.ocr_quiet.proofs.Standing.{push_other, push_own}
+use Rattle.ocr_quiet.proofs.Standing.{push_other}
 use Rattle.ocr_standing.proofs.Held.{running_core}
 use Rattle.ocr_standing.proofs.Lasting.{all_set}
 use Rattle.ocr_rule.specs.Counting.{IsReady, awaited, is_ended, is_in, is_started, place_or}
 use Rattle.ocr_rule.specs.declared.view.Terms.{Terms}
 use Rattle.ocr_facts.specs.Ocr.{meaning, resumed}
 use Rattle.ocr_facts.specs.declared.setting.Setting.{Setting}
-use Rattle.ocr_facts.proofs.Awaiting.{IsAwaiting, IsQueued, Moving, acquiring_awaits, effect_awaits, entry_effect, none_left, still_awaits, unqueued}
+use Rattle.ocr_facts.proofs.Awaiting.{IsAwaiting, IsQueued, Moving, effect_awaits, entry_effect, none_left, still_awaits, unqueued}
 use Rattle.ocr_facts.proofs.Queues.{refused_queue}
 use Rattle.ocr_facts.proofs.Runs.{of_terms}
 use Rattle.ocr_facts.proofs.Slots.{edt_slots, ended_is, payload_is, slots_are, started_is}
+use Rattle.ocr_standing.proofs.Plain.{acquiring_idle}
+use Rattle.ocr_standing.proofs.Own.{running_mark}
+use Rattle.ocr_parts.proofs.Blocks.{mode_added}
 
 -- the EDTs that the table sees resumed
 pub resumed_is : (t : Terms Setting) (past : History) (e : Entry) → resumed t.setting.value t.limit (reverse past) e ≡ resumes e (parts_of (of_terms t) past)
@@ -71,7 +74,7 @@ waited_own f h u d m x is queue none never = record {
   told = λ e same.
       let de : d ≡ e = some_same d e same in
       let here : h.face d ≡ x = is d ∙ first (d == d) x (f.face d) (number_same d) in
-      let there : IsQueued h u d = ap (λ (y : Part). is_some (mode_in u (queue_on y))) here ∙ (ap (λ (q : List (ℕ × Mode)). is_some (mode_in u q)) queue ∙ ap (λ (o : Option Mode). is_some o) (push_own u m (queue_on (f.face d)) none)) in
+      let there : IsQueued h u d = ap (λ (y : Part). is_some (mode_in u (queue_on y))) here ∙ (ap (λ (q : List (ℕ × Mode)). is_some (mode_in u q)) queue ∙ ap (λ (o : Option Mode). is_some o) (mode_added u m (queue_on (f.face d)) none)) in
       subst (λ (k : ℕ). IsQueued h u k) de there;
   all = λ e queued. elim (d == e) as (λ b. (d == e) ≡ b → Some d ≡ Some e) [
     | true ↦ λ same. ap (λ (k : ℕ). Some k) (eqb-true d e same)
@@ -109,7 +112,7 @@ wait_awaits : (s : history.Setting) (past : History) (u d n : ℕ) (o : Option �
 wait_awaits s past u d n o run legal was =
     let f = parts_of s past in let e : Entry = Wait u d in let r = readied_on s past e f in let h = changed e r in let m = next_mode_on r u in
     let standing : AreStanding r = readied_standing s past e (standing_law s past run) in
-    let none : awaits (r.core u) ≡ None = acquiring_awaits (r.core u) legal.on_parts.acquiring in
+    let none : awaits (r.core u) ≡ None = acquiring_idle (r.core u) legal.on_parts.acquiring in
     let x : Part = with_block (f.face d) (λ st. block_steps.after_ask st u m) in
     let queue : queue_on x ≡ queue_on (f.face d) ++ (u, m) ∷ [] = pushed_queue (f.face d) u m legal.on_parts.refused in
     elim (u == n) as (λ b. (u == n) ≡ b → IsAwaiting (waits_if b d o) h n) [
@@ -125,14 +128,10 @@ gone_awaits : (f h : Parts) (u n : ℕ) (b : Bool) (o : Option ℕ) → ((k : �
 gone_awaits f h u n true o still here never was = subst (λ (k : ℕ). IsAwaiting None h k) (here refl) (none_left h u (λ k queued. never k (ap (λ (q : List (ℕ × Mode)). is_some (mode_in u q)) (sym (still k)) ∙ queued)))
 gone_awaits f h u n false o still here never was = still_awaits o f h n was still
 
-or_none : (b : Bool) → (b || false) ≡ b
-or_none true = refl
-or_none false = refl
-
 pub start_idle : (s : history.Setting) (past : History) (u k : ℕ) → IsRun s past → open_slots s past u ≡ [] → is_acquiring ((ready_at u (plan_of s past u) (parts_of s past)).core u) ≡ true → IsQueued (parts_of s past) u k → ⊥
 start_idle s past u k run set acquiring queued =
     let r = readied_on s past (Start u) (parts_of s past) in
-    unqueued r u k (readied_standing s past (Start u) (standing_law s past run)) (acquiring_awaits (r.core u) acquiring) queued
+    unqueued r u k (readied_standing s past (Start u) (standing_law s past run)) (acquiring_idle (r.core u) acquiring) queued
 
 pub end_idle : (s : history.Setting) (past : History) (u k : ℕ) → IsRun s past → is_running ((parts_of s past).core u) ≡ true → IsQueued (parts_of s past) u k → ⊥
 end_idle s past u k run running queued = unqueued (parts_of s past) u k (standing_law s past run) (running_core ((parts_of s past).core u) running).1 queued
@@ -149,7 +148,7 @@ step_awaits : (t : Terms Setting) (past : History) (e : Entry) (n : ℕ) → 2 �
     → IsAwaiting (awaited meaning t (e ∷ past) n) (changed e (readied_on (of_terms t) past e (parts_of (of_terms t) past))) n
 step_awaits t past (Wait u d) n enough run legal was = wait_awaits (of_terms t) past u d n (awaited meaning t past n) run legal was
 step_awaits t past (Start u) n enough run legal was =
-    subst (λ b. IsAwaiting (gone_if b (awaited meaning t past n)) (changed (Start u) (readied_on (of_terms t) past (Start u) (parts_of (of_terms t) past))) n) (sym (or_none (u == n)))
+    subst (λ b. IsAwaiting (gone_if b (awaited meaning t past n)) (changed (Start u) (readied_on (of_terms t) past (Start u) (parts_of (of_terms t) past))) n) (sym (or-false (u == n)))
     (gone_awaits (parts_of (of_terms t) past) _ u n (u == n) (awaited meaning t past n) (λ k. refl) (λ is. eqb-true u n is) (λ k queued. start_idle (of_terms t) past u k run legal.on_facts legal.on_parts.acquiring queued) was)
 step_awaits t past (End u g) n enough run legal was =
     gone_awaits (parts_of (of_terms t) past) _ u n (u == n) (awaited meaning t past n) (λ k. refl) (λ is. eqb-true u n is) (λ k queued. end_idle (of_terms t) past u k run legal.on_parts.running queued) was
@@ -185,29 +184,16 @@ acquiring_made : (m : Option Made) (i : Identity) (cs : List edt.EdtCall) (loans
 acquiring_made (Some (MadeEdt f ps n)) i cs loans step is = refl
 acquiring_made other i cs loans step is = cc is
 
-chosen_on : {A : Type 0} (b : Bool) (x y : A) → b ≡ true → (if b then x else y) ≡ x
-chosen_on true x y is = refl
-chosen_on false x y is = cc is
-
 pub ready_made : (s : history.Setting) (past : History) (n : ℕ) → is_acquiring ((ready_at n (plan_of s past n) (parts_of s past)).core n) ≡ true → is_edt_made (made s past n) ≡ true
 ready_made s past n is =
     let step : Core → Core = with_phase (made_ready (plan_of s past n)) in
     acquiring_made (made s past n) (identity_of past n) (edt_calls s past n) (loans_of s past n) step
-    (ap is_acquiring (sym (chosen_on (n == n) (on_core ((parts_of s past).core n) step) ((parts_of s past).core n) (number_same n))) ∙ is)
-
--- WHO RUNS has started and not ended
-running_stage : (x : Part) → is_running x ≡ true → (mark x).0 ≡ 2
-running_stage (part.Core c) is = stage c.edt is
-  where
-    stage : (e : Edt) → is_some (work_in e) ≡ true → (mark_in e).0 ≡ 2
-    stage (phase.Running s) is = refl
-    stage other is = cc is
-running_stage other is = cc is
+    (ap is_acquiring (sym (cond-true (n == n) (on_core ((parts_of s past).core n) step) ((parts_of s past).core n) (number_same n))) ∙ is)
 
 pub running : (t : Terms Setting) (past : History) (n : ℕ) → IsRun (of_terms t) past → is_running ((parts_of (of_terms t) past).core n) ≡ true → (is_started meaning t past n ≡ true) × (is_ended meaning t past n ≡ false)
 running t past n run is =
     let told = told_law (of_terms t) past run n in
-    let stage = running_stage ((parts_of (of_terms t) past).core n) is in
+    let stage = running_mark ((parts_of (of_terms t) past).core n) is in
     (started_is t past n ∙ (told.has_started ∙ ap (nat_lt 1) stage), ended_is t past n ∙ (told.has_ended ∙ ap (nat_lt 2) stage))
 
 some_payload : (o : Option ℕ) → is_some o ≡ true → (x : ℕ) × (o ≡ Some x)

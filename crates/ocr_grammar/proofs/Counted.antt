@@ -14,7 +14,7 @@ use Rattle.ocr_grammar.specs.Shape.{shape}
 use Rattle.ocr_grammar.specs.Limits.{Tally, tally, within, tally_after}
 use Rattle.ocr_grammar.specs.Laws.{IsCounted, CountLaw}
 
-tally_append : (y : Tally) (a b : List Lexeme) → tally y (a ++ b) ≡ tally (tally y a) b
+pub tally_append : (y : Tally) (a b : List Lexeme) → tally y (a ++ b) ≡ tally (tally y a) b
 tally_append y [] b = refl
 tally_append y (t ∷ a) b = tally_append (tally_after y t) a b
 

@@ -1,7 +1,6 @@
 -- Events that are satisfied, and dependences that name them.
 use Rattle.std.proofs.Common.{◌≡◌, ℕ, ◌+◌, List, [], ◌∷◌, ◌++◌, append_assoc, map, Bool, true, false, ◌==◌, ◌&&◌, not, if◌then◌else◌, refl, sym, ◌∙◌, ap}
 use Rattle.std.proofs.lemmas.Bool.{eqb-true}
-use Rattle.ocr_any_event.specs.declared.AnyEvent.{AnyEvent}
 use Rattle.ocr_guid.specs.declared.target.Target.{Target}
 use Rattle.ocr_guid.specs.declared.Code.{Code}
 use Rattle.ocr_history.specs.declared.entry.What.{What}
@@ -20,8 +19,9 @@ use Rattle.ocr_parts.specs.Messages.{what_to, linked, linked_by, dep_sends, sent
 use Rattle.ocr_parts.specs.Parts.{Parts}
 use Rattle.ocr_any_event.specs.AnyEvent as event
 use Rattle.ocr_slots.specs.declared.Slot.{Slot}
-use Rattle.ocr_base.proofs.Booleans.{eqb_flips}
+use Rattle.ocr_base.proofs.Booleans.{eqb_flips, and_false}
 use Rattle.ocr_hand.specs.AtHand.{AtHand, state, AreOthers, HasRoom}
+use Rattle.ocr_parts.proofs.Beside.{other_event}
 
 -- a face that is put in its own place
 face_back : (f : Parts) (g : ℕ) (x : Part) → x ≡ f.face g → (m : ℕ) → (if g == m then x else f.face m) ≡ f.face m
@@ -33,13 +33,8 @@ face_back f g x is m = elim (g == m) as (λ b. (g == m) ≡ b → (if b then x e
 pub same_face : (f : Parts) (g : ℕ) (x : Part) → x ≡ f.face g → with_face f g x ≡ f
 same_face f g x is = λ i. record { face = λ m. face_back f g x is m i; core = f.core }
 
--- what is no event is linked to nothing
-no_event : (x : Part) (step : AnyEvent → AnyEvent) → is_event x ≡ false → with_event x step ≡ x
-no_event (part.Event st) step is = cc is
-no_event other step is = refl
-
 pub not_linked : (named : Bool) (f : Parts) (d : ℕ) (t : Target) → (named && is_event (f.face d)) ≡ false → linked_if named d t f ≡ f
-not_linked true f d t is = same_face f d _ (no_event (f.face d) _ is)
+not_linked true f d t is = same_face f d _ (other_event (f.face d) _ is)
 not_linked false f d t is = refl
 
 -- a payload to each target
@@ -118,13 +113,9 @@ same_sends u g k (d ∷ rest) f h others like =
       | false ↦ λ _. ap (λ (ms : List What). (if is_given d then what_to (d, t) ∷ [] else []) ++ ms) (same_sends u g (k + 1) rest f h others.1 like)
     ] others.0
 
-and_off : (b : Bool) → (b && false) ≡ false
-and_off true = refl
-and_off false = refl
-
 named_sends : (u n : ℕ) (ds : List ℕ) (f : Parts) (x : Part) → AreOthers n ds → dep_sends u 0 ds (with_named f n x) ≡ dep_sends u 0 ds f
 named_sends u n ds f x others =
-    same_sends u n 0 ds (with_named f n x) f others (λ d apart. ap (λ (b : Bool). if not (n == 0) && b then x else f.face d) apart ∙ ap (λ (b : Bool). if b then x else f.face d) (and_off (not (n == 0))))
+    same_sends u n 0 ds (with_named f n x) f others (λ d apart. ap (λ (b : Bool). if not (n == 0) && b then x else f.face d) apart ∙ ap (λ (b : Bool). if b then x else f.face d) (and_false (not (n == 0))))
 
 pub made_sends : (h : AtHand) (a : Answer) (home : ℕ) (ds : List ℕ) (x y : Part) → HasRoom h a ds
     → dep_sends a.value 0 ds (with_core (with_face (with_beside (state h) home a) a.value x) a.value y) ≡ dep_sends a.value 0 ds (state h)

@@ -76,7 +76,7 @@ pub same_length : (ps qs : List Part) → keys (numbered 0 ps) ≡ keys (numbere
 same_length ps qs is = sym (keys_length ps 0) ∙ ap (λ (ns : List ℕ). length ns) is ∙ keys_length qs 0
 
 -- the state is the same, told by numbers or by places
-same_parts : (limit : ℕ) (at other : ℕ → Part) → ((n : ℕ) → at n ≡ other n) → parts_by limit at ≡ parts_by limit other
+pub same_parts : (limit : ℕ) (at other : ℕ → Part) → ((n : ℕ) → at n ≡ other n) → parts_by limit at ≡ parts_by limit other
 same_parts limit at other is = λ i. record {
   face = λ g. ap (λ (x : Part). if is_within limit g then as_face x else part.Vacant) (is g) i;
   core = λ t. ap (λ (x : Part). if is_within limit t then as_core x else part.Vacant) (is (limit + t)) i;

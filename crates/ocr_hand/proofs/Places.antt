@@ -149,7 +149,7 @@ core_set limit before after t x set within = λ i. record { face = λ m. face_ke
 abbrev pub kept_as : ℕ → ℕ → Part → Part
 kept_as limit n x = if is_within limit n then as_face x else if is_within limit (n - limit) then as_core x else part.Vacant
 
-core_number : (limit n : ℕ) → is_within limit (n - limit) ≡ true → limit + (n - limit) ≡ n
+pub core_number : (limit n : ℕ) → is_within limit (n - limit) ≡ true → limit + (n - limit) ≡ n
 core_number limit n within = grind (arith, common_steps)
 
 pub place_is : (limit : ℕ) (at : ℕ → Part) (n : ℕ) → place_of limit (parts_by limit at) n ≡ kept_as limit n (at n)

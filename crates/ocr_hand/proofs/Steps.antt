@@ -1,11 +1,9 @@
 -- What the steps of parts rest on.
-use Rattle.std.proofs.Common.{◌≡◌, inl, inr, ℕ, List, [], ◌∷◌, ◌++◌, Bool, true, false, Option, Some, None, ◌==◌, ◌&&◌, not, if◌then◌else◌, refl, sym, ◌∙◌, ap, is_some, ◌<◌, ◌≤◌, ◌+◌, arith}
+use Rattle.std.proofs.Common.{◌≡◌, ℕ, List, [], ◌∷◌, Bool, true, false, Option, Some, None, ◌==◌, not, if◌then◌else◌, refl, sym, ◌∙◌, ap, is_some, ◌<◌, ◌≤◌, ◌+◌, arith}
 use Rattle.std.proofs.lemmas.Grind.{common_steps}
-use Rattle.ocr_acquire.specs.Mode.{mode_in}
 use Rattle.ocr_acquire.specs.declared.Mode.{Mode}
 use Rattle.ocr_acquire.specs.declared.Mode.TheVariants as mode
 use Rattle.ocr_datablock.specs.Block as block
-use Rattle.ocr_datablock.specs.Steps.{after_ask}
 use Rattle.ocr_edt.specs.declared.Edt.{Edt}
 use Rattle.ocr_edt.specs.declared.Edt.TheVariants as phase
 use Rattle.ocr_edt.specs.Phases.{Progress}
@@ -19,11 +17,11 @@ use Rattle.ocr_parts.specs.declared.part.Part.TheVariants as part
 use Rattle.ocr_parts.specs.Calls.{is_given, with_dep}
 use Rattle.ocr_parts.specs.Effects.{awoken, acquired_edt, stale_edt}
 use Rattle.ocr_parts.specs.Kinds.{IsBlock, is_destroyed, progress_in, loan_on}
-use Rattle.ocr_parts.specs.LegalOn.{IsTaken, IsEnding, IsDooming}
+use Rattle.ocr_parts.specs.LegalOn.{IsEnding, IsDooming}
 use Rattle.ocr_parts.specs.Parts.{Parts}
-use Rattle.ocr_parts.proofs.Choices.{same}
 use Rattle.ocr_parts.proofs.Local.{block_weaker}
 use Rattle.ocr_hand.specs.AtHand.{IsReturning, IsDoomable}
+use Rattle.ocr_base.proofs.Booleans.{same}
 
 pub awake_acquires : (e : Edt) (s : Progress) → progress_in e ≡ Some s → acquired_edt (awoken e) ≡ phase.Acquiring (after_acquired s false)
 awake_acquires (phase.Acquiring p) s is = cc
@@ -50,30 +48,6 @@ dooming_lets f t d live h = live_block (f.face d) _ (IsDoomable t (loan_on (f.co
 pub none_of : (o p : Option Mode) (b : Bool) → p ≡ o → is_some p ≡ not b → b ≡ true → o ≡ None
 none_of None p b same is on = refl
 none_of (Some m) p b same is on = let wrong : true ≡ false = sym (ap (λ (q : Option Mode). is_some q) same) ∙ is ∙ ap not on in cc wrong
-
-mode_added : (t : ℕ) (m : Mode) (holders : List (ℕ × Mode)) → mode_in t holders ≡ None → mode_in t (holders ++ (t, m) ∷ []) ≡ Some m
-mode_added t m [] is = rw (same t) refl
-mode_added t m (one ∷ rest) is = elim (one.0 == t) as (λ b. (if b then Some one.1 else mode_in t rest) ≡ None → (if b then Some one.1 else mode_in t (rest ++ (t, m) ∷ [])) ≡ Some m) [
-  | true ↦ λ is. cc is
-  | false ↦ λ is. mode_added t m rest is
-] is
-
-joined_granted : (b c : Bool) (x y z : block.Line) → b ≡ false → c ≡ true → (if b then x else if c then y else z) ≡ y
-joined_granted true c x y z off on = cc off
-joined_granted false true x y z off on = refl
-joined_granted false false x y z off on = cc on
-
-not_gone : (d x y : Bool) → (not d && x) ≡ true → (d && y) ≡ false
-not_gone true x y is = cc is
-not_gone false x y is = refl
-
-pub asked_held : (t : ℕ) (m : Mode) (st : block.State) → IsTaken t m st → mode_in t st.holders ≡ None → mode_in t (after_ask st t m).holders ≡ Some m
-asked_held t m st taken none = elim taken.fit [
-  | inl held ↦ absurd (let no : None ≡ Some m = sym none ∙ held in cc no)
-  | inr free ↦ ap (λ (l : block.Line). mode_in t l.holders)
-      (joined_granted (block.is_line_gone st.destroyed (block.line st)) (block.can_grant st.destroyed (block.line st) m) _ _ _ (not_gone st.destroyed _ _ free.grantable) free.grantable)
-      ∙ mode_added t m st.holders none
-]
 
 -- a slot that a dependence is given for
 pub linked_one : (n : ℕ) (calls : List slot.SlotCall) (k d : ℕ) → k < n → slot.mode_of calls k ≡ None

@@ -37,11 +37,11 @@ placed_in n m (k ∷ rest) =
     (λ other. ap (λ (b : Bool). (k == m) || b) (placed_in n m rest) ∙ or_swap (k == m) (n == m) (is_in m rest)))
 
 -- and keeps the list rising
-rises_if : (b : Bool) (a : ℕ) (xs ys : List ℕ) → (b ≡ true → RisesFrom a xs) → (b ≡ false → RisesFrom a ys) → RisesFrom a (if b then xs else ys)
+pub rises_if : (b : Bool) (a : ℕ) (xs ys : List ℕ) → (b ≡ true → RisesFrom a xs) → (b ≡ false → RisesFrom a ys) → RisesFrom a (if b then xs else ys)
 rises_if true a xs ys p q = p refl
 rises_if false a xs ys p q = q refl
 
-placed_rises : (a n : ℕ) (xs : List ℕ) → a < n → RisesFrom a xs → RisesFrom a (placed n xs)
+pub placed_rises : (a n : ℕ) (xs : List ℕ) → a < n → RisesFrom a xs → RisesFrom a (placed n xs)
 placed_rises a n [] less rises = (less, tt)
 placed_rises a n (k ∷ rest) less rises =
     rises_if (nat_lt n k) a (n ∷ k ∷ rest) (if n == k then k ∷ rest else k ∷ placed n rest)
@@ -52,11 +52,11 @@ placed_rises a n (k ∷ rest) less rises =
     above : (n k : ℕ) → nat_lt n k ≡ false → (n == k) ≡ false → k < n
     above n k after other = omega (arith, ltb-false n k after, eqb-false n k other)
 
-rising_if : (b : Bool) (xs ys : List ℕ) → (b ≡ true → IsRising xs) → (b ≡ false → IsRising ys) → IsRising (if b then xs else ys)
+pub rising_if : (b : Bool) (xs ys : List ℕ) → (b ≡ true → IsRising xs) → (b ≡ false → IsRising ys) → IsRising (if b then xs else ys)
 rising_if true xs ys p q = p refl
 rising_if false xs ys p q = q refl
 
-placed_rising : (n : ℕ) (xs : List ℕ) → IsRising xs → IsRising (placed n xs)
+pub placed_rising : (n : ℕ) (xs : List ℕ) → IsRising xs → IsRising (placed n xs)
 placed_rising n [] rises = tt
 placed_rising n (k ∷ rest) rises =
     rising_if (nat_lt n k) (n ∷ k ∷ rest) (if n == k then k ∷ rest else k ∷ placed n rest)
@@ -122,7 +122,7 @@ made_in (Call u home (call.EdtCreate from pc ps dc ds fl o) answer writes ∷ pa
     ∙ ap (λ (b : Bool). (is_done answer.code && (answer.value == t)) || b) (made_in past t)
 made_in (e ∷ past) t = made_in past t
 
-made_rising : (past : History) → IsRising (made_edts past)
+pub made_rising : (past : History) → IsRising (made_edts past)
 made_rising [] = tt
 made_rising (Call u home (call.EdtCreate from pc ps dc ds fl o) answer writes ∷ past) =
     rising_if (is_done answer.code) (placed answer.value (made_edts past)) (made_edts past)

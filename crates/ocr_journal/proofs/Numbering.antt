@@ -1,20 +1,15 @@
 -- The one list that several logs tell, each entry by its number.
-use Rattle.std.proofs.Common.{◌≡◌, ◌≢◌, ℕ, zero, suc, ◌<◌, ◌≤◌, List, [], ◌∷◌, length, refl, ap, sym, subst, ◌∙◌, arith, eq-eqb}
+use Rattle.std.proofs.Common.{◌≡◌, ℕ, suc, ◌<◌, ◌≤◌, List, [], ◌∷◌, length, refl, ap, sym, subst, ◌∙◌, arith}
 use mathlib.Core.Option.{some, some-injective}
 use mathlib.Core.Logic.{dite}
 use native.Mathlib.Decide.{ℕ_discrete, dec_le}
 use lib.ListN.{get_elem?}
-use Rattle.ocr_rule.specs.Sums.{weigh, weigh_all, below, one_at}
+use Rattle.ocr_rule.specs.Sums.{weigh, weigh_all, one_at}
 use Rattle.ocr_rule.proofs.Totals.{below_ones, one_else, at_less}
 use Rattle.ocr_history.specs.declared.entry.Entry.{Entry}
 use Rattle.ocr_journal.specs.Merged.{IsHistoryOf}
 use Rattle.ocr_journal.specs.Numbered.{AreByNumber}
-
-pub one_below : (n m : ℕ) → n < m → 1 ≤ below (one_at n) m
-one_below n zero lt = absurd (omega arith)
-one_below n (suc m) lt = dite (ℕ_discrete n m)
-    (λ e. let one : one_at n m ≡ 1 = rw (eq-eqb n m e) refl in omega arith)
-    (λ ne. let other : n ≢ m = ne in let r = one_below n m (omega arith) in omega arith)
+use Rattle.ocr_rule.proofs.Sole.{below_here}
 
 module _ {E : Type 0} where
   -- the log has the entry at the number, and one of the logs has it
@@ -39,7 +34,7 @@ module _ {E : Type 0} where
 
   -- an entry stands in one of the logs at each number
   pub number_there : (logs : List (List (ℕ × E))) (list : List E) (n : ℕ) → AreByNumber logs list → n < length list → (e : E) × HasInAny logs n e
-  number_there logs list n is lt = in_any logs n (let o = is.once (one_at n) in let b = one_below n (length list) lt in omega arith)
+  number_there logs list n is lt = in_any logs n (let o = is.once (one_at n) in let b = below_here n (length list) lt in omega arith)
 
   by_number_count : (logs : List (List (ℕ × E))) (list : List E) → AreByNumber logs list → weigh_all (λ _. 1) logs ≡ length list
   by_number_count logs list is = is.once (λ _. 1) ∙ below_ones (length list)

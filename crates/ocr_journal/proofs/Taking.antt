@@ -11,7 +11,8 @@ use Rattle.ocr_rule.specs.Rule.{AllRise, LogOf, LogsOf}
 use Rattle.ocr_rule.specs.Sums.{Rises, weigh, weigh_all, below, one_at}
 use Rattle.ocr_rule.proofs.Totals.{append_none, at_less, one_else, weigh_at}
 use Rattle.ocr_journal.specs.Numbered.{AreByNumber, EndsAt, HasEnd}
-use Rattle.ocr_journal.proofs.Numbering.{in_any, one_below}
+use Rattle.ocr_journal.proofs.Numbering.{in_any}
+use Rattle.ocr_rule.proofs.Sole.{below_here}
 
 none_below : (n m : ℕ) → m ≤ n → below (one_at n) m ≡ 0
 none_below n zero le = refl
@@ -50,7 +51,7 @@ module _ {E : Type 0} where
   -- THE LOGS that hold each number below m once have one that ends with the greatest
   pub end_there : (logs : List (List (ℕ × E))) (n m : ℕ) → suc n ≡ m → AllRise logs → ((f : ℕ → ℕ) → weigh_all f logs ≡ below f m) → HasEnd n logs
   end_there logs n m is rise once =
-      let found = in_any logs n (let o = once (one_at n) in let b = one_below n m (omega arith) in omega arith) in
+      let found = in_any logs n (let o = once (one_at n) in let b = below_here n m (omega arith) in omega arith) in
       let e = found.0 in let j = found.1.0 in let log = found.1.1 in let at = found.1.2 in (
         j,
         log,

@@ -1,5 +1,5 @@
 -- What was sent and not delivered.
-use Rattle.std.proofs.Common.{◌≡◌, ◌⊎◌, inl, inr, ℕ, zero, suc, ◌+◌, List, [], ◌∷◌, ◌++◌, length, slice_index_or, slice_set, Bool, true, false, ◌==◌, Option, Some, None, arith, refl, sym, ◌∙◌, ap, subst, rules}
+use Rattle.std.proofs.Common.{◌≡◌, inl, inr, ℕ, zero, suc, ◌+◌, List, [], ◌∷◌, ◌++◌, length, slice_index_or, slice_set, Bool, false, ◌==◌, Option, Some, None, arith, refl, sym, ◌∙◌, ap, subst}
 use Rattle.std.proofs.lemmas.Grind.{common_steps}
 use Rattle.std.proofs.lemmas.List.{append-nil}
 use Rattle.std.proofs.lemmas.List.Elements.{Contains-append_left, Contains-append_right, Contains-append_cases}
@@ -8,20 +8,16 @@ use Rattle.ocr_history.specs.declared.entry.What.{What}
 use Rattle.ocr_mail.specs.Mail.{named, drop_one}
 use Rattle.ocr_judge.specs.Tests.{Whether}
 use Rattle.ocr_judge.specs.Mailing.{left_of, left_from, message_at, delivered_at, sent_row}
-
-same : (n : ℕ) → (n == n) ≡ true
-same n = search rules
+use Rattle.ocr_base.proofs.Booleans.{same}
+use Rattle.ocr_acquire.proofs.Members.{Contains-nil, Contains-cases}
 
 later_index : (i k : ℕ) → (i + suc k == i) ≡ false
 later_index i k = grind (arith, common_steps)
 
-later_place : (n k : ℕ) → (n + suc k == n) ≡ false
-later_place n k = grind (arith, common_steps)
-
 step : (i k : ℕ) → i + suc k ≡ suc i + k
 step i k = omega arith
 
-at_zero : (i : ℕ) → i + 0 ≡ i
+pub at_zero : (i : ℕ) → i + 0 ≡ i
 at_zero i = omega arith
 
 from_zero : (i : ℕ) → 0 + i ≡ i
@@ -47,7 +43,7 @@ dropped_from : (n k j : ℕ) (rows : List (List (Option What))) (what : What) �
 dropped_from n k j [] what is = cc is
 dropped_from n zero j (row ∷ rows) what is = rw (at_zero n) (ap (λ m. drop_one (n, m) (left_of n 0 row ++ left_from (suc n) rows)) (sym (from_zero j)) ∙ dropped_here n 0 j row what (left_from (suc n) rows) is)
 dropped_from n (suc k) j (row ∷ rows) what is =
-    dropped_past n (n + suc k) 0 j row (left_from (suc n) rows) (later_place n k)
+    dropped_past n (n + suc k) 0 j row (left_from (suc n) rows) (later_index n k)
     ∙ ap (λ l. left_of n 0 row ++ l) (ap (λ m. drop_one (m, j) (left_from (suc n) rows)) (step n k) ∙ dropped_from (suc n) k j rows what is)
 
 pub dropped : (p j : ℕ) (rows : List (List (Option What))) (what : What) → message_at rows p j ≡ Some what → drop_one (p, j) (left_from 0 rows) ≡ left_from 0 (delivered_at rows p j)
@@ -93,21 +89,14 @@ left_there n (suc k) j (row ∷ rows) what is =
 pub waits : (rows : List (List (Option What))) (p j : ℕ) (what : What) → message_at rows p j ≡ Some what → Contains (left_from 0 rows) (p, j, what)
 waits rows p j what is = subst (λ m. Contains (left_from 0 rows) (m, j, what)) (from_zero p) (left_there 0 p j rows what is)
 
-nothing_there : {X : Type 0} (x : X) → Contains [] x → ⊥
-nothing_there x has = omega (arith, has.1)
-
-first_or : {X : Type 0} (x y : X) (xs : List X) → Contains (x ∷ xs) y → (x ≡ y) ⊎ Contains xs y
-first_or x y xs (zero, below, is) = inl is
-first_or x y xs (suc k, below, is) = inr (k, omega (arith, below), is)
-
 -- where a message that is left stands in its row
 abbrev IsIn : ℕ → ℕ → List (Option What) → ℕ × ℕ × What → Type 0
 IsIn n i row x = (k : ℕ) × (x.0 ≡ n) × (x.1 ≡ i + k) × (slice_index_or row k None ≡ Some x.2)
 
 in_row : (n i : ℕ) (row : List (Option What)) (x : ℕ × ℕ × What) → Contains (left_of n i row) x → IsIn n i row x
-in_row n i [] x has = absurd (nothing_there x has)
+in_row n i [] x has = absurd (Contains-nil x has)
 in_row n i (None ∷ row) x has = let more = in_row n (suc i) row x has in (suc more.0, more.1, more.2 ∙ sym (step i more.0), more.3)
-in_row n i (Some w ∷ row) x has = elim (first_or (n, i, w) x (left_of n (suc i) row) has) as (λ _. IsIn n i (Some w ∷ row) x) [
+in_row n i (Some w ∷ row) x has = elim (Contains-cases (n, i, w) x (left_of n (suc i) row) has) as (λ _. IsIn n i (Some w ∷ row) x) [
   | inl here ↦ (zero, sym (ap (λ (m : ℕ × ℕ × What). m.0) here), sym (ap (λ (m : ℕ × ℕ × What). m.1) here) ∙ sym (at_zero i), ap (λ (m : ℕ × ℕ × What). Some m.2) here)
   | inr later ↦ let more = in_row n (suc i) row x later in (suc more.0, more.1, more.2 ∙ sym (step i more.0), more.3)
 ]
@@ -116,7 +105,7 @@ abbrev IsAmong : ℕ → List (List (Option What)) → ℕ × ℕ × What → Ty
 IsAmong n rows x = (k : ℕ) × (x.0 ≡ n + k) × (message_at rows k x.1 ≡ Some x.2)
 
 among : (n : ℕ) (rows : List (List (Option What))) (x : ℕ × ℕ × What) → Contains (left_from n rows) x → IsAmong n rows x
-among n [] x has = absurd (nothing_there x has)
+among n [] x has = absurd (Contains-nil x has)
 among n (row ∷ rows) x has = elim (Contains-append_cases (left_of n 0 row) (left_from (suc n) rows) x has) as (λ _. IsAmong n (row ∷ rows) x) [
   | inl here ↦ let found = in_row n 0 row x here in (zero, found.1 ∙ sym (at_zero n), ap (λ k. slice_index_or row k None) (found.2 ∙ from_zero found.0) ∙ found.3)
   | inr later ↦ let more = among (suc n) rows x later in (suc more.0, more.1 ∙ sym (step n more.0), more.2)

@@ -1,7 +1,7 @@
 -- Each entry is linked to the next one of its EDT.
-use Rattle.std.proofs.Common.{◌≡◌, ℕ, ◌+◌, ◌<◌, ◌≤◌, List, length, slice_index_or, slice_set, Bool, true, false, ◌==◌, ◌||◌, if◌then◌else◌, arith, refl, sym, ◌∙◌, ap, subst, inl, inr}
+use Rattle.std.proofs.Common.{◌≡◌, ℕ, ◌+◌, ◌<◌, ◌≤◌, List, length, slice_index_or, slice_set, true, false, ◌==◌, ◌||◌, if◌then◌else◌, arith, refl, sym, ◌∙◌, ap, subst, inl, inr}
 use Rattle.std.proofs.lemmas.Grind.{common_steps}
-use Rattle.std.proofs.lemmas.Bool.{eqb-true}
+use Rattle.std.proofs.lemmas.Bool.{eqb-true, or_parts, or_left, true≢false}
 use Rattle.std.specs.Prelude.{Result, Ok, Err, IfOk}
 use Rattle.ocr_base.specs.declared.memory.NoMemory.{NoMemory}
 use Rattle.ocr_judge.specs.declared.judging.Told.{Told}
@@ -15,7 +15,9 @@ use Rattle.ocr_judge.specs.declared.judging.Ending.{Ending}
 use Rattle.ocr_judge.specs.declared.linking.Links.{Links}
 use Rattle.ocr_judge.specs.Judging.{runs, IsSaidIn, IsStuck, IsVerdict, IsToldAs, IsMadeBy, at_place, ended_as}
 use Rattle.ocr_judge.specs.Linking.{starts, IsNextOwn, IsLinkedFrom, IsLinked, IsFollowing}
-use Rattle.ocr_judge.proofs.Steps.{same, same_item, item, item_is, below_or_equal, true_false, own_at, said_idle, ended_next, verdict_from, wrong_next}
+use Rattle.ocr_judge.proofs.Steps.{same_item, below_or_equal, own_at, said_idle, ended_next, verdict_from, wrong_next}
+use Rattle.ocr_base.proofs.Booleans.{same}
+use Rattle.ocr_history.proofs.Fronts.{item, item_is}
 
 -- an entry of the EDT is the next one from its own place on
 pub next_here : (t : ℕ) (xs : List Entry) (at : ℕ) (e : Entry) → at < length xs → e ≡ slice_index_or xs at e → runs t e ≡ true → IsNextOwn t xs at at
@@ -40,14 +42,6 @@ next_past t xs from at e below is out next = record {
   own = next.own;
 }
 
-or_left : (a b : Bool) → (a || b) ≡ false → a ≡ false
-or_left true b is = cc
-or_left false b is = refl
-
-or_true : (a b : Bool) → a ≡ true → (a || b) ≡ true
-or_true true b is = refl
-or_true false b is = cc
-
 set_at : (ns : List ℕ) (k v j : ℕ) → k < length ns → slice_index_or (slice_set ns k v) j 0 ≡ (if k == j then v else slice_index_or ns j 0)
 set_at ns k v j below = grind (arith, common_steps)
 
@@ -66,13 +60,13 @@ pub linked_past : (limit : ℕ) (xs : List Entry) (place : ℕ) (nexts firsts : 
 linked_past limit xs place nexts firsts e below is none linked = record {
   nexts_are = linked.nexts_are;
   firsts_are = linked.firsts_are;
-  first = λ t fits. next_past t xs place (slice_index_or firsts t 0) e below is (or_left (runs t e) (starts t e) (none t fits)) (linked.first t fits);
+  first = λ t fits. next_past t xs place (slice_index_or firsts t 0) e below is (or_parts (runs t e) (starts t e) (none t fits)).0 (linked.first t fits);
   next = λ t m fits lower upper f f_is mine. elim (below_or_equal place m) as (λ _. IsNextOwn t xs (m + 1) (slice_index_or nexts m 0)) [
     | inl later ↦ linked.next t m fits (omega (arith, later)) upper f f_is mine
     | inr here ↦
         let same : m ≡ place = omega (arith, here, lower) in
         let equal : f ≡ e = same_item xs place f e below (subst (λ k. f ≡ slice_index_or xs k f) same f_is) is in
-        absurd (true_false (sym mine ∙ ap (λ (x : Entry). runs t x || starts t x) equal ∙ none t fits))
+        absurd (true≢false (sym mine ∙ ap (λ (x : Entry). runs t x || starts t x) equal ∙ none t fits))
   ];
 }
 
@@ -109,7 +103,7 @@ linked_own limit xs place u nexts firsts e below is of fits mine linked = record
       subst (λ (k : ℕ). IsNextOwn t xs place k) (sym (set_at firsts u place t room))
       (elim (u == t) as (λ b. (u == t) ≡ b → IsNextOwn t xs place (if b then place else slice_index_or firsts t 0)) [
         | true ↦ λ his. next_here t xs place e below is (subst (λ (k : ℕ). runs k e ≡ true) (eqb-true u t his) mine)
-        | false ↦ λ other. next_past t xs place (slice_index_or firsts t 0) e below is (or_left (runs t e) (starts t e) (of t ∙ other)) (linked.first t small)
+        | false ↦ λ other. next_past t xs place (slice_index_or firsts t 0) e below is (or_parts (runs t e) (starts t e) (of t ∙ other)).0 (linked.first t small)
       ] refl);
   next = noted_next limit xs place u nexts firsts e below is of linked;
 }
@@ -123,8 +117,8 @@ linked_start limit xs place u nexts firsts e below is of not_mine linked = recor
   firsts_are = linked.firsts_are;
   first = λ t small. next_past t xs place (slice_index_or firsts t 0) e below is (elim (runs t e) as (λ b. runs t e ≡ b → b ≡ false) [
     | true ↦ λ his.
-        let same : u ≡ t = eqb-true u t (sym (of t) ∙ or_true (runs t e) (starts t e) his) in
-        absurd (true_false (sym his ∙ subst (λ (k : ℕ). runs k e ≡ false) same not_mine))
+        let same : u ≡ t = eqb-true u t (sym (of t) ∙ or_left (runs t e) (starts t e) his) in
+        absurd (true≢false (sym his ∙ subst (λ (k : ℕ). runs k e ≡ false) same not_mine))
     | false ↦ λ _. refl
   ] refl) (linked.first t small);
   next = noted_next limit xs place u nexts firsts e below is of linked;
@@ -156,7 +150,7 @@ pub following_start : (limit : ℕ) (xs : List Entry) (links : Links) (t place n
 following_start limit xs links t place next linked fits below is next_is = record {
   nexts = linked.nexts_are;
   now = subst (λ (k : ℕ). IsNextOwn t xs (place + 1) k) (sym (read_at links.nexts.items place next (omega (arith, below, linked.nexts_are)) next_is)) (linked.next t place fits (omega arith) below (Start t) is (same t));
-  later = λ m upper e at mine. linked.next t m fits (omega arith) upper e at (or_true (runs t e) (starts t e) mine);
+  later = λ m upper e at mine. linked.next t m fits (omega arith) upper e at (or_left (runs t e) (starts t e) mine);
 }
 
 -- from the first entry of an EDT
@@ -164,7 +158,7 @@ pub following_first : (limit : ℕ) (xs : List Entry) (links : Links) (t : ℕ) 
 following_first limit xs links t linked fits = record {
   nexts = linked.nexts_are;
   now = linked.first t fits;
-  later = λ m upper e at mine. linked.next t m fits (omega arith) upper e at (or_true (runs t e) (starts t e) mine);
+  later = λ m upper e at mine. linked.next t m fits (omega arith) upper e at (or_left (runs t e) (starts t e) mine);
 }
 
 -- a body that ended goes on over the entries that it makes

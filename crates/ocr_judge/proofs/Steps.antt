@@ -1,11 +1,11 @@
 -- Places of a list of entries.
-use Rattle.std.proofs.Common.{◌≡◌, ◌⊎◌, inl, inr, ℕ, ◌+◌, ◌-◌, ◌<◌, ◌≤◌, List, [], ◌∷◌, ◌++◌, zero, suc, take, length, slice_index_or, Bool, true, false, ◌==◌, ◌&&◌, not, rules, arith, refl, sym, ◌∙◌, ap, subst}
+use Rattle.std.proofs.Common.{◌≡◌, ◌⊎◌, inl, inr, ℕ, ◌+◌, ◌-◌, ◌<◌, ◌≤◌, List, [], ◌∷◌, zero, suc, take, length, slice_index_or, Bool, true, false, ◌==◌, not, arith, refl, sym, ◌∙◌, ap, subst}
 use Rattle.std.proofs.lemmas.Grind.{common_steps}
 use Rattle.std.specs.Prelude.{Option, Some, None, IfSome, IfNone}
-use Rattle.std.proofs.lemmas.List.{reverse-append}
 use Rattle.ocr_meaning.specs.Behaviour.{Behaviour, Ends, Stops, Asks, IsNextWith, Asked}
 use Rattle.ocr_meaning.specs.Holds.{Hold, Holds, Access, Refused, Silent, Entered, no_holds, private_in, is_done}
 use Rattle.std.specs.List.{Contains}
+use Rattle.std.proofs.lemmas.Bool.{true≢false}
 use Rattle.ocr_judge.specs.declared.judging.Told.{Told}
 use Rattle.ocr_judge.specs.Tests.{Whether}
 use Rattle.ocr_judge.specs.Holding.{held_in, counts_of, count_in}
@@ -29,22 +29,9 @@ use Rattle.ocr_judge.specs.declared.judging.Ending.{Ending}
 use Rattle.ocr_judge.specs.declared.judging.Ending.TheVariants as ending
 use Rattle.ocr_judge.specs.Judging.{ended_as, runs, IsIdle, IsSaidIn, IsWrong, IsStuck, IsUnsaid, IsVerdict, IsToldAs, IsEndedSo, at_place, IsJudging, IsMadeBy, IsFormed, IsOfCall, IsEntryOf, IsAnswerOf}
 use Rattle.ocr_parts.specs.Bodies.{body_with}
-
--- what two tests tell
-pub same : (n : ℕ) → (n == n) ≡ true
-same n = search rules
-
-pub both_true : (a b : Bool) → (a && b) ≡ true → (a ≡ true) × (b ≡ true)
-both_true true b is = (refl, is)
-both_true false b is = cc
-
-pub not_true : (b : Bool) → not b ≡ true → b ≡ false
-not_true true is = cc
-not_true false is = refl
-
-pub not_false : (b : Bool) → not b ≡ false → b ≡ true
-not_false true is = refl
-not_false false is = cc
+use Rattle.ocr_base.proofs.Booleans.{same}
+use Rattle.ocr_judge.proofs.Letters.{at_zero}
+use Rattle.ocr_history.proofs.Fronts.{item, item_is, history_next}
 
 pub same_item : (xs : List Entry) (i : ℕ) (p q : Entry) → i < length xs → p ≡ slice_index_or xs i p → q ≡ slice_index_or xs i q → p ≡ q
 same_item xs i p q below first second = grind (arith, common_steps)
@@ -55,23 +42,6 @@ below_or m i h = grind arith
 pub below_or_equal : (m i : ℕ) → (m < i) ⊎ (i ≤ m)
 below_or_equal m i = grind arith
 
-pub true_false : true ≡ false → ⊥
-true_false is = cc
-
-add_zero : (n : ℕ) → n + 0 ≡ n
-add_zero n = omega arith
-
-pub item : (xs : List Entry) (i : ℕ) → i < length xs → Entry
-item [] i below = absurd (omega arith)
-item (x ∷ xs) zero below = x
-item (x ∷ xs) (suc i) below = item xs i (omega arith)
-
-pub item_is : (xs : List Entry) (i : ℕ) (below : i < length xs) → item xs i below ≡ slice_index_or xs i (item xs i below)
-unfolding item
-item_is [] i below = absurd (omega arith)
-item_is (x ∷ xs) zero below = refl
-item_is (x ∷ xs) (suc i) below = item_is xs i (omega arith)
-
 pub item_now : (xs : List Entry) (i : ℕ) (x e : Entry) → x ≡ slice_index_or xs i x → slice_index_or xs i x ≡ e → e ≡ slice_index_or xs i e
 item_now xs i x e is now = subst (λ (z : Entry). z ≡ slice_index_or xs i z) (is ∙ now) is
 
@@ -80,13 +50,6 @@ idle_more t xs from i e idle below is out = λ m after before x at. elim (below_
   | inl h ↦ idle m after h x at
   | inr h ↦ ap (runs t) (same_item xs i x e below (rw h at at) is) ∙ out
 ]
-
-take_next : (xs : List Entry) (i : ℕ) (e : Entry) → i < length xs → e ≡ slice_index_or xs i e → take (i + 1) xs ≡ take i xs ++ e ∷ []
-take_next xs i e below is = grind (arith, common_steps)
-
--- the history after one more entry
-pub history_next : (xs : List Entry) (i : ℕ) (e : Entry) → i < length xs → e ≡ slice_index_or xs i e → history_of (take (i + 1) xs) ≡ e ∷ history_of (take i xs)
-history_next xs i e below is = ap history_of (take_next xs i e below is) ∙ reverse-append (take i xs) (e ∷ [])
 
 own_out : (t : ℕ) (past : History) (e : Entry) → runs t e ≡ false → own (e ∷ past) t ≡ own past t
 own_out t past (Call edt home c a w) out = rw out refl
@@ -101,7 +64,7 @@ own_out t past (Stop a) out = refl
 
 -- places without an entry of the EDT change nothing of its own calls
 pub own_idle : (t : ℕ) (xs : List Entry) (from d : ℕ) → from + d ≤ length xs → IsIdle t xs from (from + d) → own (history_of (take (from + d) xs)) t ≡ own (history_of (take from xs)) t
-own_idle t xs from zero within idle = rw (add_zero from) refl
+own_idle t xs from zero within idle = rw (at_zero from) refl
 own_idle t xs from (suc d) within idle =
     let below : from + d < length xs = omega arith in
     let e : Entry = item xs (from + d) below in
@@ -148,15 +111,15 @@ only_call t b c w next other run said = cc run
 first_place : (t : ℕ) (xs : List Entry) (from at to : ℕ) (e f : Entry) → from ≤ at → from ≤ to → IsIdle t xs from at → IsIdle t xs from to
     → e ≡ slice_index_or xs at e → f ≡ slice_index_or xs to f → runs t e ≡ true → runs t f ≡ true → at ≡ to
 first_place t xs from at to e f a b idle idle' is is' run run' = elim (below_or_equal at to) as (λ _. at ≡ to) [
-  | inl h ↦ absurd (true_false (sym run ∙ idle' at a h e is))
+  | inl h ↦ absurd (true≢false (sym run ∙ idle' at a h e is))
   | inr h ↦ elim (below_or_equal to at) as (λ _. at ≡ to) [
-    | inl h ↦ absurd (true_false (sym run' ∙ idle to b h f is'))
+    | inl h ↦ absurd (true≢false (sym run' ∙ idle to b h f is'))
     | inr k ↦ omega arith
   ]
 ]
 
 pub stuck_none : (b : Body) (t : ℕ) (xs : List Entry) (from : ℕ) → IsIdle t xs from (length xs) → IsStuck b t xs from
-stuck_none b t xs from idle = λ at after within _ e is run said. true_false (sym run ∙ idle at after within e is)
+stuck_none b t xs from idle = λ at after within _ e is run said. true≢false (sym run ∙ idle at after within e is)
 
 pub stuck_at : (b : Body) (t : ℕ) (xs : List Entry) (from at : ℕ) (e : Entry) → from ≤ at → at < length xs → IsIdle t xs from at → e ≡ slice_index_or xs at e → runs t e ≡ true
     → (IsMadeBy (at_place b t xs from) e → ⊥) → IsStuck b t xs from
@@ -182,7 +145,7 @@ call_said b t xs start from at refusals edt home c d a w v judging after within 
       said = λ m lower upper e at_m run. elim (below_or m at upper) as (λ _. IsMadeBy (at_place b t xs m) e) [
         | inl h ↦ elim (below_or_equal m from) as (λ _. IsMadeBy (at_place b t xs m) e) [
           | inl early ↦ judging.said m lower early e at_m run
-          | inr late ↦ absurd (true_false (sym run ∙ idle m late h e at_m))
+          | inr late ↦ absurd (true≢false (sym run ∙ idle m late h e at_m))
         ]
         | inr h ↦
             let equal : e ≡ Call edt home c a w = same_item xs at e (Call edt home c a w) within (rw h at at_m) is in
@@ -263,7 +226,7 @@ stopped_says b rose s (by_body _ is) memory closed = is
 pub said_idle : (b : Body) (t : ℕ) (xs : List Entry) (start from to : ℕ) → IsSaidIn b t xs start from → IsIdle t xs from to → IsSaidIn b t xs start to
 said_idle b t xs start from to said idle = λ m lower upper e is run. elim (below_or_equal m from) as (λ _. IsMadeBy (at_place b t xs m) e) [
   | inl early ↦ said m lower early e is run
-  | inr late ↦ absurd (true_false (sym run ∙ idle m late upper e is))
+  | inr late ↦ absurd (true≢false (sym run ∙ idle m late upper e is))
 ]
 
 -- the verdict where the body goes on no more

@@ -1,6 +1,7 @@
 -- What is told of a call that comes next.
 use Rattle.std.proofs.lemmas.Grind.{common_steps}
 use Rattle.std.proofs.Common.{◌≡◌, ◌≤◌, ℕ, suc, arith, ◌==◌, ◌+◌, ◌/◌, List, [], Bool, true, false, if◌then◌else◌, ◌&&◌, Option, Some, None, refl, sym, ◌∙◌, ap, subst, slice_index}
+use Rattle.std.proofs.lemmas.Bool.{and_parts}
 use Rattle.ocr_guid.specs.Target.{EventCall}
 use Rattle.ocr_guid.specs.declared.Code.{Code}
 use Rattle.ocr_guid.specs.Code.{number_of}
@@ -27,7 +28,6 @@ use Rattle.ocr_legality.specs.Tests.{Whether, AnswersSo, IsCallSo}
 use Rattle.ocr_legality.specs.Asked.{HasRoomAbove, HasRoom, IsRoom, IsRoomy, one_more, edt_numbers, HasAnswer, weighs, weight_with, CanWeigh}
 use Rattle.ocr_legality.proofs.Calls.{call_on}
 use Rattle.ocr_legality.proofs.Goes.{not_both, turned}
-use Rattle.ocr_quiet.proofs.Choices.{both_true}
 
 -- what has no face has no core
 coreless_of : (m : Option Made) (links : _) (blocks : _) (events : List EventCall) (scopes : List ScopeCall) (t : Identity) (calls : _) (loans : _) → face m links blocks events scopes ≡ part.Vacant → core m t calls loans ≡ part.Vacant
@@ -190,7 +190,7 @@ weigh_yes s past t c count weight room done run roomy is running can so =
     let on : IsCallSo s.limit (parts_of s past) t found.0 c found.1 = record { running = running; code = found.2; value = found.3; scope = found.4; output = found.5; at_home = found.6 } in
     (found.0, found.1, call_on s past t found.0 c found.1 [] run on, weight_by c found.1 count done (ap is_done found.2 ∙ sym is) ∙ so)
 
-sure : (b : Bool) (P : Type 0) → Whether b P → P → b ≡ true
+pub sure : (b : Bool) (P : Type 0) → Whether b P → P → b ≡ true
 sure true P is p = refl
 sure false P is p = absurd (is.no refl p)
 
@@ -205,7 +205,7 @@ weigh s past table room t c count weight done may so result of run roomy is test
     let done_is : done ≡ is_done (code_of t (parts_of s past).face c) = is ∙ ap (λ (f : Parts). is_done (code_of t f.face c)) of.parts in
     let here = subst (Whether may) (may_is s past table t c room done of) tested in
     turned result (may && so) (CanWeigh s.limit (parts_of s past) t c count weight) both (record {
-      yes = λ on. (let two = both_true may so on in let can = here.yes two.0 in weigh_yes s past t c count weight room done run roomy done_is can.0 can.1 (weighed.yes two.1));
+      yes = λ on. (let two = and_parts may so on in let can = here.yes two.0 in weigh_yes s past t c count weight room done run roomy done_is can.0 can.1 (weighed.yes two.1));
       no = λ off can. (
           let on : may ≡ true = sure may _ here (can.2.running, has_answer s.limit (parts_of s past) t can.0 c can.1 room done roomy (ap is_done can.2.code ∙ sym done_is) can.2) in
           let right : so ≡ true = sure so _ weighed (sym (weight_by c can.1 count done (ap is_done can.2.code ∙ sym done_is)) ∙ can.3) in

@@ -17,14 +17,13 @@ use Rattle.ocr_parts.specs.Legal.{IsRun}
 use Rattle.ocr_parts.proofs.After.{accepted, done_is}
 use Rattle.ocr_table.specs.Table.{state_in, core_on, IsOf}
 use Rattle.ocr_table.specs.declared.table.Table.{Table}
-use Rattle.ocr_quiet.proofs.Choices.{or_left, not_off, done_kinds}
+use Rattle.ocr_quiet.proofs.Choices.{done_kinds}
 use Rattle.ocr_standing.proofs.Held.{held_law}
 use Rattle.ocr_standing.proofs.Working.{freeing_law, dooming_law}
 use Rattle.ocr_legality.specs.Tests.{Whether, MayEnter, IsDeliverable, AnswersSo, IsCallSo, is_this}
 use Rattle.ocr_legality.proofs.Goes.{not_both, and_is, turned}
 use Rattle.ocr_history.specs.declared.entry.What.TheVariants as what
-use Rattle.ocr_quiet.proofs.Choices.{both_true}
-use Rattle.std.proofs.lemmas.Bool.{eqb-true, eq-eqb}
+use Rattle.std.proofs.lemmas.Bool.{eqb-true, eq-eqb, or_parts, and_parts, not-false}
 
 -- A HOLD THAT ENDS by a call
 release_held : (x : Part) (t : ℕ) → release_code x t ≡ code.Done → is_held_by x t ≡ true
@@ -41,7 +40,7 @@ answered s past t (call.DbRelease d) a run running is so = (
 answered s past t (call.DbDestroy d) a run running is so = (
   (λ on.
       let done : code_of t (parts_of s past).face (call.DbDestroy d) ≡ code.Done = sym is ∙ done_is a.code on in
-      dooming_law s past t d run running (not_off (is_block ((parts_of s past).face d)) (or_left (is_of_other_kind ABlock ((parts_of s past).face d)) false (done_kinds t (parts_of s past).face (call.DbDestroy d) done)))),
+      dooming_law s past t d run running (not-false (is_block ((parts_of s past).face d)) (or_parts (is_of_other_kind ABlock ((parts_of s past).face d)) false (done_kinds t (parts_of s past).face (call.DbDestroy d) done)).0)),
   so,
 )
 answered s past t other a run running is so = so
@@ -84,7 +83,7 @@ free_tested s past table t d w of run =
     let is_least : least_of (holds_of (work_of (core_on table t))) ≡ least_of (holds_of (work_of ((parts_of s past).core t))) = ap (λ (f : Parts). least_of (holds_of (work_of (f.core t)))) of.parts in
     record {
       yes = λ on.
-          let both = both_true (is_running (core_on table t)) (is_this (least_of (holds_of (work_of (core_on table t)))) d) on in
+          let both = and_parts (is_running (core_on table t)) (is_this (least_of (holds_of (work_of (core_on table t)))) d) on in
           (freeing_law s past t d run (sym is_run ∙ both.0) (sym is_least ∙ this_is (least_of (holds_of (work_of (core_on table t)))) d both.1), tt);
       no = λ off may. not_both (is_running (core_on table t)) (is_this (least_of (holds_of (work_of (core_on table t)))) d) off (is_run ∙ may.0.running)
           (is_so (least_of (holds_of (work_of (core_on table t)))) d (is_least ∙ may.0.least));
@@ -101,7 +100,7 @@ end_tested s past table t g of run =
     let is_holds : holds_of (work_of (core_on table t)) ≡ holds_of (work_of ((parts_of s past).core t)) = ap (λ (f : Parts). holds_of (work_of (f.core t))) of.parts in
     record {
       yes = λ on.
-          let both = both_true (is_running (core_on table t)) (not (is_some (least_of (holds_of (work_of (core_on table t)))))) on in
+          let both = and_parts (is_running (core_on table t)) (not (is_some (least_of (holds_of (work_of (core_on table t)))))) on in
           (record { running = sym is_run ∙ both.0; nothing_held = sym is_holds ∙ nothing_held (holds_of (work_of (core_on table t))) both.1 }, tt);
       no = λ off may. not_both (is_running (core_on table t)) (not (is_some (least_of (holds_of (work_of (core_on table t)))))) off (is_run ∙ may.0.running)
           (ap (λ (holds : List (ℕ × Mode)). not (is_some (least_of holds))) (is_holds ∙ may.0.nothing_held));

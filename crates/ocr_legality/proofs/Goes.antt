@@ -1,6 +1,6 @@
 -- Tests of the parts tell whether an EDT may go on.
-use Rattle.std.proofs.Common.{◌≡◌, ◌↔◌, ◌⊎◌, inl, inr, ℕ, List, [], Bool, true, false, Option, Some, None, ◌==◌, ◌&&◌, ◌||◌, not, refl, sym, ◌∙◌, ap, subst, is_some}
-use Rattle.std.proofs.lemmas.Bool.{eqb-true, eq-eqb}
+use Rattle.std.proofs.Common.{◌≡◌, ◌↔◌, inl, inr, ℕ, List, [], Bool, true, false, Option, Some, None, ◌==◌, ◌&&◌, ◌||◌, not, refl, sym, ◌∙◌, ap, subst, is_some}
+use Rattle.std.proofs.lemmas.Bool.{eqb-true, eq-eqb, and_from, or_left, or_right, and_parts, or_cases, not-true, not_from_false, and_right, or_parts}
 use Rattle.ocr_acquire.specs.declared.Mode.{Mode}
 use Rattle.ocr_acquire.specs.Mode.{is_null}
 use Rattle.ocr_datablock.specs.Block as block
@@ -21,7 +21,6 @@ use Rattle.ocr_table.specs.Table.{face_on, core_on, IsOf}
 use Rattle.ocr_table.specs.declared.table.Table.{Table}
 use Rattle.ocr_quiet.specs.Quiet.{IsWakingOf}
 use Rattle.ocr_quiet.specs.Waits.{is_gone_on}
-use Rattle.ocr_quiet.proofs.Choices.{both_true}
 use Rattle.ocr_quiet.proofs.Passing.{gone_is}
 use Rattle.ocr_standing.specs.Plain.{grants, IsAvailable, IsUnavailable}
 use Rattle.ocr_standing.proofs.Plain.{IsNow, now_next, acquire_on, wait_on, stale_on, taken_available, refused_unavailable}
@@ -38,68 +37,44 @@ pub not_both : (a b : Bool) → (a && b) ≡ false → a ≡ true → b ≡ true
 not_both true b off one two = cc (off, two)
 not_both false b off one two = cc one
 
-either : (a b : Bool) → (a || b) ≡ true → (a ≡ true) ⊎ (b ≡ true)
-either true b is = inl refl
-either false b is = inr is
-
-or_one : (a b : Bool) → a ≡ true → (a || b) ≡ true
-or_one true b is = refl
-or_one false b is = cc is
-
-or_two : (a b : Bool) → b ≡ true → (a || b) ≡ true
-or_two true b is = refl
-or_two false b is = is
-
-and_both : (a b : Bool) → a ≡ true → b ≡ true → (a && b) ≡ true
-and_both true b one two = two
-and_both false b one two = cc one
-
-not_yes : (b : Bool) → not b ≡ true → b ≡ false
-not_yes true is = cc is
-not_yes false is = refl
-
-yes_not : (b : Bool) → b ≡ false → not b ≡ true
-yes_not true is = cc is
-yes_not false is = refl
-
 -- THE NEXT BLOCK is this one
 at_some : (o : Option (ℕ × Mode)) (d : ℕ) (test : Mode → Bool) → is_at o d test ≡ true → (m : Mode) × (o ≡ Some (d, m)) × (test m ≡ true)
 at_some None d test is = cc is
 at_some (Some next) d test is =
-    let both = both_true (next.0 == d) (test next.1) is in
+    let both = and_parts (next.0 == d) (test next.1) is in
     (next.1, ap (λ (n : ℕ). Some (n, next.1)) (eqb-true next.0 d both.0), both.1)
 
 at_is : (o : Option (ℕ × Mode)) (d : ℕ) (m : Mode) (test : Mode → Bool) → o ≡ Some (d, m) → test m ≡ true → is_at o d test ≡ true
-at_is o d m test is on = ap (λ (p : Option (ℕ × Mode)). is_at p d test) is ∙ and_both (d == d) (test m) (eq-eqb d d refl) on
+at_is o d m test is on = ap (λ (p : Option (ℕ × Mode)). is_at p d test) is ∙ and_from (d == d) (test m) (eq-eqb d d refl) on
 
 -- OF ONE BLOCK
 open_available : (x : Part) (t : ℕ) (m : Mode) → is_open x t m ≡ true → IsAvailable x t m
-open_available x t m is = elim (either (is_held_by x t) (opens x m) is) [
+open_available x t m is = elim (or_cases (is_held_by x t) (opens x m) is) [
   | inl held ↦ inl held
   | inr can ↦ inr (opens_grants x m can)
 ]
   where
     opens_grants : (x : Part) (m : Mode) → opens x m ≡ true → grants x m ≡ true
-    opens_grants (part.Block st) m is = (both_true (not (is_null m)) (block.is_grantable st m) is).1
+    opens_grants (part.Block st) m is = (and_parts (not (is_null m)) (block.is_grantable st m) is).1
     opens_grants other m is = cc is
 
 grants_opens : (x : Part) (m : Mode) → is_null m ≡ false → grants x m ≡ true → opens x m ≡ true
-grants_opens (part.Block st) m used is = and_both (not (is_null m)) (block.is_grantable st m) (yes_not (is_null m) used) is
+grants_opens (part.Block st) m used is = and_from (not (is_null m)) (block.is_grantable st m) (not_from_false (is_null m) used) is
 grants_opens other m used is = cc is
 
 available_open : (x : Part) (t : ℕ) (m : Mode) → is_null m ≡ false → IsAvailable x t m → is_open x t m ≡ true
-available_open x t m used (inl held) = or_one (is_held_by x t) (opens x m) held
-available_open x t m used (inr can) = or_two (is_held_by x t) (opens x m) (grants_opens x m used can)
+available_open x t m used (inl held) = or_left (is_held_by x t) (opens x m) held
+available_open x t m used (inr can) = or_right (is_held_by x t) (opens x m) (grants_opens x m used can)
 
 shut_is : (x : Part) (m : Mode) → shuts x m ≡ true → (grants x m ≡ false) × (is_gone_on x ≡ false)
 shut_is (part.Block st) m is =
-    let one = both_true (not (is_null m)) _ is in
-    let two = both_true (not (block.is_grantable st m)) (not (block.is_gone st)) one.1 in
-    (not_yes (block.is_grantable st m) two.0, not_yes (block.is_gone st) two.1)
+    let one = and_parts (not (is_null m)) _ is in
+    let two = and_parts (not (block.is_grantable st m)) (not (block.is_gone st)) one.1 in
+    (not-true (block.is_grantable st m) two.0, not-true (block.is_gone st) two.1)
 shut_is other m is = cc is
 
 is_shut : (x : Part) (t : ℕ) (m : Mode) (P : _) → IsBlock x P → is_null m ≡ false → IsUnavailable x t m → shuts x m ≡ true
-is_shut (part.Block st) t m P is used un = and_both (not (is_null m)) _ (yes_not (is_null m) used) (and_both (not (block.is_grantable st m)) (not (block.is_gone st)) (yes_not (block.is_grantable st m) un.not_grantable) (yes_not (block.is_gone st) un.not_gone))
+is_shut (part.Block st) t m P is used un = and_from (not (is_null m)) _ (not_from_false (is_null m) used) (and_from (not (block.is_grantable st m)) (not (block.is_gone st)) (not_from_false (block.is_grantable st m) un.not_grantable) (not_from_false (block.is_gone st) un.not_gone))
 is_shut other t m P is used un = absurd is
 
 -- OF ONE CORE
@@ -147,7 +122,7 @@ pub acquire_tested : (s : Setting) (past : History) (table : Table) (t d : ℕ) 
     → Whether (full && is_at next d (is_open (face_on table d) t)) (MayEnter s past (Acquire t d))
 acquire_tested s past table t d full next is = record {
   yes = λ on.
-      let both = both_true full (is_at next d (is_open (face_on table d) t)) on in
+      let both = and_parts full (is_at next d (is_open (face_on table d) t)) on in
       let here = at_some next d (is_open (face_on table d) t) both.1 in
       let now = found s past table t d full next here.0 is both.0 here.1 in
       let avail = open_available ((parts_of s past).face d) t here.0 (ap (λ (x : Part). is_open x t here.0) (sym (face_is s past table d is.of)) ∙ here.2) in
@@ -166,8 +141,8 @@ pub wait_tested : (s : Setting) (past : History) (table : Table) (t d : ℕ) (fu
     → Whether (full && (begins (core_on table t) && is_at next d (shuts (face_on table d)))) (MayEnter s past (Wait t d))
 wait_tested s past table t d full next is = record {
   yes = λ on.
-      let one = both_true full _ on in
-      let two = both_true (begins (core_on table t)) (is_at next d (shuts (face_on table d))) one.1 in
+      let one = and_parts full _ on in
+      let two = and_parts (begins (core_on table t)) (is_at next d (shuts (face_on table d))) one.1 in
       let here = at_some next d (shuts (face_on table d)) two.1 in
       let now = found s past table t d full next here.0 is one.0 here.1 in
       let shut = shut_is ((parts_of s past).face d) here.0 (ap (λ (x : Part). shuts x here.0) (sym (face_is s past table d is.of)) ∙ here.2) in
@@ -178,7 +153,7 @@ wait_tested s past table t d full next is = record {
       let here : next ≡ Some (d, m) = is.next_is ∙ may.0.next in
       let now = found s past table t d full next m is on here in
       let shut : shuts ((parts_of s past).face d) m ≡ true = is_shut ((parts_of s past).face d) t m _ may.0.refused now.facts.used (refused_unavailable ((parts_of s past).face d) t m may.0.refused) in
-      not_both full _ off on (and_both (begins (core_on table t)) (is_at next d (shuts (face_on table d))) (sym (begins_is s past table t is.of) ∙ may.0.acquiring)
+      not_both full _ off on (and_from (begins (core_on table t)) (is_at next d (shuts (face_on table d))) (sym (begins_is s past table t is.of) ∙ may.0.acquiring)
       (at_is next d m (shuts (face_on table d)) here (ap (λ (x : Part). shuts x m) (face_is s past table d is.of) ∙ shut)));
 }
 
@@ -186,7 +161,7 @@ pub stale_tested : (s : Setting) (past : History) (table : Table) (t d : ℕ) (f
     → Whether (full && is_at next d (λ (m : Mode). is_gone_on (face_on table d))) (MayEnter s past (StaleAcquire t d))
 stale_tested s past table t d full next is = record {
   yes = λ on.
-      let both = both_true full _ on in
+      let both = and_parts full _ on in
       let here = at_some next d (λ (m : Mode). is_gone_on (face_on table d)) both.1 in
       let now = found s past table t d full next here.0 is both.0 here.1 in
       (stale_on s past t d here.0 now (ap is_gone_on (sym (face_is s past table d is.of)) ∙ here.2), is.full_is.0 both.0);
@@ -204,11 +179,11 @@ pub start_tested : (s : Setting) (past : History) (table : Table) (t : ℕ) (ful
     → Whether (full && (begins (core_on table t) && not (is_some next))) (MayEnter s past (Start t))
 start_tested s past table t full next is = record {
   yes = λ on.
-      let one = both_true full _ on in
-      let two = both_true (begins (core_on table t)) (not (is_some next)) one.1 in
+      let one = and_parts full _ on in
+      let two = and_parts (begins (core_on table t)) (not (is_some next)) one.1 in
       (record { acquiring = begins_is s past table t is.of ∙ two.0; through = sym is.next_is ∙ through_none next two.1 }, is.full_is.0 one.0);
   no = λ off may.
-      not_both full _ off (is.full_is.1 may.1) (and_both (begins (core_on table t)) (not (is_some next)) (sym (begins_is s past table t is.of) ∙ may.0.acquiring)
+      not_both full _ off (is.full_is.1 may.1) (and_from (begins (core_on table t)) (not (is_some next)) (sym (begins_is s past table t is.of) ∙ may.0.acquiring)
       (ap (λ (o : Option (ℕ × Mode)). not (is_some o)) (is.next_is ∙ may.0.through)));
 }
 
@@ -216,14 +191,6 @@ start_tested s past table t full next is = record {
 only : (a b : Bool) → (a && b) ≡ false → a ≡ true → b ≡ false
 only true b off on = off
 only false b off on = cc on
-
-and_off : (a b : Bool) → b ≡ false → (a && b) ≡ false
-and_off true b off = off
-and_off false b off = refl
-
-none_or : (a b : Bool) → (a || b) ≡ false → (a ≡ false) × (b ≡ false)
-none_or true b off = cc off
-none_or false b off = (refl, off)
 
 at_off : (n d : ℕ) (test : ℕ → Bool) → test n ≡ false → ((n == d) && test d) ≡ false
 at_off n d test off = elim (n == d) as (λ b. (n == d) ≡ b → (b && test d) ≡ false) [
@@ -233,30 +200,30 @@ at_off n d test off = elim (n == d) as (λ b. (n == d) ≡ b → (b && test d) �
 
 begins_going : (face : ℕ → Part) (core : Part) (t : ℕ) (next : Option (ℕ × Mode)) → begins core ≡ true → is_going face core t next ≡ true
 begins_going face core t None is = is
-begins_going face core t (Some next) is = or_two (is_open (face next.0) t next.1) (is_gone_on (face next.0) || begins core) (or_two (is_gone_on (face next.0)) (begins core) is)
+begins_going face core t (Some next) is = or_right (is_open (face next.0) t next.1) (is_gone_on (face next.0) || begins core) (or_right (is_gone_on (face next.0)) (begins core) is)
 
 open_off : (face : ℕ → Part) (core : Part) (t d : ℕ) (next : Option (ℕ × Mode)) → is_going face core t next ≡ false → is_at next d (is_open (face d) t) ≡ false
 open_off face core t d None off = refl
-open_off face core t d (Some next) off = at_off next.0 d (λ (k : ℕ). is_open (face k) t next.1) (none_or (is_open (face next.0) t next.1) (is_gone_on (face next.0) || begins core) off).0
+open_off face core t d (Some next) off = at_off next.0 d (λ (k : ℕ). is_open (face k) t next.1) (or_parts (is_open (face next.0) t next.1) (is_gone_on (face next.0) || begins core) off).0
 
 gone_off : (face : ℕ → Part) (core : Part) (t d : ℕ) (next : Option (ℕ × Mode)) → is_going face core t next ≡ false → is_at next d (λ (m : Mode). is_gone_on (face d)) ≡ false
 gone_off face core t d None off = refl
-gone_off face core t d (Some next) off = at_off next.0 d (λ (k : ℕ). is_gone_on (face k)) (none_or (is_gone_on (face next.0)) (begins core) (none_or (is_open (face next.0) t next.1) (is_gone_on (face next.0) || begins core) off).1).0
+gone_off face core t d (Some next) off = at_off next.0 d (λ (k : ℕ). is_gone_on (face k)) (or_parts (is_gone_on (face next.0)) (begins core) (or_parts (is_open (face next.0) t next.1) (is_gone_on (face next.0) || begins core) off).1).0
 
 closed_ungranted : (x : Part) (t : ℕ) (m : Mode) → is_null m ≡ false → is_open x t m ≡ false → grants x m ≡ false
 closed_ungranted x t m used off = elim (grants x m) as (λ b. grants x m ≡ b → b ≡ false) [
-  | true ↦ λ is. cc (or_two (is_held_by x t) (opens x m) (grants_opens x m used is), off)
+  | true ↦ λ is. cc (or_right (is_held_by x t) (opens x m) (grants_opens x m used is), off)
   | false ↦ λ is. refl
 ] refl
 
 starts : (s : Setting) (past : History) (table : Table) (t : ℕ) (full : Bool) → IsTested s past table t full None → full ≡ true → begins (core_on table t) ≡ true → MayGoOn s past t
-starts s past table t full is on begun = (Start t, refl, (start_tested s past table t full None is).yes (and_both full _ on (and_both (begins (core_on table t)) true begun refl)))
+starts s past table t full is on begun = (Start t, refl, (start_tested s past table t full None is).yes (and_from full _ on (and_from (begins (core_on table t)) true begun refl)))
 
 acquires : (s : Setting) (past : History) (table : Table) (t d : ℕ) (m : Mode) (full : Bool) → IsTested s past table t full (Some (d, m)) → full ≡ true → is_open (face_on table d) t m ≡ true → MayGoOn s past t
-acquires s past table t d m full is on can = (Acquire t d, refl, (acquire_tested s past table t d full (Some (d, m)) is).yes (and_both full _ on (and_both (d == d) (is_open (face_on table d) t m) (eq-eqb d d refl) can)))
+acquires s past table t d m full is on can = (Acquire t d, refl, (acquire_tested s past table t d full (Some (d, m)) is).yes (and_from full _ on (and_from (d == d) (is_open (face_on table d) t m) (eq-eqb d d refl) can)))
 
 finds_gone : (s : Setting) (past : History) (table : Table) (t d : ℕ) (m : Mode) (full : Bool) → IsTested s past table t full (Some (d, m)) → full ≡ true → is_gone_on (face_on table d) ≡ true → MayGoOn s past t
-finds_gone s past table t d m full is on gone = (StaleAcquire t d, refl, (stale_tested s past table t d full (Some (d, m)) is).yes (and_both full _ on (and_both (d == d) (is_gone_on (face_on table d)) (eq-eqb d d refl) gone)))
+finds_gone s past table t d m full is on gone = (StaleAcquire t d, refl, (stale_tested s past table t d full (Some (d, m)) is).yes (and_from full _ on (and_from (d == d) (is_gone_on (face_on table d)) (eq-eqb d d refl) gone)))
 
 waits : (s : Setting) (past : History) (table : Table) (t d : ℕ) (m : Mode) (full : Bool) → IsTested s past table t full (Some (d, m)) → full ≡ true → begins (core_on table t) ≡ true
     → is_open (face_on table d) t m ≡ false → is_gone_on (face_on table d) ≡ false → MayGoOn s past t
@@ -276,9 +243,9 @@ begins_on s past table t d m full is on begun = elim (is_open (face_on table d) 
 
 going_yes : (s : Setting) (past : History) (table : Table) (t : ℕ) (full : Bool) (next : Option (ℕ × Mode)) → IsTested s past table t full next → full ≡ true → is_going (face_on table) (core_on table t) t next ≡ true → MayGoOn s past t
 going_yes s past table t full None is on going = starts s past table t full is on going
-going_yes s past table t full (Some next) is on going = elim (either (is_open (face_on table next.0) t next.1) (is_gone_on (face_on table next.0) || begins (core_on table t)) going) [
+going_yes s past table t full (Some next) is on going = elim (or_cases (is_open (face_on table next.0) t next.1) (is_gone_on (face_on table next.0) || begins (core_on table t)) going) [
   | inl can ↦ acquires s past table t next.0 next.1 full is on can
-  | inr other ↦ elim (either (is_gone_on (face_on table next.0)) (begins (core_on table t)) other) [
+  | inr other ↦ elim (or_cases (is_gone_on (face_on table next.0)) (begins (core_on table t)) other) [
     | inl gone ↦ finds_gone s past table t next.0 next.1 full is on gone
     | inr begun ↦ begins_on s past table t next.0 next.1 full is on begun
   ]
@@ -289,11 +256,11 @@ going_no : (s : Setting) (past : History) (table : Table) (t : ℕ) (full : Bool
 going_no s past table t full next is off (Acquire u d) waking may =
     let here : MayEnter s past (Acquire t d) = subst (λ (v : ℕ). MayEnter s past (Acquire v d)) waking may in
     let closed = only full (is_going (face_on table) (core_on table t) t next) off (is.full_is.1 here.1) in
-    (acquire_tested s past table t d full next is).no (and_off full (is_at next d (is_open (face_on table d) t)) (open_off (face_on table) (core_on table t) t d next closed)) here
+    (acquire_tested s past table t d full next is).no (and_right full (is_at next d (is_open (face_on table d) t)) (open_off (face_on table) (core_on table t) t d next closed)) here
 going_no s past table t full next is off (StaleAcquire u d) waking may =
     let here : MayEnter s past (StaleAcquire t d) = subst (λ (v : ℕ). MayEnter s past (StaleAcquire v d)) waking may in
     let closed = only full (is_going (face_on table) (core_on table t) t next) off (is.full_is.1 here.1) in
-    (stale_tested s past table t d full next is).no (and_off full (is_at next d (λ (m : Mode). is_gone_on (face_on table d))) (gone_off (face_on table) (core_on table t) t d next closed)) here
+    (stale_tested s past table t d full next is).no (and_right full (is_at next d (λ (m : Mode). is_gone_on (face_on table d))) (gone_off (face_on table) (core_on table t) t d next closed)) here
 going_no s past table t full next is off (Wait u d) waking may =
     let here : MayEnter s past (Wait t d) = subst (λ (v : ℕ). MayEnter s past (Wait v d)) waking may in
     let begun = sym (begins_is s past table t is.of) ∙ here.0.acquiring in
@@ -307,6 +274,6 @@ going_no s past table t full next is off other waking may = absurd waking
 pub going_tested : (s : Setting) (past : History) (table : Table) (t : ℕ) (full : Bool) (next : Option (ℕ × Mode)) → IsTested s past table t full next
     → Whether (full && is_going (face_on table) (core_on table t) t next) (MayGoOn s past t)
 going_tested s past table t full next is = record {
-  yes = λ on. let both = both_true full (is_going (face_on table) (core_on table t) t next) on in going_yes s past table t full next is both.0 both.1;
+  yes = λ on. let both = and_parts full (is_going (face_on table) (core_on table t) t next) on in going_yes s past table t full next is both.0 both.1;
   no = λ off may. going_no s past table t full next is off may.0 may.1 may.2;
 }

@@ -31,7 +31,7 @@ none_above limit f (suc count) has = absurd (let above = has.1 in let within = h
 pub counted_first : (limit : ℕ) (f : Parts) → IsCounted limit f limit 0
 counted_first limit f = record { there = tt; most = none_above limit f; small = omega arith }
 
-same_or_above : (n g : ℕ) → n ≤ g → (g ≡ n) ⊎ (n < g)
+pub same_or_above : (n g : ℕ) → n ≤ g → (g ≡ n) ⊎ (n < g)
 same_or_above zero zero le = inl refl
 same_or_above zero (suc g) le = inr (omega arith)
 same_or_above (suc n) zero le = absurd (omega (arith, le))

@@ -1,7 +1,7 @@
 -- What an accepted call tells of the parts at hand.
 use Rattle.std.proofs.Common.{◌≡◌, ◌≤◌, ℕ, List, [], ◌∷◌, length, Bool, true, false, ◌&&◌, ◌==◌, if◌then◌else◌, refl, sym, ◌∙◌, ap, subst, arith}
 use Rattle.std.proofs.lemmas.Grind.{common_steps}
-use Rattle.std.proofs.lemmas.Bool.{eqb-true}
+use Rattle.std.proofs.lemmas.Bool.{eqb-true, or_parts}
 use Rattle.ocr_guid.specs.declared.Code.TheVariants as code
 use Rattle.ocr_meaning.specs.Holds.{is_done}
 use Rattle.ocr_meaning.specs.declared.call.Call as body
@@ -19,7 +19,6 @@ use Rattle.ocr_parts.specs.LegalOn.{IsDooming, IsBeside, IsJoinable, last_of}
 use Rattle.ocr_parts.specs.Parts.{Parts}
 use Rattle.ocr_parts.proofs.After.{accepted as accepted_code, of_kind, not_stale, not_missing, not_other, no_other}
 use Rattle.ocr_parts.proofs.Beside.{home_stays}
-use Rattle.ocr_parts.proofs.Choices.{or_left, or_rest}
 use Rattle.ocr_parts.proofs.Fresh.{some_named}
 use Rattle.ocr_hand.specs.AtHand.{AtHand, state, IsAccepted, AreOthers, HasRoom, slots_meant}
 
@@ -71,7 +70,7 @@ not_vacant f g d vacant there = elim (g == d) as (λ b. (g == d) ≡ b → b ≡
 others : (f : ℕ → Part) (g : ℕ) (ds : List ℕ) → f g ≡ part.Vacant → is_any is_missing f (wanted_sources ds) ≡ false → AreOthers g ds
 others f g [] vacant are = tt
 others f g (d ∷ rest) vacant are = elim (is_object d) as (λ b. is_any is_missing f (if b then (d, Source) ∷ wanted_sources rest else wanted_sources rest) ≡ false → (b ≡ true → (g == d) ≡ false) × AreOthers g rest) [
-  | true ↦ λ is. (λ _. not_vacant f g d vacant (or_left (is_vacant (f d)) _ is), others f g rest vacant (or_rest (is_vacant (f d)) _ is))
+  | true ↦ λ is. (λ _. not_vacant f g d vacant (or_parts (is_vacant (f d)) _ is).0, others f g rest vacant (or_parts (is_vacant (f d)) _ is).1)
   | false ↦ λ is. (λ wrong. cc wrong, others f g rest vacant is)
 ] are
 
@@ -83,7 +82,7 @@ beside_vacant false limit f other n none beside = ap f.face beside ∙ none
 pub room : (h : AtHand) (t home from pc : ℕ) (ps : List ℕ) (dc : ℕ) (ds : List ℕ) (fl : ℕ) (o : Bool) (a : Answer) (w : List (ℕ × ℕ)) → IsAccepted h t home (call.EdtCreate from pc ps dc ds fl o) a w → HasRoom h a ds
 room h t home from pc ps dc ds fl o a w accepted =
     let f : ℕ → Part = (state h).face in
-    let there : is_any is_missing f (wanted_sources ds) ≡ false = or_rest (is_vacant (f from)) _ (not_missing t f (call.EdtCreate from pc ps dc ds fl o) (code_done h t home (call.EdtCreate from pc ps dc ds fl o) a w accepted)) in
+    let there : is_any is_missing f (wanted_sources ds) ≡ false = (or_parts (is_vacant (f from)) _ (not_missing t f (call.EdtCreate from pc ps dc ds fl o) (code_done h t home (call.EdtCreate from pc ps dc ds fl o) a w accepted))).1 in
     record {
       face = accepted.made.face refl;
       core = accepted.made.core refl;

@@ -1,8 +1,9 @@
 -- What an entry names is in its footprint, whose numbers are those of parts.
 use Rattle.std.proofs.Common.{◌≡◌, inl, inr, ℕ, zero, suc, ◌+◌, ◌-◌, ◌<◌, ◌≤◌, List, [], ◌∷◌, length, slice_index_or, Bool, true, false, ◌==◌, ◌||◌, ◌&&◌, nat_lt, if◌then◌else◌, arith, refl, sym, ◌∙◌, ap, subst}
 use Rattle.std.proofs.lemmas.Grind.{common_steps}
-use Rattle.std.proofs.lemmas.Bool.{eqb-true}
+use Rattle.std.proofs.lemmas.Bool.{eqb-true, and_parts, or_cases}
 use Rattle.std.specs.List.{All}
+use Rattle.std.proofs.Math.Bool.{or-true}
 use Rattle.ocr_history.specs.Made.{names_new}
 use Rattle.ocr_history.specs.Numbers.{is_in, placed}
 use Rattle.ocr_history.specs.declared.entry.Entry.{Entry}
@@ -22,11 +23,11 @@ use Rattle.ocr_parts.specs.Parts.{Parts}
 use Rattle.ocr_parts.specs.Taken.{is_within, keys}
 use Rattle.ocr_parts.specs.declared.part.Part.{Part}
 use Rattle.ocr_parts.proofs.Beside.{beside_is}
-use Rattle.ocr_parts.proofs.Choices.{same, or_right}
-use Rattle.ocr_parts.proofs.Fresh.{both_of, either_of, number_named}
-use Rattle.ocr_parts.proofs.Local.{call_named}
+use Rattle.ocr_parts.proofs.Fresh.{number_named}
+use Rattle.ocr_parts.proofs.Local.{call_named, named_self}
 use Rattle.ocr_hand.specs.AtHand.{AtHand, state, HasMade, HasNamed}
-use Rattle.ocr_hand.proofs.Places.{has_keys, no_face, back_again}
+use Rattle.ocr_hand.proofs.Places.{has_keys, no_face, back_again, core_number}
+use Rattle.ocr_base.proofs.Booleans.{same}
 
 or_swap : (a b c : Bool) → (a || (b || c)) ≡ (b || (a || c))
 or_swap true true c = refl
@@ -58,13 +59,13 @@ core_in_it limit t xs within = rw (within, in_placed (limit + t) (limit + t) xs,
 
 pub stays_face : (limit g n : ℕ) (xs : List ℕ) → is_in n xs ≡ true → is_in n (and_face limit g xs) ≡ true
 stays_face limit g n xs is = elim (is_within limit g) as (λ b. is_in n (if b then placed g xs else xs) ≡ true) [
-  | true ↦ rw (in_placed n g xs, is) (or_right (g == n))
+  | true ↦ rw (in_placed n g xs, is) (or-true (g == n))
   | false ↦ is
 ]
 
 pub stays_core : (limit t n : ℕ) (xs : List ℕ) → is_in n xs ≡ true → is_in n (and_core limit t xs) ≡ true
 stays_core limit t n xs is = elim (is_within limit t) as (λ b. is_in n (if b then placed (limit + t) xs else xs) ≡ true) [
-  | true ↦ rw (in_placed n (limit + t) xs, is) (or_right ((limit + t) == n))
+  | true ↦ rw (in_placed n (limit + t) xs, is) (or-true ((limit + t) == n))
   | false ↦ is
 ]
 
@@ -80,7 +81,7 @@ wanted_stays limit (one ∷ rest) xs n is = stays_face limit one.0 n _ (wanted_s
 
 wanted_face : (limit : ℕ) (ws : List (ℕ × Sort)) (xs : List ℕ) (g : ℕ) → is_wanted g ws ≡ true → is_within limit g ≡ true → is_in g (and_wanted limit ws xs) ≡ true
 wanted_face limit [] xs g on within = cc on
-wanted_face limit (one ∷ rest) xs g on within = elim (either_of (one.0 == g) (is_wanted g rest) on) [
+wanted_face limit (one ∷ rest) xs g on within = elim (or_cases (one.0 == g) (is_wanted g rest) on) [
   | inl is ↦ face_named limit one.0 g _ is within
   | inr is ↦ stays_face limit one.0 g _ (wanted_face limit rest xs g is within)
 ]
@@ -108,16 +109,16 @@ made_core : (limit : ℕ) (c : body.Call) (a : Answer) (xs : List ℕ) (u : ℕ)
 made_core limit c a xs u makes is within = rw (core_creates c makes, makes) (stays_face limit a.value (limit + u) _ (core_named limit a.value u xs is within))
 
 call_face : (limit : ℕ) (c : body.Call) (a : Answer) (xs : List ℕ) (g : ℕ) → names_face c a g ≡ true → is_within limit g ≡ true → is_in g (call_footprint limit c a xs) ≡ true
-call_face limit c a xs g on within = elim (either_of (is_wanted g (wanted c)) (is_creation c && (a.value == g)) on) [
+call_face limit c a xs g on within = elim (or_cases (is_wanted g (wanted c)) (is_creation c && (a.value == g)) on) [
   | inl is ↦ wanted_face limit (wanted c) _ g is within
-  | inr is ↦ wanted_stays limit (wanted c) _ g (let two = both_of (is_creation c) (a.value == g) is in made_face limit c a xs g two.0 two.1 within)
+  | inr is ↦ wanted_stays limit (wanted c) _ g (let two = and_parts (is_creation c) (a.value == g) is in made_face limit c a xs g two.0 two.1 within)
 ]
 
 call_core : (limit : ℕ) (t : ℕ) (c : body.Call) (a : Answer) (u : ℕ) → ((t == u) || (makes_core c && (a.value == u))) ≡ true → is_within limit u ≡ true
     → is_in (limit + u) (call_footprint limit c a (and_core limit t [])) ≡ true
-call_core limit t c a u on within = wanted_stays limit (wanted c) _ (limit + u) (elim (either_of (t == u) (makes_core c && (a.value == u)) on) [
+call_core limit t c a u on within = wanted_stays limit (wanted c) _ (limit + u) (elim (or_cases (t == u) (makes_core c && (a.value == u)) on) [
   | inl is ↦ made_stays limit c a _ (limit + u) (core_named limit t u [] is within)
-  | inr is ↦ let two = both_of (makes_core c) (a.value == u) is in made_core limit c a _ u two.0 two.1 within
+  | inr is ↦ let two = and_parts (makes_core c) (a.value == u) is in made_core limit c a _ u two.0 two.1 within
 ])
 
 -- those of what is made beside an EDT, and of the home that it joins
@@ -129,9 +130,9 @@ beside_stays limit home (call.EdtCreate from pc ps dc ds fl o) a xs n is = stays
 beside_stays limit home other a xs n is = is
 
 beside_face : (limit home : ℕ) (c : body.Call) (a : Answer) (xs : List ℕ) (g : ℕ) → (joins c home g || names_beside c a g) ≡ true → is_within limit g ≡ true → is_in g (and_beside limit home c a xs) ≡ true
-beside_face limit home (call.EdtCreate from pc ps dc ds fl o) a xs g on within = elim (either_of (names_new home g) (names_new a.scope g || names_new a.output g) on) [
+beside_face limit home (call.EdtCreate from pc ps dc ds fl o) a xs g on within = elim (or_cases (names_new home g) (names_new a.scope g || names_new a.output g) on) [
   | inl is ↦ some_face limit home g _ is within
-  | inr more ↦ stays_face limit home g _ (elim (either_of (names_new a.scope g) (names_new a.output g) more) [
+  | inr more ↦ stays_face limit home g _ (elim (or_cases (names_new a.scope g) (names_new a.output g) more) [
     | inl is ↦ some_face limit a.scope g _ is within
     | inr is ↦ stays_face limit a.scope g _ (some_face limit a.output g xs is within)
   ])
@@ -139,7 +140,7 @@ beside_face limit home (call.EdtCreate from pc ps dc ds fl o) a xs g on within =
 beside_face limit home other a xs g on within = cc on
 
 pair_face : (limit t d : ℕ) (xs : List ℕ) (g : ℕ) → ((t == g) || (d == g)) ≡ true → is_within limit g ≡ true → is_in g (and_face limit t (and_face limit d xs)) ≡ true
-pair_face limit t d xs g on within = elim (either_of (t == g) (d == g) on) [
+pair_face limit t d xs g on within = elim (or_cases (t == g) (d == g) on) [
   | inl is ↦ face_named limit t g _ is within
   | inr is ↦ stays_face limit t g _ (face_named limit d g xs is within)
 ]
@@ -153,7 +154,7 @@ message_face limit (what.Leave x) g on within = face_named limit x g [] on withi
 message_face limit other g on within = cc on
 
 pub named_face : (limit : ℕ) (e : Entry) (g : ℕ) → on_face e g ≡ true → is_within limit g ≡ true → is_in g (footprint_of limit e) ≡ true
-named_face limit (Call t home c a w) g on within = elim (either_of (joins c home g || names_beside c a g) (names_face c a g) on) [
+named_face limit (Call t home c a w) g on within = elim (or_cases (joins c home g || names_beside c a g) (names_face c a g) on) [
   | inl is ↦ beside_face limit home c a _ g is within
   | inr is ↦ beside_stays limit home c a _ g (call_face limit c a _ g is within)
 ]
@@ -176,15 +177,12 @@ named_core limit (Free t d w) u on within = stays_face limit d (limit + u) _ (co
 named_core limit (End t returned) u on within = stays_face limit returned (limit + u) _ (core_named limit t u [] on within)
 named_core limit other u on within = cc on
 
-core_number : (limit n : ℕ) → is_within limit (n - limit) ≡ true → limit + (n - limit) ≡ n
-core_number limit n within = grind (arith, common_steps)
-
 -- THE FOOTPRINT covers the entry
 touched_named : (limit : ℕ) (e : Entry) (n : ℕ) → is_touched limit e n ≡ true → is_in n (footprint_of limit e) ≡ true
 touched_named limit e n is = elim (is_within limit n) as (λ b. is_within limit n ≡ b → (if b then on_face e n else is_within limit (n - limit) && on_core_of e (n - limit)) ≡ true → is_in n (footprint_of limit e) ≡ true) [
   | true ↦ λ within on. named_face limit e n on within
   | false ↦ λ _ on.
-      let two = both_of (is_within limit (n - limit)) (on_core_of e (n - limit)) on in
+      let two = and_parts (is_within limit (n - limit)) (on_core_of e (n - limit)) on in
       subst (λ (k : ℕ). is_in k (footprint_of limit e) ≡ true) (core_number limit n two.0) (named_core limit e (n - limit) two.1 two.0)
 ] refl is
 
@@ -209,14 +207,11 @@ touched_face limit e g within on = rw within on
 touched_core : (limit : ℕ) (e : Entry) (u : ℕ) → is_within limit u ≡ true → on_core_of e u ≡ true → is_touched limit e (limit + u) ≡ true
 touched_core limit e u within on = rw (no_face limit u within, back_again limit u, within) on
 
-named_itself : (n : ℕ) → (n == 0) ≡ false → names_new n n ≡ true
-named_itself n some = rw (some, same n) refl
-
 scope_here : (h : AtHand) (t home : ℕ) (c : body.Call) (a : Answer) (w : List (ℕ × ℕ)) → Covers h.limit (Call t home c a w) h.items → IsCallOn h.limit (state h) t home c a w → makes_core c ≡ true → HasNamed h a.scope
 scope_here h t home (call.EdtCreate from pc ps dc ds fl o) a w covers legal makes some =
     let e : Entry = Call t home (call.EdtCreate from pc ps dc ds fl o) a w in
     let within : is_within h.limit a.scope ≡ true = within_fresh h.limit (state h) a.scope (beside_is (is_done a.code && (fl == 1)) h.limit (state h) a.value a.scope legal.scope some).0 in
-    let on : on_face e a.scope ≡ true = rw (named_itself a.scope some, or_right (names_new home a.scope)) refl in
+    let on : on_face e a.scope ≡ true = rw (named_self a.scope some, or-true (names_new home a.scope)) refl in
     record { within = within; here = covers a.scope (touched_face h.limit e a.scope within on) }
 scope_here h t home other a w covers legal makes some = cc makes
 
@@ -224,7 +219,7 @@ output_here : (h : AtHand) (t home : ℕ) (c : body.Call) (a : Answer) (w : List
 output_here h t home (call.EdtCreate from pc ps dc ds fl o) a w covers legal makes some =
     let e : Entry = Call t home (call.EdtCreate from pc ps dc ds fl o) a w in
     let within : is_within h.limit a.output ≡ true = within_fresh h.limit (state h) a.output (beside_is (is_done a.code && o) h.limit (state h) (last_of a) a.output legal.output some).0 in
-    let on : on_face e a.output ≡ true = rw (named_itself a.output some, or_right (names_new a.scope a.output), or_right (names_new home a.output)) refl in
+    let on : on_face e a.output ≡ true = rw (named_self a.output some, or-true (names_new a.scope a.output), or-true (names_new home a.output)) refl in
     record { within = within; here = covers a.output (touched_face h.limit e a.output within on) }
 output_here h t home other a w covers legal makes some = cc makes
 
@@ -235,13 +230,13 @@ has_made h t home c a w covers done legal =
     record {
       face = λ creates. record {
         within = within creates;
-        here = covers a.value (touched_face h.limit (Call t home c a w) a.value (within creates) (call_named t home c a w a.value (rw (creates, same a.value) (or_right (is_wanted a.value (wanted c))))));
+        here = covers a.value (touched_face h.limit (Call t home c a w) a.value (within creates) (call_named t home c a w a.value (rw (creates, same a.value) (or-true (is_wanted a.value (wanted c))))));
       };
       core = λ makes.
           let creates : is_creation c ≡ true = core_creates c makes in
           record {
             within = within creates;
-            here = covers (h.limit + a.value) (touched_core h.limit (Call t home c a w) a.value (within creates) (rw (makes, same a.value) (or_right (t == a.value))));
+            here = covers (h.limit + a.value) (touched_core h.limit (Call t home c a w) a.value (within creates) (rw (makes, same a.value) (or-true (t == a.value))));
           };
       scope = λ makes. scope_here h t home c a w covers legal makes;
       output = λ makes. output_here h t home c a w covers legal makes;
@@ -253,7 +248,7 @@ first_or_later most m rest zero d first later below = first
 first_or_later most m rest (suc k) d first later below = later k d (omega (arith, below))
 
 small_placed : (n m most : ℕ) (xs : List ℕ) → m ≤ most → (is_in n xs ≡ true → n ≤ most) → is_in n (placed m xs) ≡ true → n ≤ most
-small_placed n m most xs small rest is = elim (either_of (m == n) (is_in n xs) (sym (in_placed n m xs) ∙ is)) [
+small_placed n m most xs small rest is = elim (or_cases (m == n) (is_in n xs) (sym (in_placed n m xs) ∙ is)) [
   | inl same ↦ subst (λ (k : ℕ). k ≤ most) (eqb-true m n same) small
   | inr more ↦ rest more
 ]
@@ -311,4 +306,4 @@ small limit other n is = nowhere n _ is
 
 pub all_small : (most : ℕ) (ns : List ℕ) → ((n : ℕ) → is_in n ns ≡ true → n ≤ most) → All (λ n. n ≤ most) ns
 all_small most [] is = λ k d below. absurd (omega (arith, below))
-all_small most (m ∷ rest) is = λ k d below. first_or_later most m rest k d (is m (rw (same m) refl)) (all_small most rest (λ n more. is n (rw more (or_right (m == n))))) below
+all_small most (m ∷ rest) is = λ k d below. first_or_later most m rest k d (is m (rw (same m) refl)) (all_small most rest (λ n more. is n (rw more (or-true (m == n))))) below

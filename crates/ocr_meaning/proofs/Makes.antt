@@ -1,5 +1,5 @@
 -- What calls a body makes.
-use Rattle.std.proofs.Common.{◌≡◌, ◌≤◌, ◌<◌, ◌+◌, ◌++◌, ◌==◌, bytes_eq, ap, sym, ◌∙◌, subst, length-append, append_assoc, ℕ, zero, suc, List, [], ◌∷◌, Bool, true, false, length, refl, arith}
+use Rattle.std.proofs.Common.{◌≡◌, ◌≤◌, ◌<◌, ◌+◌, ◌++◌, ◌==◌, bytes_eq, ap, sym, ◌∙◌, subst, length-append, append_assoc, ℕ, zero, suc, List, [], ◌∷◌, Bool, true, length, refl, arith}
 use Rattle.std.specs.Prelude.{slice_index_or}
 use Rattle.std.proofs.lemmas.Bool.{and_parts, cond_both, leb-true}
 use Rattle.std.proofs.lemmas.List.{append-nil}
@@ -8,11 +8,11 @@ use Rattle.ocr_tree.specs.Each.{is_each_call, is_each_call_of_all, is_each_call_
 use Rattle.ocr_tree.specs.Functions.{statements_at, number_named, numbers_in}
 use Rattle.ocr_tree.specs.Rules.{is_function_named, is_list_short, are_short, count_of}
 use Rattle.ocr_tree.specs.Tree as tree
-use Rattle.ocr_tree.specs.Tree.{Expression, Arguments, Statement, Statements, FunctionTree, names_in}
+use Rattle.ocr_tree.specs.Tree.{Expression, Arguments, Statement, Statements, FunctionTree}
 use Rattle.ocr_meaning.specs.Behaviour.{Behaviour, Ends, Stops, Asks, Asked, after, after_answer}
 use Rattle.ocr_meaning.specs.Body.{behaviour}
 use Rattle.ocr_meaning.specs.Laws.{IsServed, MakesOnly, ServedLaw}
-use Rattle.ocr_meaning.specs.Meaning.{Frame, State, Value, Given, nothing_given, with_value, with_list, is_output, state_after_answer, spend, with_variable, unary_value, call_of, outputs_of, made_step, eval, eval_all, turns, print_step, exec, exec_all}
+use Rattle.ocr_meaning.specs.Meaning.{Frame, State, Value, Given, nothing_given, with_value, with_list, state_after_answer, spend, with_variable, unary_value, call_of, outputs_of, made_step, eval, eval_all, turns, print_step, exec, exec_all}
 use Rattle.ocr_meaning.specs.declared.call.Answer.{Answer}
 use Rattle.ocr_meaning.specs.declared.call.Call.{Call}
 use Rattle.ocr_meaning.specs.declared.call.Call.TheVariants as call
@@ -144,7 +144,7 @@ after_makes IsSuch (asked ∷ earlier) b makes = answered_makes IsSuch (after ea
 abbrev framed : List FunctionTree → List ℕ → List ℕ → Frame
 framed program params depv = record { params = params; depv = depv; function_of = numbers_in program }
 
-number_positive : (x : List ℕ) (program : List FunctionTree) → 0 < number_named x program
+pub number_positive : (x : List ℕ) (program : List FunctionTree) → 0 < number_named x program
 number_positive x [] = omega arith
 number_positive x (f ∷ rest) = cond_both (bytes_eq f.name x) 1 (number_named x rest + 1) (λ n. 0 < n) (λ here. omega arith) (λ later. omega arith)
 

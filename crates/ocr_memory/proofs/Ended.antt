@@ -1,5 +1,5 @@
 -- Where a block is acquired in EW or CONST nobody holds it for writing, and whoever wrote into it has ended the hold.
-use Rattle.std.proofs.Common.{◌≡◌, inl, inr, ℕ, ◌<◌, ◌/◌, List, [], ◌∷◌, ◌++◌, Bool, true, false, not, Option, Some, None, ◌==◌, ◌&&◌, ◌||◌, if◌then◌else◌, refl, sym, ◌∙◌, ap, subst, is_some, arith}
+use Rattle.std.proofs.Common.{◌≡◌, inl, inr, ℕ, ◌<◌, ◌/◌, List, [], ◌∷◌, ◌++◌, Bool, true, false, not, Option, Some, None, ◌==◌, ◌&&◌, if◌then◌else◌, refl, sym, ◌∙◌, ap, subst, is_some, arith}
 use Rattle.std.proofs.lemmas.Bool.{eqb-true}
 use Rattle.ocr_base.proofs.Booleans.{same, eqb_flips}
 use Rattle.ocr_guid.specs.Target.{EventCall}
@@ -38,15 +38,15 @@ use Rattle.ocr_parts.specs.Legal.{IsRun, IsLegal}
 use Rattle.ocr_parts.proofs.After.{after_law, linked_core, deps_core}
 use Rattle.ocr_parts.proofs.Lent.{ready_core}
 use Rattle.ocr_quiet.specs.Waits.{held_in, rest_in, held_on, rest_on, IsOrdered}
-use Rattle.ocr_quiet.proofs.Choices.{off_from}
 use Rattle.ocr_quiet.proofs.Waiting.{advances}
 use Rattle.ocr_standing.specs.Held.{IsKeptWith}
 use Rattle.ocr_standing.proofs.Found.{kept_with}
 use Rattle.ocr_standing.proofs.Lasting.{made_law, not_new}
-use Rattle.ocr_standing.proofs.Own.{started_by, not_started, not_going, goes_on}
+use Rattle.ocr_standing.proofs.Own.{started_by, not_started, goes_on, still_started}
 use Rattle.ocr_standing.proofs.Plain.{next_law, now_next, acquire_law}
 use Rattle.ocr_memory.specs.Memory.{hold_of, is_for_writing, AcquiredLaw, NoWriterLaw, EndedLaw}
 use Rattle.ocr_memory.proofs.Written.{was_made, IsWrite, outcome}
+use Rattle.ocr_standing.proofs.Said.{apart}
 
 -- WHO ACQUIRES the block has not held it
 ready_edt : (members : List (ℕ × Mode)) (e : Edt) → held_in (made_ready members e) ≡ held_in e
@@ -210,18 +210,14 @@ call_came f t home c a w u d k old is = elim (is_done a.code) as (λ b. is_done 
   | false ↦ λ _ is. is
 ] refl is
 
--- EACH ENTRY
-apart_from : (past : History) (t u : ℕ) → is_started past u ≡ true → is_started past t ≡ false → (t == u) ≡ false
-apart_from past t u on off = off_from (t == u) (not_going past t u on off)
-
 came : (s : Setting) (past : History) (e : Entry) (u d : ℕ) (k : Mode) → IsRun s past → IsLegal s past e → (made s past d ≡ None → ⊥) → is_started past u ≡ true → hold_of s (e ∷ past) u d ≡ Some k → hold_of s past u d ≡ Some k
 came s past (Call t home c a w) u d k run legal there on is =
     call_came (parts_of s past) t home c a w u d k (not_new s past t home c a w d legal.on_parts there)
     (sym (ap (λ (f : Parts). mode_in d (held_on (f.core u))) (after_law s past (Call t home c a w) run legal)) ∙ is)
-came s past (Acquire t b) u d k run legal there on is = sym (other_acquires s past t b u d (apart_from past t u on (goes_on s past t _ run legal.on_facts legal.on_parts.next))) ∙ is
-came s past (Wait t b) u d k run legal there on is = sym (other_waits s past t b u d (apart_from past t u on (goes_on s past t _ run legal.on_facts legal.on_parts.next))) ∙ is
-came s past (StaleAcquire t b) u d k run legal there on is = sym (other_passes s past t b u d (apart_from past t u on (goes_on s past t _ run legal.on_facts legal.on_parts.next))) ∙ is
-came s past (Start t) u d k run legal there on is = sym (other_starts s past t u d (apart_from past t u on (not_started s past t run legal))) ∙ is
+came s past (Acquire t b) u d k run legal there on is = sym (other_acquires s past t b u d (apart past t u on (goes_on s past t _ run legal.on_facts legal.on_parts.next))) ∙ is
+came s past (Wait t b) u d k run legal there on is = sym (other_waits s past t b u d (apart past t u on (goes_on s past t _ run legal.on_facts legal.on_parts.next))) ∙ is
+came s past (StaleAcquire t b) u d k run legal there on is = sym (other_passes s past t b u d (apart past t u on (goes_on s past t _ run legal.on_facts legal.on_parts.next))) ∙ is
+came s past (Start t) u d k run legal there on is = sym (other_starts s past t u d (apart past t u on (not_started s past t run legal))) ∙ is
 came s past (Free t b w) u d k run legal there on is =
     let x : Part = (parts_of s past).core t in
     core_came (parts_of s past).core t u d k (on_core x (dropping_core b)) (dropped_came x b d k)
@@ -231,15 +227,6 @@ came s past (End t g) u d k run legal there on is =
     core_came (parts_of s past).core t u d k (on_core x (with_phase ended_edt)) (ended_came x d k)
     (sym (ap (λ (f : Parts). mode_in d (held_on (f.core u))) (after_law s past (End t g) run legal)) ∙ is)
 came s past other u d k run legal there on is = is
-
--- THROUGH A RUN
-or_true : (b : Bool) → (b || true) ≡ true
-or_true true = refl
-or_true false = refl
-
-still_started : (past : History) (e : Entry) (t : ℕ) → is_started past t ≡ true → is_started (e ∷ past) t ≡ true
-still_started past (Start u) t is = ap (λ (b : Bool). (u == t) || b) is ∙ or_true (u == t)
-still_started past other t is = is
 
 started_since : (later past : History) (t : ℕ) → is_started past t ≡ true → is_started (later ++ past) t ≡ true
 started_since [] past t is = is

@@ -1,11 +1,11 @@
 -- Each change of a block's contents is a write of an EDT that holds it for writing.
 use Rattle.std.proofs.Common.{◌≡◌, ◌⊎◌, inl, inr, ℕ, List, [], ◌∷◌, Bool, true, false, Option, Some, None, ◌==◌, ◌&&◌, if◌then◌else◌, refl, sym, ◌∙◌, ap, subst, is_some}
-use Rattle.std.proofs.lemmas.Bool.{eqb-true}
+use Rattle.std.proofs.lemmas.Bool.{eqb-true, and_parts}
 use Rattle.ocr_base.proofs.Booleans.{same}
 use Rattle.ocr_guid.specs.Target.{EventCall}
 use Rattle.ocr_acquire.specs.declared.Mode.{Mode}
 use Rattle.ocr_acquire.specs.declared.Mode.TheVariants as mode
-use Rattle.ocr_acquire.specs.Mode.{is_exclusive, mode_in}
+use Rattle.ocr_acquire.specs.Mode.{mode_in}
 use Rattle.ocr_slots.specs.Slots as slot
 use Rattle.ocr_datablock.specs.Block as block
 use Rattle.ocr_datablock.specs.Lent.{Loan}
@@ -25,7 +25,7 @@ use Rattle.ocr_history.specs.History.{History, Setting}
 use Rattle.ocr_history.specs.Made.{Made, MadeBlock, made, is_new, size_in, creator_in}
 use Rattle.ocr_parts.specs.declared.part.Part.{Part}
 use Rattle.ocr_parts.specs.declared.part.Part.TheVariants as part
-use Rattle.ocr_parts.specs.Calls.{is_number, next_mode, ask_calls, lend_calls, grant_calls, return_calls, end_calls, doom_calls, block_step, block_calls, contents_of, link_calls, event_calls, scope_calls}
+use Rattle.ocr_parts.specs.Calls.{is_number, next_mode, return_calls, end_calls, doom_calls, block_step, block_calls, contents_of, link_calls, event_calls, scope_calls}
 use Rattle.ocr_parts.specs.Parts.{Parts, face, parts_of}
 use Rattle.ocr_parts.specs.Kinds.{IsBlock, is_block, is_held_by, on_core, work_in, is_running, mode_on}
 use Rattle.ocr_parts.specs.Effects.{joined, called, ended, dropped_edt, dropping_core}
@@ -33,15 +33,15 @@ use Rattle.ocr_parts.specs.LegalOn.{IsHeld}
 use Rattle.ocr_parts.specs.Legal.{IsRun, IsLegal}
 use Rattle.ocr_parts.proofs.After.{after_law}
 use Rattle.ocr_parts.proofs.Allowed.{allowed_law}
-use Rattle.ocr_parts.proofs.Blocks.{borrower_is, asked_contents}
+use Rattle.ocr_parts.proofs.Blocks.{borrower_is}
 use Rattle.ocr_parts.proofs.Fresh.{made_old}
 use Rattle.ocr_quiet.specs.Waits.{held_in, held_on}
-use Rattle.ocr_quiet.proofs.Choices.{both_true}
 use Rattle.ocr_standing.specs.Lasting.{is_own}
 use Rattle.ocr_standing.proofs.Held.{mode_held, held_law}
 use Rattle.ocr_standing.proofs.Lasting.{not_new}
 use Rattle.ocr_standing.proofs.Said.{stores_in_rw}
 use Rattle.ocr_memory.specs.Memory.{hold_of, is_for_writing, IsWrittenBy, WrittenLaw}
+use Rattle.ocr_standing.proofs.Found.{granted_if, asked_same}
 
 -- A BLOCK was made
 block_there : (m : Option Made) (links : List slot.SlotCall) (blocks : List block.BlockCall) (events : List EventCall) (scopes : List ScopeCall) → is_block (face m links blocks events scopes) ≡ true → m ≡ None → ⊥
@@ -136,7 +136,7 @@ call_outcome s past by home (call.DbRelease b) a w d run legal there =
     let e : Entry = Call by home (call.DbRelease b) a w in
     elim (is_done a.code && (b == d)) as (λ x. (is_done a.code && (b == d)) ≡ x → IsOutcome s past e d (now_in s past d (if x then end_calls by w (block_calls s past d) else block_calls s past d))) [
       | true ↦ λ is.
-          let both = both_true (is_done a.code) (b == d) is in
+          let both = and_parts (is_done a.code) (b == d) is in
           write_back s past e by d w run legal.on_parts.running there (same by)
           (call_after s past by home (call.DbRelease b) a w by d run legal both.0 ∙ hold_gone (parts_of s past) after_release by b d w legal.on_parts.running both.1)
       | false ↦ λ _. inl refl
@@ -145,29 +145,17 @@ call_outcome s past by home (call.DbDestroy b) a w d run legal there =
     let e : Entry = Call by home (call.DbDestroy b) a w in
     elim (is_done a.code && (b == d)) as (λ x. (is_done a.code && (b == d)) ≡ x → IsOutcome s past e d (now_in s past d (if x then doom_calls by w (block_calls s past d) else block_calls s past d))) [
       | true ↦ λ is.
-          let both = both_true (is_done a.code) (b == d) is in
+          let both = and_parts (is_done a.code) (b == d) is in
           write_back s past e by d w run legal.on_parts.running there (same by)
           (call_after s past by home (call.DbDestroy b) a w by d run legal both.0 ∙ hold_gone (parts_of s past) after_doom by b d w legal.on_parts.running both.1)
       | false ↦ λ _. inl refl
     ] refl
 call_outcome s past by home (call.Store b k v) a w d run legal there =
     elim (is_done a.code && (b == d)) as (λ x. (is_done a.code && (b == d)) ≡ x → IsOutcome s past (Call by home (call.Store b k v) a w) d (now_in s past d (if x then block.Store k v ∷ block_calls s past d else block_calls s past d))) [
-      | true ↦ λ is. inr (by, write_store s past by home b k v d a w run legal (both_true (is_done a.code) (b == d) is).1)
+      | true ↦ λ is. inr (by, write_store s past by home b k v d a w run legal (and_parts (is_done a.code) (b == d) is).1)
       | false ↦ λ _. inl refl
     ] refl
 call_outcome s past by home other a w d run legal there = inl refl
-
--- A GRANT writes nothing
-lend_same : (n t : ℕ) (m : Mode) (calls : List block.BlockCall) → block.contents n (lend_calls t m calls) ≡ block.contents n calls
-lend_same n t m calls = elim (is_exclusive m) as (λ b. block.contents n (if b then block.Lend t ∷ calls else calls) ≡ block.contents n calls) [ true ↦ refl | false ↦ refl ]
-
-granted_if : (n c t : ℕ) (m : Mode) (calls : List block.BlockCall) (b : Bool) → block.contents n (if b then grant_calls t m c calls else calls) ≡ block.contents n calls
-granted_if n c t m calls true = lend_same n t m (ask_calls t m c calls) ∙ asked_contents n c calls t m
-granted_if n c t m calls false = refl
-
-asked_if : (n t : ℕ) (m : Mode) (calls : List block.BlockCall) (b : Bool) → block.contents n (if b then block.Ask t m ∷ calls else calls) ≡ block.contents n calls
-asked_if n t m calls true = refl
-asked_if n t m calls false = refl
 
 -- EACH ENTRY
 pub outcome : (s : Setting) (past : History) (e : Entry) (d : ℕ) → IsRun s past → IsLegal s past e → is_block ((parts_of s past).face d) ≡ true → IsOutcome s past e d (contents_of s (e ∷ past) d)
@@ -179,7 +167,7 @@ outcome s past (Call by home c a w) d run legal there =
     let now : contents_of s (e ∷ past) d ≡ now_in s past d (block_step by c a w d (block_calls s past d)) = λ i. block.contents (size i) (calls i) in
     subst (IsOutcome s past e d) (sym now) (call_outcome s past by home c a w d run legal there)
 outcome s past (Acquire u b) d run legal there = inl (granted_if (size_in (made s past d)) (creator_in (made s past d)) u (next_mode s past u) (block_calls s past d) (b == d))
-outcome s past (Wait u b) d run legal there = inl (asked_if (size_in (made s past d)) u (next_mode s past u) (block_calls s past d) (b == d))
+outcome s past (Wait u b) d run legal there = inl (asked_same (size_in (made s past d)) u (next_mode s past u) (block_calls s past d) (b == d))
 outcome s past (Free u b w) d run legal there =
     elim (b == d) as (λ x. (b == d) ≡ x → IsOutcome s past (Free u b w) d (now_in s past d (if x then end_calls u w (block_calls s past d) else block_calls s past d))) [
       | true ↦ λ here.

@@ -1,7 +1,6 @@
 -- An output event is satisfied by an end as often as its EDT is through: each entry keeps that.
 use Rattle.std.proofs.Common.{◌≡◌, ℕ, ◌+◌, ◌-◌, ◌<◌, nat_lt, List, [], ◌∷◌, ◌++◌, length, Bool, true, false, not, ◌&&◌, ◌||◌, ◌==◌, if◌then◌else◌, Option, Some, None, refl, sym, ◌∙◌, ap, subst, arith}
-use Rattle.std.proofs.lemmas.Bool.{eqb-true, false_from_ne_true}
-use Rattle.std.proofs.lemmas.Grind.{common_steps}
+use Rattle.std.proofs.lemmas.Bool.{eqb-true, false_from_ne_true, and_parts}
 use Rattle.std.proofs.lemmas.List.{append-nil}
 use Rattle.std.proofs.lemmas.List.Elements.{filter-append}
 use Rattle.std.specs.List.{filter}
@@ -9,7 +8,7 @@ use Rattle.ocr_base.proofs.Booleans.{same, and_false}
 use Rattle.ocr_guid.specs.declared.Code.{Code}
 use Rattle.ocr_edt.specs.declared.Identity.{Identity}
 use Rattle.ocr_finish.specs.declared.Leaving.TheVariants as leaving
-use Rattle.ocr_finish.specs.Scope.{ScopeCall, Parting, State, state_of}
+use Rattle.ocr_finish.specs.Scope.{ScopeCall, State, state_of}
 use Rattle.ocr_finish.specs.Scope as scope
 use Rattle.ocr_meaning.specs.Holds.{is_done}
 use Rattle.ocr_meaning.specs.declared.call.Call as body
@@ -23,24 +22,25 @@ use Rattle.ocr_history.specs.Edts.{is_ended}
 use Rattle.ocr_history.specs.History.{History, Setting}
 use Rattle.ocr_history.specs.Made.{Made, MadeScope, made, names_new, is_new}
 use Rattle.ocr_parts.specs.declared.part.Part.{Part}
-use Rattle.ocr_parts.specs.Calls.{leave_step, scope_calls}
+use Rattle.ocr_parts.specs.Calls.{scope_calls}
 use Rattle.ocr_parts.specs.Footprint.{makes_core}
 use Rattle.ocr_parts.specs.Kinds.{identity_on}
 use Rattle.ocr_parts.specs.Legal.{IsRun, IsLegal}
 use Rattle.ocr_parts.specs.LegalOn.{HasMember, IsDeliverOn, IsCallOn, IsEndOn}
 use Rattle.ocr_parts.specs.Messages.{satisfy_some, leave_some, sent_if_done, sent_by_leave, sent_by_message, payload_of_end, sent_by_end, sends}
 use Rattle.ocr_parts.specs.Parts.{new_identity, identity_of, parts_of}
-use Rattle.ocr_parts.proofs.Fresh.{both_of, some_named, number_named}
+use Rattle.ocr_parts.proofs.Fresh.{some_named, number_named}
 use Rattle.ocr_quiet.specs.Marks.{mark}
 use Rattle.ocr_quiet.proofs.Stages.{told_law}
 use Rattle.ocr_standing.proofs.Counting.{one}
 use Rattle.ocr_standing.proofs.Finished.{finish_law}
 use Rattle.ocr_standing.proofs.Members.{left_at, left_scope, none_gone, running_identity, some_stay}
 use Rattle.ocr_standing.proofs.Own.{running_mark}
-use Rattle.ocr_standing.proofs.Scopes.{scope_in, scope_at, members_in, members_are, HasIn, has_in, sent_in, sent_is, call_scopes, left, left_one, joined, home_has, new_apart, edt_scopes}
+use Rattle.ocr_standing.proofs.Scopes.{scope_in, scope_at, members_in, members_are, HasIn, has_in, sent_in, sent_is, call_scopes, left, joined, home_has, new_apart, edt_scopes}
 use Rattle.ocr_standing.specs.Members.{members_on}
 use Rattle.ocr_outputs.specs.Outputs.{satisfies, is_leave, signals_by, signals, output_of, is_last_leave, MomentLaw, OnceLaw, OwnLaw, OtherLaw, EndLaw, EndedLaw}
 use Rattle.ocr_outputs.proofs.Owners.{owner, one_identity, IsOwner, scope_fresh, output_fresh, owner_law, not_owned, number_is, finish_home, has_owner, IsOwnScope, own_scope}
+use Rattle.ocr_parts.proofs.Local.{named_self}
 
 -- WHAT AN END SENDS to an event
 abbrev sent_to : ℕ → List What → List What
@@ -125,7 +125,7 @@ module _ (s : Setting) (past : History) (u home from pc dc fl : ℕ) (ps ds : Li
 
   old_scope : (x outer event : ℕ) → made s past x ≡ Some (MadeScope outer event) → (is_done a.code && names_new a.scope x) ≡ false
   old_scope x outer event is = false_from_ne_true (is_done a.code && names_new a.scope x) (λ new.
-      let both = both_of (is_done a.code) (names_new a.scope x) new in
+      let both = and_parts (is_done a.code) (names_new a.scope x) new in
       let fresh : is_new (call.EdtCreate from pc ps dc ds fl out) a x ≡ true = rw (both.0, both.1) refl in
       let none = (new_apart s past u home from pc dc fl ps ds out a w legal both.0 x fresh).1 in
       let some : scope_at s past x ≡ Some (state_of outer event (scope_calls past x)) = ap (λ (m : Option Made). scope_in m (scope_calls past x)) is in
@@ -137,7 +137,7 @@ module _ (s : Setting) (past : History) (u home from pc dc fl : ℕ) (ps ds : Li
       ap (λ (st : Option State). members_in st == 0) (edt_scopes s past u home from pc dc fl ps ds out a w legal i.scope)
       ∙ grown_some (is_done a.code && names_new a.scope i.scope) (is_done a.code && names_new home i.scope) (state_of home a.output []) (scope_at s past i.scope)
       (old_scope i.scope found.0 o found.1)
-      (λ joins. let both = both_of (is_done a.code) (names_new home i.scope) joins in home_has s past u home from pc dc fl ps ds out a w legal both.0 i.scope both.1)
+      (λ joins. let both = and_parts (is_done a.code) (names_new home i.scope) joins in home_has s past u home from pc dc fl ps ds out a w legal both.0 i.scope both.1)
 
   other_kept : over_by after_members (is_ended past) (owner past o) ≡ over s past o
   other_kept = elim (owner past o) as (λ x. owner past o ≡ x → over_by after_members (is_ended past) x ≡ over_by (members_at s past) (is_ended past) x) [
@@ -162,7 +162,7 @@ module _ (s : Setting) (past : History) (u home from pc dc fl : ℕ) (ps ds : Li
   edt_kept : IsKept s past (Call u home (call.EdtCreate from pc ps dc ds fl out) a w) o
   edt_kept = none_sent (over s past o) (over s (Call u home (call.EdtCreate from pc ps dc ds fl out) a w ∷ past) o) (elim (is_done a.code && names_new a.output o) as (λ b. (is_done a.code && names_new a.output o) ≡ b → over s past o ≡ over_by after_members (is_ended past) (if b then Some (new_identity a.value fl a home) else owner past o)) [
     | true ↦ λ new.
-        let both = both_of (is_done a.code) (names_new a.output o) new in
+        let both = and_parts (is_done a.code) (names_new a.output o) new in
         let none = not_owned s past o run (output_fresh s past u home from pc dc fl ps ds out a w legal o both.1) in
         ap (over_by (members_at s past) (is_ended past)) none ∙ sym (ap one (new_through both.0))
     | false ↦ λ _. sym other_kept
@@ -266,7 +266,7 @@ module _ (s : Setting) (past : History) (x o : ℕ) (run : IsRun s past) (there 
   pub its_leave : (i : Identity) → owner past o ≡ Some i → (i.finish && (x == i.scope)) ≡ true → sent_to o (sent_by_leave ((parts_of s past).face x)) ≡ (if members_at s past x == 1 then what.Satisfy o 0 0 ∷ [] else [])
   its_leave i is here =
       let owns = owner_law s past o i run is in
-      let both = both_of i.finish (x == i.scope) here in
+      let both = and_parts i.finish (x == i.scope) here in
       let found = owns.scope both.0 in
       let last : Bool = (state_of there.outer there.event (scope_calls past x)).members == 1 in
       let event : there.event ≡ o = ap event_in (sym there.is ∙ ap (λ (n : ℕ). made s past n) (eqb-true x i.scope both.1) ∙ found.1) in
@@ -289,7 +289,7 @@ module _ (s : Setting) (past : History) (x o : ℕ) (run : IsRun s past) (there 
   own_left : (i : Identity) → owner past o ≡ Some i → (i.finish && (x == i.scope)) ≡ true
       → satisfied_in o (sent_by_leave ((parts_of s past).face x)) + one (through_by (members_at s past) (is_ended past) i) ≡ one (through_by after (is_ended past) i)
   own_left i is here =
-      let both = both_of i.finish (x == i.scope) here in
+      let both = and_parts i.finish (x == i.scope) here in
       let number : x ≡ i.scope = eqb-true x i.scope both.1 in
       let sent : satisfied_in o (sent_by_leave ((parts_of s past).face x)) ≡ one (members_at s past x == 1) = ap length (its_leave i is here) ∙ one_long (members_at s past x == 1) (what.Satisfy o 0 0) in
       let before : one (through_by (members_at s past) (is_ended past) i) ≡ one (members_at s past x == 0) =
@@ -334,7 +334,7 @@ module _ (s : Setting) (past : History) (u g o : ℕ) (run : IsRun s past) (lega
   -- another EDT, or a finish EDT
   pub not_its_end : (i : Identity) → owner past o ≡ Some i → (not i.finish && (u == i.edt)) ≡ false → satisfied_in o (sends (End u g) (parts_of s past)) ≡ 0
   not_its_end i is apart = unnamed (false_from_ne_true (not (identity_of past u).finish && names_new (identity_of past u).output o) (λ on.
-      let both = both_of (not (identity_of past u).finish) (names_new (identity_of past u).output o) on in
+      let both = and_parts (not (identity_of past u).finish) (names_new (identity_of past u).output o) on in
       let who : identity_of past u ≡ i = one_identity (identity_of past u) i (sym (has_owner s past u o run both.1) ∙ is) in
       let finish : not i.finish ≡ true = ap (λ (k : Identity). not k.finish) (sym who) ∙ both.0 in
       let here : u ≡ i.edt = sym (number_is past u) ∙ ap (λ (k : Identity). k.edt) who in
@@ -358,7 +358,7 @@ module _ (s : Setting) (past : History) (u g o : ℕ) (run : IsRun s past) (lega
   pub its_end : (i : Identity) → owner past o ≡ Some i → (not i.finish && (u == i.edt)) ≡ true → sent_to o (sends (End u g) (parts_of s past)) ≡ what.Satisfy o 0 payload ∷ []
   its_end i is here =
       let owns = owner_law s past o i run is in
-      let both = both_of (not i.finish) (u == i.edt) here in
+      let both = and_parts (not i.finish) (u == i.edt) here in
       let who : identity_of past u ≡ i = ap (identity_of past) (eqb-true u i.edt both.1) ∙ owns.who in
       sent_then
       ∙ ap (λ (k : Identity). if not k.finish && names_new k.output o then what.Satisfy k.output 0 payload ∷ [] else []) who
@@ -373,7 +373,7 @@ module _ (s : Setting) (past : History) (u g o : ℕ) (run : IsRun s past) (lega
       → satisfied_in o (sends (End u g) (parts_of s past)) + one (through_by (members_at s past) (is_ended past) i) ≡ one (through_by (members_at s past) (is_ended (End u g ∷ past)) i)
   own_ended i is here =
       let sent : satisfied_in o (sends (End u g) (parts_of s past)) ≡ 1 = ap length (its_end i is here) in
-      let was : is_ended past i.edt ≡ false = subst (λ (n : ℕ). is_ended past n ≡ false) (eqb-true u i.edt (both_of (not i.finish) (u == i.edt) here).1) live in
+      let was : is_ended past i.edt ≡ false = subst (λ (n : ℕ). is_ended past n ≡ false) (eqb-true u i.edt (and_parts (not i.finish) (u == i.edt) here).1) live in
       let steps = ended_here i.finish (u == i.edt) (members_at s past i.scope == 0) (is_ended past i.edt) here was in
       omega (arith, sent, steps)
     where
@@ -387,7 +387,7 @@ module _ (s : Setting) (past : History) (u g o : ℕ) (run : IsRun s past) (lega
   end_kept = elim (owner past o) as (λ k. owner past o ≡ k → satisfied_in o (sends (End u g) (parts_of s past)) + over_by (members_at s past) (is_ended past) k ≡ over_by (members_at s past) (is_ended (End u g ∷ past)) k) [
     | None ↦ λ none.
         let off = unnamed (false_from_ne_true (not (identity_of past u).finish && names_new (identity_of past u).output o) (λ on.
-        let some = has_owner s past u o run (both_of (not (identity_of past u).finish) (names_new (identity_of past u).output o) on).1 in
+        let some = has_owner s past u o run (and_parts (not (identity_of past u).finish) (names_new (identity_of past u).output o) on).1 in
         cc (none, some))) in
         omega (arith, off)
     | Some i ↦ λ is. elim (not i.finish && (u == i.edt)) as (λ b. (not i.finish && (u == i.edt)) ≡ b → satisfied_in o (sends (End u g) (parts_of s past)) + one (through_by (members_at s past) (is_ended past) i) ≡ one (through_by (members_at s past) (is_ended (End u g ∷ past)) i)) [
@@ -410,10 +410,6 @@ counted s (e ∷ past) o run =
     let before = counted s past o run.0 in
     let step = kept s past e o run.0 run.1 in
     omega (arith, before, step)
-
--- THE LAWS
-own_named : (n : ℕ) → (n == 0) ≡ false → names_new n n ≡ true
-own_named n some = rw (some, same n) refl
 
 last_on : (finish here last : Bool) → (finish && here) ≡ true → (finish && (here && last)) ≡ last
 last_on true true last on = refl
@@ -440,7 +436,7 @@ leave_moment s past x t o run has owns =
       | true ↦ λ here.
           its_leave s past x o run there i owns here
           ∙ ap (λ (n : ℕ). sent (n == 1)) (sym (members_are s past x))
-          ∙ ap (λ (n : ℕ). sent (last n)) (eqb-true x i.scope (both_of i.finish (x == i.scope) here).1)
+          ∙ ap (λ (n : ℕ). sent (last n)) (eqb-true x i.scope (and_parts i.finish (x == i.scope) here).1)
           ∙ sym (ap sent (last_on i.finish (x == i.scope) (last i.scope) here))
       | false ↦ λ apart.
           no_longer (sent_to o (sent_by_leave ((parts_of s past).face x))) (not_its_leave s past x o run there i owns apart)
@@ -469,7 +465,7 @@ end_moment s past u g t o run legal owns =
     ∙ ap (λ (n : ℕ). sent (not i.finish && (u == n))) (number_is past t)
 
 owns_output : (s : Setting) (past : History) (t : ℕ) → IsRun s past → (output_of past t == 0) ≡ false → owner past (output_of past t) ≡ Some (identity_of past t)
-owns_output s past t run some = has_owner s past t (output_of past t) run (own_named (output_of past t) some)
+owns_output s past t run some = has_owner s past t (output_of past t) run (named_self (output_of past t) some)
 
 pub moment_law : MomentLaw
 moment_law s past (Deliver m c) t run legal there some = brought_moment s past m.what c t (output_of past t) run legal.on_parts (owns_output s past t run some)
@@ -486,7 +482,7 @@ once_law s past t run there some =
 
 pub own_law : OwnLaw
 own_law s past t u run t_there u_there some is =
-    let names = own_named (output_of past t) some in
+    let names = named_self (output_of past t) some in
     let one_owns = has_owner s past t (output_of past t) run names in
     let other_owns = has_owner s past u (output_of past t) run (ap (λ (n : ℕ). names_new n (output_of past t)) (sym is) ∙ names) in
     let who : identity_of past t ≡ identity_of past u = one_identity (identity_of past t) (identity_of past u) (sym one_owns ∙ other_owns) in
@@ -512,6 +508,6 @@ pub ended_law : EndedLaw
 ended_law s past t run there through =
     let x : ℕ = (identity_of past t).scope in
     elim (identity_of past t).finish as (λ b. (identity_of past t).finish ≡ b → (if b then members_on ((parts_of s past).face (identity_of past t).scope) == 0 else is_ended past t) ≡ true → is_ended past t ≡ true) [
-      | true ↦ λ finish empty. finish_law s past x 0 x t run (eqb-true (members_on ((parts_of s past).face x)) 0 empty) (same x) there (own_named x (finish_home s past t run finish))
+      | true ↦ λ finish empty. finish_law s past x 0 x t run (eqb-true (members_on ((parts_of s past).face x)) 0 empty) (same x) there (named_self x (finish_home s past t run finish))
       | false ↦ λ _ is. is
     ] refl through

@@ -1,6 +1,6 @@
 -- Whose output event an event is, and what lasts of that.
 use Rattle.std.proofs.Common.{◌≡◌, ℕ, List, [], ◌∷◌, Bool, true, false, ◌&&◌, ◌||◌, ◌==◌, if◌then◌else◌, Option, Some, None, refl, ◌∙◌, ap, subst}
-use Rattle.std.proofs.lemmas.Bool.{eqb-true}
+use Rattle.std.proofs.lemmas.Bool.{eqb-true, or_parts, and_parts}
 use Rattle.ocr_base.proofs.Booleans.{same, and_false}
 use Rattle.ocr_edt.specs.declared.Identity.{Identity}
 use Rattle.ocr_meaning.specs.Holds.{is_done}
@@ -14,9 +14,8 @@ use Rattle.ocr_history.specs.Made.{Made, MadeTemplate, MadeEvent, MadeScope, mad
 use Rattle.ocr_parts.specs.Parts.{plain_identity, new_identity, identity_of, parts_of}
 use Rattle.ocr_parts.specs.LegalOn.{IsFresh, IsBeside, IsCallOn}
 use Rattle.ocr_parts.specs.Legal.{IsRun, IsLegal}
-use Rattle.ocr_parts.proofs.Fresh.{both_of, some_named, number_named, beside_fresh}
+use Rattle.ocr_parts.proofs.Fresh.{some_named, number_named, beside_fresh}
 use Rattle.ocr_parts.proofs.Within.{made_none}
-use Rattle.ocr_quiet.proofs.Choices.{or_right}
 use Rattle.ocr_quiet.proofs.Edts.{edts_law}
 use Rattle.ocr_quiet.proofs.Homes.{scope_made, output_made}
 use Rattle.ocr_standing.proofs.Lasting.{made_law, edt_not_new}
@@ -57,7 +56,7 @@ edt_lasts past other t is = is
 pub who_lasts : IdentityLaw
 who_lasts s past (Call u home (call.EdtCreate from pc ps dc ds fl out) a w) t run legal is =
     let old = edt_not_new s past u home (call.EdtCreate from pc ps dc ds fl out) a w t legal.on_parts (edts_law s past run t ∙ is) in
-    ap (λ (b : Bool). if b then new_identity t fl a home else identity_of past t) (or_right _ (makes a t) old)
+    ap (λ (b : Bool). if b then new_identity t fl a home else identity_of past t) (or_parts _ (makes a t) old).1
 who_lasts s past other t run legal is = refl
 
 owner_lasts : (s : Setting) (past : History) (e : Entry) (o : ℕ) (i : Identity) → IsRun s past → IsLegal s past e → IsOwner s past o i → IsOwner s (e ∷ past) o i
@@ -111,7 +110,7 @@ owner_law s [] o i run is = cc is
 owner_law s (Call u home (call.EdtCreate from pc ps dc ds fl out) a w ∷ past) o i run is =
     elim (is_done a.code && names_new a.output o) as (λ b. (is_done a.code && names_new a.output o) ≡ b → (if b then Some (new_identity a.value fl a home) else owner past o) ≡ Some i → IsOwner s (Call u home (call.EdtCreate from pc ps dc ds fl out) a w ∷ past) o i) [
       | true ↦ λ new is.
-          let both = both_of (is_done a.code) (names_new a.output o) new in
+          let both = and_parts (is_done a.code) (names_new a.output o) new in
           subst (IsOwner s (Call u home (call.EdtCreate from pc ps dc ds fl out) a w ∷ past) o) (one_identity (new_identity a.value fl a home) i is)
           (new_owner s past u home from pc dc fl ps ds out a w run.1.on_parts o both.0 both.1)
       | false ↦ λ old is. owner_lasts s past (Call u home (call.EdtCreate from pc ps dc ds fl out) a w) o i run.0 run.1 (owner_law s past o i run.0 is)
@@ -137,7 +136,7 @@ finish_home s [] t run is = cc is
 finish_home s (Call u home (call.EdtCreate from pc ps dc ds fl out) a w ∷ past) t run is =
     elim (makes a t) as (λ b. makes a t ≡ b → (if b then new_identity t fl a home else identity_of past t).finish ≡ true → ((if b then new_identity t fl a home else identity_of past t).scope == 0) ≡ false) [
       | true ↦ λ new finish.
-          let fresh = scope_fresh s past u home from pc dc fl ps ds out a w run.1.on_parts (both_of (is_done a.code) (a.value == t) new).0 finish in
+          let fresh = scope_fresh s past u home from pc dc fl ps ds out a w run.1.on_parts (and_parts (is_done a.code) (a.value == t) new).0 finish in
           ap (λ (b : Bool). (if b then a.scope else home) == 0) finish ∙ none_gone a.scope fresh.some
       | false ↦ λ old finish. finish_home s past t run.0 finish
     ] refl is
@@ -151,7 +150,7 @@ still_owned : (s : Setting) (past : History) (u home from pc dc fl : ℕ) (ps ds
 still_owned s past u home from pc dc fl ps ds out a w o i run legal is =
     elim (is_done a.code && names_new a.output o) as (λ b. (is_done a.code && names_new a.output o) ≡ b → (if b then Some (new_identity a.value fl a home) else owner past o) ≡ Some i) [
       | true ↦ λ new. absurd (
-          let none = output_fresh s past u home from pc dc fl ps ds out a w legal o (both_of (is_done a.code) (names_new a.output o) new).1 in
+          let none = output_fresh s past u home from pc dc fl ps ds out a w legal o (and_parts (is_done a.code) (names_new a.output o) new).1 in
           let event = (owner_law s past o i run is).event in
           cc (none, event))
       | false ↦ λ old. is
@@ -166,7 +165,7 @@ has_owner s (Call u home (call.EdtCreate from pc ps dc ds fl out) a w ∷ past) 
     elim (makes a t) as (λ b. makes a t ≡ b → names_new (if b then new_identity t fl a home else identity_of past t).output o ≡ true
     → owner (Call u home (call.EdtCreate from pc ps dc ds fl out) a w ∷ past) o ≡ Some (if b then new_identity t fl a home else identity_of past t)) [
       | true ↦ λ new is.
-          let both = both_of (is_done a.code) (a.value == t) new in
+          let both = and_parts (is_done a.code) (a.value == t) new in
           let on : (is_done a.code && names_new a.output o) ≡ true = rw (both.0, is) refl in
           ap (λ (b : Bool). if b then Some (new_identity a.value fl a home) else owner past o) on ∙ ap (λ (n : ℕ). Some (new_identity n fl a home)) (eqb-true a.value t both.1)
       | false ↦ λ old is. still_owned s past u home from pc dc fl ps ds out a w o (identity_of past t) run.0 run.1.on_parts (has_owner s past t o run.0 is)
@@ -200,7 +199,7 @@ new_scope_is : (s : Setting) (past : History) (u home from pc dc fl : ℕ) (ps d
     → IsCallOn s.limit (parts_of s past) u home (call.EdtCreate from pc ps dc ds fl out) a w
     → (is_done a.code && names_new a.scope x) ≡ true → names_new a.output o ≡ true → IsOwnScope (Call u home (call.EdtCreate from pc ps dc ds fl out) a w ∷ past) o x
 new_scope_is s past u home from pc dc fl ps ds out a w o x legal is names =
-    let both = both_of (is_done a.code) (names_new a.scope x) is in
+    let both = and_parts (is_done a.code) (names_new a.scope x) is in
     let on : (is_done a.code && names_new a.output o) ≡ true = rw (both.0, names) refl in
     let finish : (fl == 1) ≡ true = elim (fl == 1) as (λ b. (fl == 1) ≡ b → b ≡ true) [
       | true ↦ λ _. refl

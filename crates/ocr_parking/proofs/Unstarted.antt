@@ -1,25 +1,19 @@
 -- An EDT that has not started by its kept core has no entry of its own in the log.
-use Rattle.std.proofs.Common.{◌≡◌, ℕ, ◌+◌, Bool, true, false, ◌||◌, ◌==◌, if◌then◌else◌, nat_lt, List, [], ◌∷◌, reverse, refl, ◌∙◌, ap, subst}
-use Rattle.std.proofs.lemmas.Bool.{eqb-true}
+use Rattle.std.proofs.Common.{◌≡◌, ℕ, ◌+◌, Bool, true, false, ◌||◌, if◌then◌else◌, nat_lt, List, [], ◌∷◌, reverse, refl, ◌∙◌, ap, subst}
+use Rattle.std.proofs.lemmas.Bool.{false_from_ne_true}
 use Rattle.std.proofs.lemmas.List.{reverse-reverse}
 use mathlib.Core.Option.{some}
 use lib.ListN.{get_elem?}
 use Rattle.ocr_history.specs.declared.entry.Entry.{Entry}
-use Rattle.ocr_history.specs.declared.entry.Entry.TheVariants.{Call, Start, Free, End}
-use Rattle.ocr_history.specs.History.{History, Setting}
 use Rattle.ocr_history.specs.Edts.{is_started}
 use Rattle.ocr_parts.specs.declared.part.Core.{Core}
 use Rattle.ocr_parts.specs.declared.part.Part.{Part}
 use Rattle.ocr_parts.specs.declared.part.Part.TheVariants as part
-use Rattle.ocr_parts.specs.Kinds.{is_running}
-use Rattle.ocr_parts.specs.Legal.{IsLegal, IsRun}
-use Rattle.ocr_parts.specs.Parts.{parts_of}
 use Rattle.ocr_parts.specs.Taken.{is_within}
 use Rattle.ocr_quiet.specs.Marks.{mark, stage_in}
-use Rattle.ocr_quiet.proofs.Choices.{off_from}
 use Rattle.ocr_quiet.proofs.Stages.{told_law}
 use Rattle.ocr_standing.specs.Lasting.{has_own, is_own}
-use Rattle.ocr_standing.proofs.Own.{started_by}
+use Rattle.ocr_standing.proofs.Own.{has_started}
 use Rattle.ocr_rule.specs.Rule.{Fits}
 use Rattle.ocr_rule.specs.Sums.{entries, is_among, picked}
 use Rattle.ocr_rule.proofs.Totals.{log_none}
@@ -29,33 +23,7 @@ use Rattle.ocr_facts.proofs.Lawful.{none_picked}
 use Rattle.ocr_facts.proofs.Runs.{run_is}
 use Rattle.ocr_clerks.proofs.Seen.{core_is}
 
--- WHO HAS AN OWN ENTRY has started
-or_true : (b : Bool) → (b || true) ≡ true
-or_true true = refl
-or_true false = refl
-
-still_started : (past : History) (e : Entry) (t : ℕ) → is_started past t ≡ true → is_started (e ∷ past) t ≡ true
-still_started past (Start u) t is = ap (λ (b : Bool). (u == t) || b) is ∙ or_true (u == t)
-still_started past other t is = is
-
-at_own : (s : Setting) (past : History) (u t : ℕ) → IsRun s past → is_running ((parts_of s past).core u) ≡ true → (u == t) ≡ true → is_started past t ≡ true
-at_own s past u t run running is = subst (λ (n : ℕ). is_started past n ≡ true) (eqb-true u t is) (started_by s past u run running)
-
-own_started : (s : Setting) (past : History) (e : Entry) (t : ℕ) → IsRun s past → IsLegal s past e → is_own e t ≡ true → is_started (e ∷ past) t ≡ true
-own_started s past (Call u home c a w) t run legal is = at_own s past u t run legal.on_parts.running is
-own_started s past (Start u) t run legal is = ap (λ (b : Bool). b || is_started past t) is
-own_started s past (Free u d w) t run legal is = at_own s past u t run legal.on_parts.running is
-own_started s past (End u g) t run legal is = at_own s past u t run legal.on_parts.running is
-own_started s past other t run legal is = cc is
-
-has_started : (s : Setting) (past : History) (t : ℕ) → IsRun s past → has_own past t ≡ true → is_started past t ≡ true
-has_started s [] t run is = cc is
-has_started s (e ∷ past) t run is = elim (is_own e t) as (λ b. is_own e t ≡ b → (b || has_own past t) ≡ true → is_started (e ∷ past) t ≡ true) [
-  | true ↦ λ own _. own_started s past e t run.0 run.1 own
-  | false ↦ λ _ before. still_started past e t (has_started s past t run.0 before)
-] refl is
-
-not_among : (test : Entry → Bool) (xs : List Entry) → picked test xs ≡ [] → is_among test xs ≡ false
+pub not_among : (test : Entry → Bool) (xs : List Entry) → picked test xs ≡ [] → is_among test xs ≡ false
 not_among test [] none = refl
 not_among test (x ∷ xs) none = elim (test x) as (λ b. (if b then x ∷ picked test xs else picked test xs) ≡ [] → (b || is_among test xs) ≡ false) [
   | true ↦ λ wrong. cc wrong
@@ -68,6 +36,6 @@ unstarted_log t v J k edt c fits within at stage =
     let s = of_terms t in let past = reverse J in let run = run_is t.setting.value t.limit J fits.run in
     let core = core_is t J v k edt c fits within at in
     let unstarted : is_started past edt ≡ false = (told_law s past run edt).has_started ∙ (ap (λ (x : Part). nat_lt 1 (mark x).0) core ∙ stage) in
-    let no_own : has_own past edt ≡ false = off_from (has_own past edt) (λ on. let is = has_started s past edt run on in cc (is, unstarted)) in
+    let no_own : has_own past edt ≡ false = false_from_ne_true (has_own past edt) (λ on. let is = has_started s past edt run on in cc (is, unstarted)) in
     let none : picked (λ e. is_own e edt) J ≡ [] = subst (λ (K : List Entry). picked (λ e. is_own e edt) K ≡ []) (reverse-reverse J) (none_picked past edt no_own) in
     not_among (λ e. is_own e edt) (entries v.log) (log_none (λ e. is_own e edt) J v.log fits.log none)

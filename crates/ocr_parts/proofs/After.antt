@@ -1,6 +1,6 @@
 -- The parts after a legal entry are what the entry makes of the parts before it.
 use Rattle.std.proofs.Common.{not, ◌≡◌, ℕ, ◌/◌, List, [], ◌∷◌, Bool, true, false, Option, Some, None, is_some, ◌++◌, ◌+◌, ◌-◌, ◌<◌, ◌≤◌, drop, slice_get, arith, ◌==◌, ◌&&◌, ◌||◌, nat_lt, if◌then◌else◌, refl, sym, ◌∙◌, ap, subst}
-use Rattle.std.proofs.lemmas.Bool.{eqb-true}
+use Rattle.std.proofs.lemmas.Bool.{eqb-true, or_parts}
 use Rattle.ocr_guid.specs.Target.{EventCall, Satisfaction, Link, Destruction, refusal_of, is_unwanted}
 use Rattle.ocr_guid.specs.declared.target.Target.{Target as Reached}
 use Rattle.ocr_history.specs.declared.entry.What.{What}
@@ -44,7 +44,7 @@ use Rattle.ocr_parts.specs.Progress.{with_face, linked_if, with_phase, made_read
 use Rattle.ocr_parts.specs.LegalOn.{IsSatisfiable, delivery_code, HasMember, IsDeliverOn, IsTaken, IsEnding, IsFresh, IsNamed, IsJoinable, IsCallOn, IsLegalOn, IsDooming}
 use Rattle.ocr_parts.specs.Legal.{IsRun}
 use Rattle.ocr_parts.specs.Laws.{AfterLaw, kept_lent}
-use Rattle.ocr_parts.proofs.Choices.{at_same, twice, or_left, or_rest}
+use Rattle.ocr_parts.proofs.Choices.{at_same, twice}
 use Rattle.ocr_parts.proofs.Phases.{IsFormed, formed, formed_ready, next_is, edt_acquired, edt_stale, edt_waited, edt_started, edt_held, edt_dropped, edt_ended}
 use Rattle.ocr_parts.proofs.Blocks.{block_ended, block_doomed, template_doomed, event_destroyed, block_stored, block_granted, block_asked, size_is, words_are, edt_linked}
 use Rattle.ocr_parts.specs.declared.part.Core.{Core}
@@ -193,7 +193,7 @@ events_at s past x g adds step is =
 
 -- what a destruction wants is of its kind and live
 live_one : (x : Part) (b : Bool) → (is_destroyed x || b) ≡ false → is_destroyed x ≡ false
-live_one x b is = or_left (is_destroyed x) b is
+live_one x b is = (or_parts (is_destroyed x) b is).0
 
 -- A LINK of an event as a source; other objects keep none
 linked_face : (m : Option Made) (links : List slot.SlotCall) (blocks : List block.BlockCall) (events : List EventCall) (scopes : List ScopeCall) (t : Reached) → is_destroyed (face m links blocks events scopes) ≡ false
@@ -212,7 +212,7 @@ edt_told (Some (MadeEdt f ps n)) links blocks events scopes = refl
 edt_told other links blocks events scopes = refl
 
 source_live : (t from x : ℕ) (f : ℕ → Part) → is_any (is_refused_as_stale t) f ((x, Target) ∷ wanted_source from) ≡ false → (from == 0) ≡ false → is_destroyed (f from) ≡ false
-source_live t from x f off some = or_left (is_destroyed (f from)) false (rw some at (or_rest (is_destroyed (f x)) (is_any (is_refused_as_stale t) f (wanted_source from)) off))
+source_live t from x f off some = (or_parts (is_destroyed (f from)) false (rw some at (or_parts (is_destroyed (f x)) (is_any (is_refused_as_stale t) f (wanted_source from)) off).1)).0
 
 depended_face : (s : Setting) (past : History) (from x i m g : ℕ) → (from == x) ≡ false → ((from == 0) ≡ false → is_destroyed ((parts_of s past).face from) ≡ false)
     → (is_edt_face ((parts_of s past).face x) ≡ true → link_code ((parts_of s past).face x) i ≡ code.Done)
@@ -293,7 +293,7 @@ scopes_if : (b : Bool) (m : Option Made) (links : List slot.SlotCall) (blocks : 
 scopes_if true m links blocks events x y = refl
 scopes_if false m links blocks events x y = refl
 
-has_member : (a d : ℕ) → 0 < a - d → d < a
+pub has_member : (a d : ℕ) → 0 < a - d → d < a
 has_member a d some = omega (arith, some)
 
 scope_left : (m : Option Made) (links : List slot.SlotCall) (blocks : List block.BlockCall) (events : List EventCall) (scopes : List ScopeCall) → HasMember (face m links blocks events scopes)
@@ -363,8 +363,8 @@ named_dep g (d ∷ rest) = (is_object d && (d == g)) || named_dep g rest
 pub unnamed_fold : (t k g : ℕ) (ds : List ℕ) (x : Part) → named_dep g ds ≡ false → dep_fold t k g ds x ≡ x
 unnamed_fold t k g [] x off = refl
 unnamed_fold t k g (d ∷ rest) x off =
-    let here : (is_object d && (d == g)) ≡ false = or_left _ (named_dep g rest) off in
-    rw here (unnamed_fold t (k + 1) g rest x (or_rest (is_object d && (d == g)) _ off))
+    let here : (is_object d && (d == g)) ≡ false = (or_parts _ (named_dep g rest) off).0 in
+    rw here (unnamed_fold t (k + 1) g rest x (or_parts (is_object d && (d == g)) _ off).1)
 
 event_fold : (m : Option Made) (links : List slot.SlotCall) (blocks : List block.BlockCall) (events : List EventCall) (scopes : List ScopeCall) (t k g : ℕ) (ds : List ℕ) → (named_dep g ds ≡ true → is_destroyed (face m links blocks events scopes) ≡ false)
     → dep_fold t k g ds (face m links blocks events scopes) ≡ face m links blocks (dep_targets t k g ds events) scopes
@@ -385,8 +385,8 @@ deps_pass : (test : Sort → Part → Bool) (f : ℕ → Part) (ds : List ℕ) (
 deps_pass test f [] g off is = cc is
 deps_pass test f (d ∷ rest) g off is = elim (is_object d) as (λ b. is_any test f (if b then (d, Source) ∷ wanted_sources rest else wanted_sources rest) ≡ false → ((b && (d == g)) || named_dep g rest) ≡ true → test Source (f g) ≡ false) [
   | true ↦ λ off is. elim (d == g) as (λ b. (d == g) ≡ b → (b || named_dep g rest) ≡ true → test Source (f g) ≡ false) [
-    | true ↦ λ here _. ap (λ (n : ℕ). test Source (f n)) (sym (eqb-true d g here)) ∙ or_left (test Source (f d)) _ off
-    | false ↦ λ _ is. deps_pass test f rest g (or_rest (test Source (f d)) _ off) is
+    | true ↦ λ here _. ap (λ (n : ℕ). test Source (f n)) (sym (eqb-true d g here)) ∙ (or_parts (test Source (f d)) _ off).0
+    | false ↦ λ _ is. deps_pass test f rest g (or_parts (test Source (f d)) _ off).1 is
   ] refl is
   | false ↦ λ off is. deps_pass test f rest g off is
 ] off is
@@ -452,7 +452,7 @@ created_face s past t home from pc dc fl ps ds o a w on legal g =
       | true ↦ λ is.
           let vacant : f.face g ≡ part.Vacant = (new_fresh s.limit f t home c a w g legal is).vacant in
           let apart : names_new home g ≡ false = home_apart f home g vacant (legal.at_home.joinable on) in
-          let unnamed : named_dep g ds ≡ false = unnamed_there f.face ds g (or_rest (is_missing ATemplate (f.face from)) _ (not_missing t f.face c done)) vacant in
+          let unnamed : named_dep g ds ≡ false = unnamed_there f.face ds g (or_parts (is_missing ATemplate (f.face from)) _ (not_missing t f.face c done)).1 vacant in
           ap (λ (m : Option Made). face m (first_links c a g) [] [] []) (made_new s past t home from pc ps dc ds fl o a w g ∙ ap (λ (b : Bool). if b then made_with edt home a g else made s past g) is)
           ∙ rw on (new_parts (a.value == g) (names_new a.scope g) (names_new a.output g) edt (Some (MadeScope home a.output)) (Some (MadeEvent OUTPUT_KIND OUTPUT_FLAGS 0)) (dep_links 0 ds [])
           (new_face (f.face from) dc ds) (new_scope (home_on (f.core t)) a) new_output (f.face g) (sym now ∙ is)
@@ -462,7 +462,7 @@ created_face s past t home from pc dc fl ps ds o a w on legal g =
           ∙ rw apart refl
       | false ↦ λ off.
           let old : created_part t from dc ds a f g ≡ f.face g = old_part (a.value == g) (names_new a.scope g) (names_new a.output g) _ _ _ (f.face g) (sym now ∙ off) in
-          let live : named_dep g ds ≡ true → is_destroyed (f.face g) ≡ false = deps_pass (is_refused_as_stale t) f.face ds g (or_rest (is_destroyed (f.face from)) _ (not_stale t f.face c done)) in
+          let live : named_dep g ds ≡ true → is_destroyed (f.face g) ≡ false = deps_pass (is_refused_as_stale t) f.face ds g (or_parts (is_destroyed (f.face from)) _ (not_stale t f.face c done)).1 in
           let linked : (called t c a w f).face g ≡ face (made s past g) (link_calls past g) (block_calls s past g) (dep_targets a.value 0 g ds (event_calls s past g)) (scope_calls past g) =
           told ∙ ap (dep_fold a.value 0 g ds) old ∙ event_fold (made s past g) (link_calls past g) (block_calls s past g) (event_calls s past g) (scope_calls past g) a.value 0 g ds live in
           ap (λ (m : Option Made). face m (link_calls past g) (block_calls s past g) (event_step s past c a g (event_calls s past g)) (join_step c home a g (scope_calls past g))) (made_old s past t home c a w g off)
@@ -504,7 +504,7 @@ called_face s past t home (call.Store d k v) a w run on legal g = rw on
 called_face s past t home (call.AddDependence from x i m) a w run on legal g =
     let done : code_of t (parts_of s past).face (call.AddDependence from x i m) ≡ code.Done = sym legal.code ∙ done_is a.code on in
     rw on (depended_face s past from x i m g
-    (or_left (from == x) _ (of_kind t (parts_of s past).face (call.AddDependence from x i m) done))
+    (or_parts (from == x) _ (of_kind t (parts_of s past).face (call.AddDependence from x i m) done)).0
     (source_live t from x (parts_of s past).face (not_stale t (parts_of s past).face (call.AddDependence from x i m) done))
     (linkable (brings_block (parts_of s past).face from) ((parts_of s past).face x) i m (accepted t (parts_of s past).face (call.AddDependence from x i m) done)))
 called_face s past t home (call.Satisfy e p slot) a w run on legal g =
@@ -520,7 +520,7 @@ called_face s past t home (call.EventDestroy x) a w run on legal g = rw on
 called_face s past t home other a w run on legal g = refl
 
 -- what comes next, as the parts that were made ready tell it
-core_next : (m : Option Made) (i : Identity) (members : List (ℕ × Mode)) (calls : List edt.EdtCall) (loans : List (ℕ × Kept)) (x : ℕ × Mode)
+pub core_next : (m : Option Made) (i : Identity) (members : List (ℕ × Mode)) (calls : List edt.EdtCall) (loans : List (ℕ × Kept)) (x : ℕ × Mode)
     → next_in (core_progress (on_core (core m i calls loans) (with_phase (made_ready members)))) ≡ Some x → first_of (edt.undone_of (with_plan members calls)) ≡ Some x
 core_next (Some (MadeEdt f ps n)) i members calls loans x is = next_is i members calls x is
 core_next other i members calls loans x is = cc
@@ -673,7 +673,7 @@ made_core s past t home from pc dc fl ps ds o a w on legal u =
             | false ↦ λ _. no_cores (names_new a.scope u) home a.output (identity_of past u) ∙ sym (fresh_core s past u (new_fresh s.limit f t home c a w u legal is))
           ] refl)
       | false ↦ λ off.
-          let apart : (is_done a.code && (a.value == u)) ≡ false = or_rest (is_done a.code && (names_new a.scope u || names_new a.output u)) _ off in
+          let apart : (is_done a.code && (a.value == u)) ≡ false = (or_parts (is_done a.code && (names_new a.scope u || names_new a.output u)) _ off).1 in
           let other : (a.value == u) ≡ false = sym (rw on refl) ∙ apart in
           ap (λ (m : Option Made). core m (identity_of after u) (edt_calls s past u) (loans_of s past u)) (made_old s past t home c a w u off)
           ∙ rw (apart, other) (refl {a = (parts_of s past).core u})

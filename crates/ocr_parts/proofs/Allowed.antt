@@ -1,6 +1,6 @@
 -- What a run does to a block is what the block allows.
 use Rattle.std.proofs.Common.{◌≡◌, ◌<◌, ◌≤◌, ℕ, ◌+◌, List, [], ◌∷◌, ◌++◌, length, Bool, true, false, Option, Some, None, ◌==◌, ◌&&◌, ◌⊎◌, inl, inr, if◌then◌else◌, refl, sym, ◌∙◌, ap, subst, is_some, arith, rules}
-use Rattle.std.proofs.lemmas.Bool.{eqb-true}
+use Rattle.std.proofs.lemmas.Bool.{eqb-true, and_parts}
 use Rattle.std.proofs.lemmas.List.{append-nil, append_assoc}
 use Rattle.ocr_guid.specs.Target.{EventCall}
 use Rattle.ocr_acquire.specs.declared.Mode.{Mode}
@@ -29,6 +29,7 @@ use Rattle.ocr_datablock.specs.Steps.{AreAllowed}
 use Rattle.ocr_meaning.specs.Holds.{is_done}
 use Rattle.ocr_parts.specs.Kinds.{IsBlock, is_destroyed}
 use Rattle.ocr_finish.specs.Scope.{ScopeCall}
+use Rattle.ocr_parts.proofs.Lent.{exclusive_is}
 
 abbrev Are : Option Made → List block.BlockCall → Type 0
 Are m calls = AreAllowed (size_in m) (creator_in m) calls
@@ -82,9 +83,6 @@ store_are (Some (MadeBlock n c)) links blocks events scopes t k v mo held are = 
 store_are other links blocks events scopes t k v mo held are = absurd held
 
 -- A BLOCK IS GRANTED
-exclusive_is : (m : Mode) → is_exclusive m ≡ true → m ≡ mode.Ew
-exclusive_is mode.Ew is = refl
-exclusive_is other is = cc
 
 none_from : (o : Option Mode) → is_some o ≡ false → o ≡ None
 none_from None is = refl
@@ -120,14 +118,6 @@ refused_are : (made : Option Made) (links : List slot.SlotCall) (blocks : List b
 refused_are (Some (MadeBlock n c)) links blocks events scopes t m refused are = (are, (refused.newcomer.no_holder, refused.newcomer.not_waiting, refused.newcomer.some_mode))
 refused_are other links blocks events scopes t m refused are = absurd refused
 
-first_of : (a b : Bool) → (a && b) ≡ true → a ≡ true
-first_of true b h = refl
-first_of false b h = h
-
-second_of : (a b : Bool) → (a && b) ≡ true → b ≡ true
-second_of true b h = h
-second_of false b h = cc h
-
 called_are : (s : Setting) (past : History) (t home : ℕ) (c : body.Call) (a : Answer) (w : List (ℕ × ℕ)) (d : ℕ) → IsCallOn s.limit (parts_of s past) t home c a w → Are (made s past d) (block_calls s past d)
     → Are (made s (Call t home c a w ∷ past) d) (block_calls s (Call t home c a w ∷ past) d)
 called_are s past t home (call.DbCreate n fl) a w d legal are = new_are (is_new (call.DbCreate n fl) a d) _ (made s past d) (block_calls s past d) (made_old s past t home (call.DbCreate n fl) a w d) are
@@ -135,19 +125,19 @@ called_are s past t home (call.TemplateCreate f pc dc) a w d legal are = new_are
 called_are s past t home (call.EdtCreate from pc ps dc ds fl o) a w d legal are = new_are (is_new (call.EdtCreate from pc ps dc ds fl o) a d) _ (made s past d) (block_calls s past d) (made_old s past t home (call.EdtCreate from pc ps dc ds fl o) a w d) are
 called_are s past t home (call.DbRelease b) a w d legal are =
     are_if (is_done a.code && (b == d)) (made s past d) (end_calls t w (block_calls s past d)) (block_calls s past d)
-    (λ here. let e : b ≡ d = eqb-true b d (second_of (is_done a.code) (b == d) here) in
+    (λ here. let e : b ≡ d = eqb-true b d (and_parts (is_done a.code) (b == d) here).1 in
     subst (λ (n : ℕ). Are (made s past n) (block_calls s past n) → Are (made s past n) (end_calls t w (block_calls s past n))) e
-    (end_are (made s past b) (link_calls past b) (block_calls s past b) (event_calls s past b) (scope_calls past b) t w _ _ (legal.value.0 (first_of (is_done a.code) (b == d) here))) are) are
+    (end_are (made s past b) (link_calls past b) (block_calls s past b) (event_calls s past b) (scope_calls past b) t w _ _ (legal.value.0 (and_parts (is_done a.code) (b == d) here).0)) are) are
 called_are s past t home (call.DbDestroy b) a w d legal are =
     are_if (is_done a.code && (b == d)) (made s past d) (doom_calls t w (block_calls s past d)) (block_calls s past d)
-    (λ here. let e : b ≡ d = eqb-true b d (second_of (is_done a.code) (b == d) here) in
-    let on : is_done a.code ≡ true = first_of (is_done a.code) (b == d) here in
+    (λ here. let e : b ≡ d = eqb-true b d (and_parts (is_done a.code) (b == d) here).1 in
+    let on : is_done a.code ≡ true = (and_parts (is_done a.code) (b == d) here).0 in
     subst (λ (n : ℕ). Are (made s past n) (block_calls s past n) → Are (made s past n) (doom_calls t w (block_calls s past n))) e
     (doom_are (made s past b) (link_calls past b) (block_calls s past b) (event_calls s past b) (scope_calls past b) t w _ _ (legal.value.0 on)
     (no_other (is_destroyed ((parts_of s past).face b)) (not_stale t (parts_of s past).face (call.DbDestroy b) (sym legal.code ∙ done_is a.code on)))) are) are
 called_are s past t home (call.Store b k v) a w d legal are =
     are_if (is_done a.code && (b == d)) (made s past d) (block.Store k v ∷ block_calls s past d) (block_calls s past d)
-    (λ here. let e : b ≡ d = eqb-true b d (second_of (is_done a.code) (b == d) here) in
+    (λ here. let e : b ≡ d = eqb-true b d (and_parts (is_done a.code) (b == d) here).1 in
     subst (λ (n : ℕ). Are (made s past n) (block_calls s past n) → Are (made s past n) (block.Store k v ∷ block_calls s past n)) e
     (store_are (made s past b) (link_calls past b) (block_calls s past b) (event_calls s past b) (scope_calls past b) t k v _ legal.value.0) are) are
 called_are s past t home (call.EventCreate k fl) a w d legal are = new_are (is_new (call.EventCreate k fl) a d) _ (made s past d) (block_calls s past d) (made_old s past t home (call.EventCreate k fl) a w d) are

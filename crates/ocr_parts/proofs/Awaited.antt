@@ -2,6 +2,7 @@
 use Rattle.std.proofs.Common.{◌≡◌, ℕ, ◌/◌, List, [], ◌∷◌, Bool, true, false, Option, Some, None, ◌==◌, ◌&&◌, ◌||◌, not, if◌then◌else◌, refl, sym, ◌∙◌, ap, is_some}
 use Rattle.std.proofs.lemmas.Bool.{eqb-true}
 use Rattle.std.specs.List.{filter}
+use Rattle.std.proofs.Math.Bool.{or-true}
 use Rattle.ocr_acquire.specs.declared.Mode.{Mode}
 use Rattle.ocr_acquire.specs.declared.Mode.TheVariants as mode
 use Rattle.ocr_datablock.specs.Block as block
@@ -32,14 +33,10 @@ has_loan d (one ∷ rest) = ((one.0 == d) && is_some one.1.loan) || has_loan d r
 abbrev IsHad : ℕ → List (ℕ × Kept) → List edt.EdtCall → Type 0
 IsHad d loans calls = has_loan d loans ≡ true → edt.was_acquired d calls ≡ true
 
-or_right : (b : Bool) → (b || true) ≡ true
-or_right true = refl
-or_right false = refl
-
 fewer : (b d : ℕ) (loans : List (ℕ × Kept)) → has_loan d (without_kept b loans) ≡ true → has_loan d loans ≡ true
 fewer b d [] is = is
 fewer b d (one ∷ rest) is = elim (one.0 == b) as (λ x. has_loan d (if x then rest else one ∷ without_kept b rest) ≡ true → (((one.0 == d) && is_some one.1.loan) || has_loan d rest) ≡ true) [
-  | true ↦ λ is. rw is (or_right ((one.0 == d) && is_some one.1.loan))
+  | true ↦ λ is. rw is (or-true ((one.0 == d) && is_some one.1.loan))
   | false ↦ λ is. elim ((one.0 == d) && is_some one.1.loan) as (λ y. (y || has_loan d (without_kept b rest)) ≡ true → (y || has_loan d rest) ≡ true) [ true ↦ λ _. refl | false ↦ λ is. fewer b d rest is ] is
 ] is
 
@@ -122,7 +119,7 @@ first_kept test (one ∷ rest) x is = elim (test one) as (λ b. test one ≡ b �
   | false ↦ λ _ is. first_kept test rest x is
 ] refl is
 
-not_first : (a b : Bool) → (not a && b) ≡ true → a ≡ false
+pub not_first : (a b : Bool) → (not a && b) ≡ true → a ≡ false
 not_first true b is = cc is
 not_first false b is = refl
 

@@ -76,7 +76,7 @@ pub scope_below : (a : Answer) (n : ℕ) → (a.scope == 0) ≡ false → last_o
 scope_below a n some last = rw some at last
 
 -- what is no event is linked to nothing
-other_event : (x : Part) (step : AnyEvent → AnyEvent) → is_event x ≡ false → with_event x step ≡ x
+pub other_event : (x : Part) (step : AnyEvent → AnyEvent) → is_event x ≡ false → with_event x step ≡ x
 other_event (part.Event st) step is = cc is
 other_event other step is = refl
 

@@ -2,7 +2,6 @@
 use Rattle.std.proofs.Common.{◌≡◌, inl, inr, ℕ, List, [], ◌∷◌, ◌++◌, ◌&&◌, not, Bool, true, false, Option, Some, None, ◌==◌, if◌then◌else◌, refl, sym, ◌∙◌, ap, subst, is_some}
 use Rattle.std.proofs.lemmas.Bool.{eqb-true}
 use Rattle.ocr_guid.specs.Target.{EventCall, Destruction}
-use Rattle.ocr_parts.proofs.Choices.{same}
 use Rattle.ocr_guid.specs.declared.Code.TheVariants as code
 use Rattle.ocr_acquire.specs.declared.Mode.{Mode}
 use Rattle.ocr_acquire.specs.declared.Mode.TheVariants as mode
@@ -25,6 +24,7 @@ use Rattle.ocr_any_event.specs.AnyEvent as event
 use Rattle.ocr_any_event.proofs.Laws as event_laws
 use Rattle.ocr_slots.specs.Steps.{after_link}
 use Rattle.ocr_finish.specs.Scope.{ScopeCall}
+use Rattle.ocr_base.proofs.Booleans.{same}
 
 -- a borrower by its number
 pub borrower_is : (t : ℕ) (o : Option ℕ) → is_number t o ≡ true → o ≡ Some t
@@ -126,19 +126,19 @@ edt_linked (Some (MadeEdt f ps n)) links blocks events scopes i m done = ap part
 edt_linked other links blocks events scopes i m done = cc
 
 -- WHO ASKS and can be granted holds the block
-mode_added : (t : ℕ) (m : Mode) (holders : List (ℕ × Mode)) → mode_in t holders ≡ None → mode_in t (holders ++ (t, m) ∷ []) ≡ Some m
+pub mode_added : (t : ℕ) (m : Mode) (holders : List (ℕ × Mode)) → mode_in t holders ≡ None → mode_in t (holders ++ (t, m) ∷ []) ≡ Some m
 mode_added t m [] is = rw (same t) refl
 mode_added t m (one ∷ rest) is = elim (one.0 == t) as (λ b. (if b then Some one.1 else mode_in t rest) ≡ None → (if b then Some one.1 else mode_in t (rest ++ (t, m) ∷ [])) ≡ Some m) [
   | true ↦ λ is. cc is
   | false ↦ λ is. mode_added t m rest is
 ] is
 
-joined_granted : (b c : Bool) (x y z : block.Line) → b ≡ false → c ≡ true → (if b then x else if c then y else z) ≡ y
+pub joined_granted : (b c : Bool) (x y z : block.Line) → b ≡ false → c ≡ true → (if b then x else if c then y else z) ≡ y
 joined_granted true c x y z off on = cc off
 joined_granted false true x y z off on = refl
 joined_granted false false x y z off on = cc on
 
-not_gone : (d x y : Bool) → (not d && x) ≡ true → (d && y) ≡ false
+pub not_gone : (d x y : Bool) → (not d && x) ≡ true → (d && y) ≡ false
 not_gone true x y is = cc is
 not_gone false x y is = refl
 

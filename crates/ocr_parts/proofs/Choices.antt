@@ -1,28 +1,14 @@
 -- Choices by equal numbers.
-use Rattle.std.proofs.Common.{◌≡◌, ℕ, Bool, true, false, Some, ◌==◌, ◌||◌, if◌then◌else◌, refl, ap, subst, rules}
+use Rattle.std.proofs.Common.{◌≡◌, ℕ, Bool, true, false, Some, ◌==◌, ◌||◌, if◌then◌else◌, refl, ap, subst}
 use Rattle.std.proofs.lemmas.Bool.{eqb-true}
-
-pub same : (n : ℕ) → (n == n) ≡ true
-same n = search rules
-
-pub or_right : (b : Bool) → (b || true) ≡ true
-or_right true = refl
-or_right false = refl
-
--- of two that do not hold
-pub or_left : (b c : Bool) → (b || c) ≡ false → b ≡ false
-or_left true c is = cc is
-or_left false c is = refl
-
-pub or_rest : (b c : Bool) → (b || c) ≡ false → c ≡ false
-or_rest true c is = cc is
-or_rest false c is = is
+use Rattle.std.proofs.Math.Bool.{or-true}
+use Rattle.ocr_base.proofs.Booleans.{same}
 
 pub left : (n : ℕ) (b : Bool) → ((n == n) || b) ≡ true
 left n b = rw (same n) refl
 
 pub right : (n : ℕ) (b : Bool) → (b || (n == n)) ≡ true
-right n b = rw (same n) (or_right b)
+right n b = rw (same n) (or-true b)
 
 pub at_same : {A : Type 0} (P Q : ℕ → A) (n g : ℕ) (rest : A) → P n ≡ Q n → (if n == g then P g else rest) ≡ (if n == g then Q n else rest)
 at_same P Q n g rest is = elim (n == g) as (λ b. (n == g) ≡ b → (if b then P g else rest) ≡ (if b then Q n else rest)) [

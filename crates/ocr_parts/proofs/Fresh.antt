@@ -1,6 +1,6 @@
 -- What a call makes has a fresh number, and all else stays.
-use Rattle.std.proofs.Common.{◌≡◌, ℕ, List, ◌∷◌, Bool, true, false, not, ◌&&◌, ◌||◌, ◌==◌, if◌then◌else◌, Option, Some, ◌⊎◌, inl, inr, refl, ◌∙◌, ap, subst}
-use Rattle.std.proofs.lemmas.Bool.{eqb-true}
+use Rattle.std.proofs.Common.{◌≡◌, ℕ, List, ◌∷◌, Bool, true, false, not, ◌&&◌, ◌||◌, ◌==◌, if◌then◌else◌, Option, Some, inl, inr, refl, ◌∙◌, ap, subst}
+use Rattle.std.proofs.lemmas.Bool.{eqb-true, and_parts, or_cases, not-true}
 use Rattle.ocr_meaning.specs.Holds.{is_done}
 use Rattle.ocr_meaning.specs.declared.call.Call as body
 use Rattle.ocr_meaning.specs.declared.call.Call.TheVariants as call
@@ -12,29 +12,16 @@ use Rattle.ocr_history.specs.Made.{Made, MadeScope, MadeEvent, made, edt_from, m
 use Rattle.ocr_parts.specs.Parts.{Parts}
 use Rattle.ocr_parts.specs.LegalOn.{IsFresh, IsNamed, IsBeside, IsCallOn}
 
-pub both_of : (b c : Bool) → (b && c) ≡ true → (b ≡ true) × (c ≡ true)
-both_of true true is = (refl, refl)
-both_of true false is = cc is
-both_of false c is = cc is
-
-pub either_of : (b c : Bool) → (b || c) ≡ true → (b ≡ true) ⊎ (c ≡ true)
-either_of true c is = inl refl
-either_of false c is = inr is
-
-not_is : (b : Bool) → not b ≡ true → b ≡ false
-not_is true is = cc is
-not_is false is = refl
-
 -- a number that names an object is not NULL_GUID
 pub some_named : (n g : ℕ) → names_new n g ≡ true → (n == 0) ≡ false
-some_named n g is = not_is (n == 0) (both_of (not (n == 0)) (n == g) is).0
+some_named n g is = not-true (n == 0) (and_parts (not (n == 0)) (n == g) is).0
 
 pub number_named : (n g : ℕ) → names_new n g ≡ true → n ≡ g
-number_named n g is = eqb-true n g (both_of (not (n == 0)) (n == g) is).1
+number_named n g is = eqb-true n g (and_parts (not (n == 0)) (n == g) is).1
 
 pub named_fresh : (limit : ℕ) (f : Parts) (a : Answer) (g : ℕ) → IsNamed limit f a → makes a g ≡ true → IsFresh limit f g
 named_fresh limit f a g named is =
-    let both = both_of (is_done a.code) (a.value == g) is in
+    let both = and_parts (is_done a.code) (a.value == g) is in
     subst (IsFresh limit f) (eqb-true a.value g both.1) (named.fresh both.0)
 
 -- and that of an EDT's scope, and of its output event
@@ -47,8 +34,8 @@ new_fresh limit f t home (call.DbCreate n fl) a w g legal is = named_fresh limit
 new_fresh limit f t home (call.TemplateCreate function pc dc) a w g legal is = named_fresh limit f a g legal.value is
 new_fresh limit f t home (call.EventCreate k fl) a w g legal is = named_fresh limit f a g legal.value is
 new_fresh limit f t home (call.EventCreateParams k fl most sats deps) a w g legal is = named_fresh limit f a g legal.value is
-new_fresh limit f t home (call.EdtCreate from pc ps dc ds fl o) a w g legal is = elim (either_of _ _ is) [
-  | inl beside ↦ elim (either_of _ _ (both_of (is_done a.code) _ beside).1) [
+new_fresh limit f t home (call.EdtCreate from pc ps dc ds fl o) a w g legal is = elim (or_cases _ _ is) [
+  | inl beside ↦ elim (or_cases _ _ (and_parts (is_done a.code) _ beside).1) [
     | inl scope ↦ beside_fresh _ limit f _ a.scope g legal.scope scope
     | inr output ↦ beside_fresh _ limit f _ a.output g legal.output output
   ]

@@ -2,7 +2,7 @@
 use Rattle.std.proofs.Common.{◌≡◌, ℕ, ◌/◌, not, List, [], Bool, true, false, Option, Some, None, ◌==◌, if◌then◌else◌, refl, sym, ◌∙◌, ap, subst, is_some, inl, inr}
 use Rattle.std.proofs.lemmas.Bool.{eqb-true}
 use Rattle.std.proofs.lemmas.Bool.Decides.{eqb_tells}
-use Rattle.ocr_base.proofs.Booleans.{eqb_flips}
+use Rattle.ocr_base.proofs.Booleans.{eqb_flips, same}
 use Rattle.ocr_acquire.specs.declared.Mode.{Mode}
 use Rattle.ocr_acquire.specs.declared.Mode.TheVariants as mode
 use Rattle.ocr_edt.specs.declared.Edt.{Edt}
@@ -15,7 +15,6 @@ use Rattle.ocr_meaning.specs.declared.call.Answer.{Answer}
 use Rattle.ocr_parts.specs.declared.part.Core.{Core}
 use Rattle.ocr_parts.specs.declared.part.Part.{Part}
 use Rattle.ocr_parts.specs.declared.part.Part.TheVariants as part
-use Rattle.ocr_parts.proofs.Choices.{same}
 use Rattle.ocr_parts.proofs.Lent.{kept_after_put, loan_kept}
 use Rattle.ocr_parts.proofs.After.{linked_core, deps_core}
 use Rattle.ocr_acquire.specs.Mode.{mode_in}

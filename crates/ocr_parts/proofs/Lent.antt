@@ -1,6 +1,6 @@
 -- Who has the words of a block on loan.
-use Rattle.std.proofs.Common.{◌≡◌, ℕ, ◌+◌, ◌/◌, List, [], ◌∷◌, ◌++◌, Bool, true, false, Option, Some, None, ◌==◌, ◌&&◌, if◌then◌else◌, refl, sym, ◌∙◌, ap, subst, rules}
-use Rattle.std.proofs.lemmas.Bool.{eqb-true}
+use Rattle.std.proofs.Common.{◌≡◌, ℕ, ◌+◌, ◌/◌, List, [], ◌∷◌, ◌++◌, Bool, true, false, Option, Some, None, ◌==◌, ◌&&◌, if◌then◌else◌, refl, sym, ◌∙◌, ap, subst}
+use Rattle.std.proofs.lemmas.Bool.{eqb-true, and_parts}
 use Rattle.std.proofs.lemmas.List.{append-nil, append_assoc}
 use Rattle.ocr_guid.specs.Target.{EventCall}
 use Rattle.ocr_acquire.specs.declared.Mode.{Mode}
@@ -30,6 +30,7 @@ use Rattle.ocr_parts.specs.Loans.{kept_created, kept_in, kept_of, with_kept, wit
 use Rattle.ocr_parts.specs.declared.loans.Kept.{Kept}
 use Rattle.ocr_finish.specs.Scope.{ScopeCall}
 use Rattle.ocr_edt.specs.declared.Identity.{Identity}
+use Rattle.ocr_base.proofs.Booleans.{same}
 
 -- what is told of a block and of a loan, by their lists
 abbrev lent_kept : Option Made → List block.BlockCall → Kept
@@ -75,12 +76,9 @@ held_past : (done own : Bool) (z b d : ℕ) (loans : List (ℕ × Kept)) → (do
 held_past true own z b d loans apart = loan_past own (kept_created z) b d loans apart
 held_past false own z b d loans apart = refl
 
-exclusive_is : (m : Mode) → is_exclusive m ≡ true → m ≡ mode.Ew
+pub exclusive_is : (m : Mode) → is_exclusive m ≡ true → m ≡ mode.Ew
 exclusive_is mode.Ew is = refl
 exclusive_is other is = cc
-
-same : (n : ℕ) → (n == n) ≡ true
-same n = search rules
 
 -- what holds of two lists holds of the one that is chosen
 fit_if : (b : Bool) (md : Option Made) (x y : List block.BlockCall) (loans : List (ℕ × Kept)) (mt : Option Made) (d t : ℕ)
@@ -132,14 +130,6 @@ created_fit false false md mt xd xt blocks loans d t here there vacant fit is =
     let now = fit refl is in
     (now.0 ∙ ap (λ (m : Option Made). Some (lent_kept m blocks)) (sym (here refl)), ap is_edt_made (there refl) ∙ now.1)
 
-first_of : (a b : Bool) → (a && b) ≡ true → a ≡ true
-first_of true b h = refl
-first_of false b h = h
-
-second_of : (a b : Bool) → (a && b) ≡ true → b ≡ true
-second_of true b h = h
-second_of false b h = cc h
-
 fresh_edt : (s : Setting) (past : History) (t : ℕ) → IsFresh s.limit (parts_of s past) t → is_edt_made (made s past t) ≡ false
 fresh_edt s past t fresh = ap is_edt_made (made_none s past t fresh.vacant)
 
@@ -181,9 +171,9 @@ called_fit s past u home (call.DbRelease b) a w d t legal fit is =
     let loans = loans_of s past t in
     fit_if (is_done a.code && (b == d)) (made s past d) (end_calls u w blocks) blocks (if is_done a.code && (u == t) then without_kept b loans else loans) (made s past t) d t
     (λ here borrowed.
-    let e : b ≡ d = eqb-true b d (second_of (is_done a.code) (b == d) here) in
+    let e : b ≡ d = eqb-true b d (and_parts (is_done a.code) (b == d) here).1 in
     subst (λ (n : ℕ). IsFit (made s past d) (end_calls u w blocks) (if is_done a.code && (u == t) then without_kept n loans else loans) (made s past t) d) (sym e)
-    (ended_fit (made s past d) blocks loans (made s past t) u d t w (is_done a.code && (u == t)) (second_of (is_done a.code) (u == t)) fit borrowed))
+    (ended_fit (made s past d) blocks loans (made s past t) u d t w (is_done a.code && (u == t)) (λ both. (and_parts (is_done a.code) (u == t) both).1) fit borrowed))
     (λ apart borrowed.
     let kept : kept_in d (if is_done a.code && (u == t) then without_kept b loans else loans) ≡ kept_in d loans =
     elim (is_done a.code) as (λ x. (x && (b == d)) ≡ false → kept_in d (if x && (u == t) then without_kept b loans else loans) ≡ kept_in d loans) [
@@ -197,9 +187,9 @@ called_fit s past u home (call.DbDestroy b) a w d t legal fit is =
     let loans = loans_of s past t in
     fit_if (is_done a.code && (b == d)) (made s past d) (doom_calls u w blocks) blocks (if is_done a.code && (u == t) then without_kept b loans else loans) (made s past t) d t
     (λ here borrowed.
-    let e : b ≡ d = eqb-true b d (second_of (is_done a.code) (b == d) here) in
+    let e : b ≡ d = eqb-true b d (and_parts (is_done a.code) (b == d) here).1 in
     subst (λ (n : ℕ). IsFit (made s past d) (doom_calls u w blocks) (if is_done a.code && (u == t) then without_kept n loans else loans) (made s past t) d) (sym e)
-    (ended_fit (made s past d) blocks loans (made s past t) u d t w (is_done a.code && (u == t)) (second_of (is_done a.code) (u == t)) fit borrowed))
+    (ended_fit (made s past d) blocks loans (made s past t) u d t w (is_done a.code && (u == t)) (λ both. (and_parts (is_done a.code) (u == t) both).1) fit borrowed))
     (λ apart borrowed.
     let kept : kept_in d (if is_done a.code && (u == t) then without_kept b loans else loans) ≡ kept_in d loans =
     elim (is_done a.code) as (λ x. (x && (b == d)) ≡ false → kept_in d (if x && (u == t) then without_kept b loans else loans) ≡ kept_in d loans) [
@@ -212,7 +202,7 @@ called_fit s past u home (call.Store b k v) a w d t legal fit is =
     let blocks = block_calls s past d in
     fit_if (is_done a.code && (b == d)) (made s past d) (block.Store k v ∷ blocks) blocks (loans_of s past t) (made s past t) d t
     (λ here borrowed.
-    let e : b ≡ d = eqb-true b d (second_of (is_done a.code) (b == d) here) in
+    let e : b ≡ d = eqb-true b d (and_parts (is_done a.code) (b == d) here).1 in
     let none : block.borrower_of blocks ≡ None = subst (λ (n : ℕ). block.borrower_of (block_calls s past n) ≡ None) e
     (shared_not_lent (made s past b) (link_calls past b) (block_calls s past b) (event_calls s past b) (scope_calls past b) u k _ legal.value.0) in
     cc)

@@ -20,7 +20,7 @@ use Rattle.ocr_parts.specs.LegalOn.{IsSatisfiable, delivery_code, HasMember, IsB
 use Rattle.ocr_parts.specs.Messages.{what_to, satisfied, linked, linked_by, dep_sends, sent_by, sent_by_leave, sent_by_message, payload_of_end, sent_by_end, resumed_by, resumes, resumed_by_doom}
 use Rattle.ocr_parts.specs.Footprint.{is_brought_to, names_beside, names_face, makes_core, on_face, on_core_of, IsAlike, is_wanted}
 use Rattle.ocr_parts.specs.Laws.{EffectLaw, CodeLaw, LegalityLaw, SettledLegalLaw}
-use Rattle.ocr_parts.proofs.Choices.{same, or_right, left, right, chosen}
+use Rattle.ocr_parts.proofs.Choices.{left, right, chosen}
 use Rattle.ocr_acquire.specs.Mode.{mode_in}
 use Rattle.ocr_datablock.specs.Steps.{after_ask, after_release, after_store, after_doom}
 use Rattle.ocr_history.specs.History.{own}
@@ -30,6 +30,7 @@ use Rattle.ocr_any_event.specs.AnyEvent as event
 use Rattle.ocr_finish.specs.Scope as scope
 use Rattle.ocr_history.specs.Made.{names_new}
 use Rattle.std.proofs.lemmas.Grind.{common_steps}
+use Rattle.std.proofs.Math.Bool.{or-true}
 use Rattle.ocr_guid.specs.declared.target.Target.{Target as Reached}
 use Rattle.ocr_guid.specs.declared.Code.{Code}
 use Rattle.ocr_history.specs.declared.entry.What.{What}
@@ -38,6 +39,7 @@ use Rattle.ocr_parts.proofs.After.{dep_fold, deps_face, deps_core, linked_core, 
 use Rattle.ocr_parts.specs.Loans.{kept_in, loan_in, settled_loan, settled_loans}
 use Rattle.ocr_parts.specs.declared.loans.Kept.{Kept}
 use Rattle.ocr_slots.specs.Steps.{after_link}
+use Rattle.ocr_base.proofs.Booleans.{same}
 
 -- what a call wants first is named
 first : (n : ℕ) (b c : Bool) → (((n == n) || b) || c) ≡ true
@@ -45,7 +47,7 @@ first n b c = rw (same n) refl
 
 -- and so is what stands behind it
 second : (b c : Bool) → ((b || true) || c) ≡ true
-second b c = rw (or_right b) refl
+second b c = rw (or-true b) refl
 
 -- the source of a dependence is named, where it is not NULL_GUID
 source_named : (from x i m : ℕ) (a : Answer) → (from == 0) ≡ false → names_face (call.AddDependence from x i m) a from ≡ true
@@ -53,7 +55,7 @@ source_named from x i m a some = rw (some, same from) (second (x == from) false)
 
 -- what a call names, its entry names, besides what is made beside an EDT and the home that it joins
 pub call_named : (t home : ℕ) (c : body.Call) (a : Answer) (w : List (ℕ × ℕ)) (g : ℕ) → names_face c a g ≡ true → on_face (Call t home c a w) g ≡ true
-call_named t home c a w g is = rw is (or_right (joins c home g || names_beside c a g))
+call_named t home c a w g is = rw is (or-true (joins c home g || names_beside c a g))
 
 -- EFFECTS
 called_faces : (t : ℕ) (c : body.Call) (a : Answer) (w : List (ℕ × ℕ)) (f h : Parts) → ((g : ℕ) → names_face c a g ≡ true → f.face g ≡ h.face g) → f.core t ≡ h.core t → (b : Bool) (g : ℕ) → f.face g ≡ h.face g
@@ -141,7 +143,7 @@ deps_alike t k (d ∷ rest) f h alike =
       | true ↦ λ alike.
           let here : f.face d ≡ h.face d = alike d (left d _) in
           (λ j. (if is_given d then linked (here j) d to else []) ++ deps_alike t (k + 1) rest (linked_if true d to f) (linked_if true d to h)
-          (λ g on. chosen (d == g) _ _ _ _ (ap (λ (x : Part). with_event x (λ st. event.after_link st to)) here) (alike g (rw on (or_right (d == g))))) j)
+          (λ g on. chosen (d == g) _ _ _ _ (ap (λ (x : Part). with_event x (λ st. event.after_link st to)) here) (alike g (rw on (or-true (d == g))))) j)
       | false ↦ λ alike. ap (λ (l : List What). (if is_given d then what_to (d, to) ∷ [] else []) ++ l) (deps_alike t (k + 1) rest f h alike)
     ] alike
 
@@ -243,7 +245,7 @@ effect_law (Stop why) f h alike = (alike, refl, refl)
 -- CODES
 any_alike : (f h : ℕ → Part) (test : Sort → Part → Bool) (list : List (ℕ × Sort)) → ((g : ℕ) → is_wanted g list ≡ true → f g ≡ h g) → is_any test f list ≡ is_any test h list
 any_alike f h test [] alike = refl
-any_alike f h test (one ∷ rest) alike = λ j. test one.1 (alike one.0 (left one.0 (is_wanted one.0 rest)) j) || any_alike f h test rest (λ g on. alike g (rw on (or_right (one.0 == g)))) j
+any_alike f h test (one ∷ rest) alike = λ j. test one.1 (alike one.0 (left one.0 (is_wanted one.0 rest)) j) || any_alike f h test rest (λ g on. alike g (rw on (or-true (one.0 == g)))) j
 
 number_alike : (t : ℕ) (c : body.Call) (f h : ℕ → Part) → ((g : ℕ) → is_wanted g (wanted c) ≡ true → f g ≡ h g) → number_code t f c ≡ number_code t h c
 number_alike t (call.DbRelease d) f h alike = ap (λ (x : Part). release_code x t) (alike d (left d false))
@@ -255,7 +257,7 @@ number_alike t (call.AddDependence from x i m) f h alike =
     elim (from == 0) as (λ b. (b ≡ false → f from ≡ h from) → (not b && is_block (f from)) ≡ (not b && is_block (h from))) [
       | true ↦ λ _. refl
       | false ↦ λ is. ap is_block (is refl)
-    ] (λ some. alike from (rw (some, same from) (or_right (x == from)))) in
+    ] (λ some. alike from (rw (some, same from) (or-true (x == from)))) in
     λ j. dependence_code (brings j) (face_x j) i m
 number_alike t other f h alike = refl
 
@@ -334,14 +336,14 @@ delivered_like (what.Satisfy e i p) c f h faces legal = subst (λ (x : Part). Is
 delivered_like (what.Leave x) c f h faces legal = subst (λ (y : Part). HasMember y × (c ≡ code.Done)) (faces x (same x)) legal
 
 -- what is made beside an EDT, and the home that it joins
-named_self : (n : ℕ) → (n == 0) ≡ false → names_new n n ≡ true
+pub named_self : (n : ℕ) → (n == 0) ≡ false → names_new n n ≡ true
 named_self n some = rw (some, same n) refl
 
 on_scope : (x y z : Bool) → ((x || (true || y)) || z) ≡ true
-on_scope x y z = rw (or_right x) refl
+on_scope x y z = rw (or-true x) refl
 
 on_output : (x y z : Bool) → ((x || (y || true)) || z) ≡ true
-on_output x y z = rw (or_right y, or_right x) refl
+on_output x y z = rw (or-true y, or-true x) refl
 
 not_none : (n : ℕ) → 1 ≤ n → (n == 0) ≡ false
 not_none n some = grind (arith, common_steps)

@@ -28,7 +28,7 @@ use Rattle.ocr_parts.specs.Kinds.{home_on, is_edt_face, with_links, core_progres
 use Rattle.ocr_parts.specs.Loans.{given_loan, kept_created, kept_in, loan_in, settled_loan, settled_loans, without_kept}
 use Rattle.ocr_parts.specs.declared.loans.Kept.{Kept}
 
-settled_if : (b : Bool) (x y : Part) → settled (if b then x else y) ≡ (if b then settled x else settled y)
+pub settled_if : (b : Bool) (x y : Part) → settled (if b then x else y) ≡ (if b then settled x else settled y)
 settled_if true x y = refl
 settled_if false x y = refl
 

@@ -10,7 +10,6 @@ use Rattle.ocr_meaning.specs.declared.call.Answer.{Answer}
 use Rattle.ocr_history.specs.declared.entry.Entry.TheVariants.{Deliver, StaleAcquire, Call, Acquire, Wait, Start, Free, End}
 use Rattle.ocr_parts.specs.declared.part.Core.{Core}
 use Rattle.ocr_parts.specs.declared.part.Part.TheVariants as part
-use Rattle.ocr_parts.proofs.Choices.{same}
 use Rattle.ocr_parts.proofs.After.{after_law, linked_core, deps_core}
 use Rattle.ocr_history.specs.declared.entry.What.{What}
 use Rattle.ocr_history.specs.declared.entry.What.TheVariants as what
@@ -28,6 +27,7 @@ use Rattle.ocr_parts.specs.Legal.{IsLegal, IsRun}
 use Rattle.ocr_parts.specs.LegalOn.{IsCallOn, IsLegalOn}
 use Rattle.ocr_parts.specs.Parts.{Parts, new_identity, parts_of}
 use Rattle.ocr_parts.specs.declared.part.Part.{Part}
+use Rattle.ocr_base.proofs.Booleans.{same}
 
 -- the EDT has started, by its core
 abbrev pub has_begun : Edt → Bool
@@ -171,7 +171,7 @@ started_here : (s : Setting) (past : History) (t : ℕ) → IsRun s past → IsL
 started_here s past t run legal (inl none) = (ap (λ (n : ℕ). 1 + n) none, (starts_core s past t run legal).1)
 started_here s past t run legal (inr once) = absurd (cc (once.1, (starts_core s past t run legal).0))
 
-none_more : (n : ℕ) → n ≡ 0 + n
+pub none_more : (n : ℕ) → n ≡ 0 + n
 none_more n = omega arith
 
 pub counted : (s : Setting) (past : History) (t : ℕ) → IsRun s past → IsCounted s past t

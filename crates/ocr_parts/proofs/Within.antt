@@ -1,6 +1,7 @@
 -- What is made lasts, and it has a number from 1 to the limit.
 use Rattle.std.proofs.Common.{◌≡◌, ℕ, ◌≤◌, List, [], ◌∷◌, Bool, true, false, ◌&&◌, ◌==◌, if◌then◌else◌, Option, Some, None, refl, sym, ◌∙◌, ap, arith}
 use Rattle.std.proofs.lemmas.Grind.{common_steps}
+use Rattle.std.proofs.lemmas.Bool.{and_parts}
 use Rattle.ocr_guid.specs.Target.{EventCall}
 use Rattle.ocr_guid.specs.declared.Code.{Code}
 use Rattle.ocr_guid.specs.declared.Code.TheVariants as code
@@ -24,7 +25,7 @@ use Rattle.ocr_parts.specs.Laws.{WithinLaw}
 use Rattle.ocr_meaning.specs.Holds.{is_done}
 use Rattle.ocr_parts.specs.Taken.{is_within}
 use Rattle.ocr_finish.specs.Scope.{ScopeCall}
-use Rattle.ocr_parts.proofs.Fresh.{both_of, named_fresh, beside_fresh}
+use Rattle.ocr_parts.proofs.Fresh.{named_fresh, beside_fresh}
 
 none_made : (m : Option Made) (links : List slot.SlotCall) (blocks : List block.BlockCall) (events : List EventCall) (scopes : List ScopeCall) → face m links blocks events scopes ≡ part.Vacant → m ≡ None
 none_made None links blocks events scopes is = refl
@@ -49,7 +50,7 @@ new_free s past a g named is = fresh_free s past g (named_fresh s.limit (parts_o
 
 -- and so is that of an EDT's scope, and of its output event
 pub beside_free : (on done : Bool) (s : Setting) (past : History) (other n g : ℕ) → IsBeside on s.limit (parts_of s past) other n → (done && names_new n g) ≡ true → (made s past g ≡ None) × (is_within s.limit g ≡ true)
-beside_free on done s past other n g beside is = fresh_free s past g (beside_fresh on s.limit (parts_of s past) other n g beside (both_of done (names_new n g) is).1)
+beside_free on done s past other n g beside is = fresh_free s past g (beside_fresh on s.limit (parts_of s past) other n g beside (and_parts done (names_new n g) is).1)
 
 out_made : (b : Bool) (x y : Option Made) → (b ≡ true → ⊥) → y ≡ None → (if b then x else y) ≡ None
 out_made true x y wrong is = absurd (wrong refl)
@@ -119,9 +120,9 @@ keeping_law s (Call t home (call.EdtCreate from pc ps dc ds fl o) a w ∷ past) 
     (keeping_if (is_done a.code && names_new a.scope g) _ _ (λ _. tt)
     (keeping_if (is_done a.code && names_new a.output g) _ _ (λ _ is. cc is) (keeping_law s past g run.0)))
 keeping_law s (Call t home (call.EventCreate k fl) a w ∷ past) g run =
-    keeping_if (makes a g) _ (made s past g) (λ on. plain_code t k fl (parts_of s past).face (sym run.1.on_parts.code ∙ done_is a.code (both_of (is_done a.code) (a.value == g) on).0)) (keeping_law s past g run.0)
+    keeping_if (makes a g) _ (made s past g) (λ on. plain_code t k fl (parts_of s past).face (sym run.1.on_parts.code ∙ done_is a.code (and_parts (is_done a.code) (a.value == g) on).0)) (keeping_law s past g run.0)
 keeping_law s (Call t home (call.EventCreateParams k fl most sats deps) a w ∷ past) g run =
-    keeping_if (makes a g) _ (made s past g) (λ on _. kept_code t k fl most sats deps (parts_of s past).face (sym run.1.on_parts.code ∙ done_is a.code (both_of (is_done a.code) (a.value == g) on).0)) (keeping_law s past g run.0)
+    keeping_if (makes a g) _ (made s past g) (λ on _. kept_code t k fl most sats deps (parts_of s past).face (sym run.1.on_parts.code ∙ done_is a.code (and_parts (is_done a.code) (a.value == g) on).0)) (keeping_law s past g run.0)
 keeping_law s (other ∷ past) g run = keeping_law s past g run.0
 
 pub within_law : WithinLaw

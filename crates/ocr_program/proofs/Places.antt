@@ -15,6 +15,7 @@ use Rattle.ocr_syntax.specs.Fitting.{IsFittingState}
 use Rattle.ocr_program.proofs.Fitting.{step_fitting}
 use Rattle.ocr_steps.proofs.Sound.{read_is_program}
 use Rattle.ocr_steps.proofs.Exact.{reads_append, goes_on, stops, no_program}
+use Rattle.ocr_grammar.proofs.Counted.{tally_append}
 
 -- these tokens are read to this state, and within the limits
 pub record Read (front : List Lexeme) (s : State) (y : Tally) : Type 0 where
@@ -22,10 +23,6 @@ pub record Read (front : List Lexeme) (s : State) (y : Tally) : Type 0 where
   pub tallying : y ≡ tally nothing_read front
   pub fits : Fits front (length front)
   pub fitting : IsFittingState s
-
-tally_append : (y : Tally) (a b : List Lexeme) → tally y (a ++ b) ≡ tally (tally y a) b
-tally_append y [] b = refl
-tally_append y (t ∷ a) b = tally_append (tally_after y t) a b
 
 pub nothing_is_read : Read [] (Functions []) nothing_read
 nothing_is_read = record {

@@ -1,6 +1,6 @@
 -- Who cannot go on; so when a run is quiet.
-use Rattle.std.proofs.Common.{◌≡◌, ◌⊎◌, inl, inr, ℕ, nat_lt, List, [], ◌∷◌, Bool, true, false, Option, Some, None, refl, sym, ◌∙◌, ap, subst, is_some, arith}
-use Rattle.std.proofs.lemmas.Grind.{common_steps}
+use Rattle.std.proofs.Common.{◌≡◌, ◌⊎◌, inl, inr, ℕ, nat_lt, List, [], ◌∷◌, Bool, true, false, Option, Some, None, refl, sym, ◌∙◌, ap, subst, is_some}
+use Rattle.std.proofs.lemmas.Bool.{false_from_ne_true}
 use Rattle.ocr_acquire.specs.declared.Mode.{Mode}
 use Rattle.ocr_acquire.specs.Mode.{mode_in}
 use Rattle.ocr_edt.specs.declared.Edt.{Edt}
@@ -26,15 +26,15 @@ use Rattle.ocr_parts.proofs.After.{readied_parts}
 use Rattle.ocr_parts.proofs.Lent.{ready_core}
 use Rattle.ocr_quiet.proofs.Edts.{edts_law}
 use Rattle.ocr_parts.specs.declared.loans.Kept.{Kept}
-use Rattle.ocr_quiet.proofs.Standing.{in_back, once_back}
-use Rattle.ocr_quiet.proofs.Stages.{gone_face, queue_in, once, standing_law, told_law}
-use Rattle.ocr_quiet.proofs.Sleeping.{wake_law, quiet_law}
+use Rattle.ocr_quiet.proofs.Standing.{once_back}
+use Rattle.ocr_quiet.proofs.Stages.{gone_face, once, standing_law, told_law}
+use Rattle.ocr_quiet.proofs.Sleeping.{wake_law, quiet_law, ready_set}
 use Rattle.ocr_datablock.specs.Steps as block_steps
 use Rattle.ocr_edt.specs.declared.Edt.TheVariants as phase
 use Rattle.ocr_edt.specs.Edt as edt
 use Rattle.ocr_parts.specs.declared.part.Part.TheVariants as part
-use Rattle.ocr_quiet.proofs.Passing.{gone_is}
-use Rattle.ocr_quiet.proofs.Choices.{off_from}
+use Rattle.ocr_quiet.proofs.Passing.{gone_is, queue_in}
+use Rattle.ocr_datablock.proofs.Lines.{mode_skips}
 
 -- the core of an EDT that is made ready, where the EDT cannot go on
 abbrev Readied : List (ℕ × Mode) → Part → Part
@@ -65,7 +65,7 @@ no_core other i calls loans members is = (refl, refl)
 not_taken : (x : Part) (t : ℕ) (k m : Mode) → IsBlock x (IsTaken t k) → mode_in t (holders_on x) ≡ None → mode_in t (standing x) ≡ Some m → ⊥
 not_taken (part.Block st) t k m taken unheld stands = elim taken.fit [
   | inl held ↦ cc (sym unheld ∙ held)
-  | inr free ↦ let queued : mode_in t st.queue ≡ Some m = sym (in_back t st.holders st.queue unheld) ∙ stands in cc (sym free.newcomer.not_waiting ∙ queued)
+  | inr free ↦ let queued : mode_in t st.queue ≡ Some m = sym (mode_skips t st.holders st.queue unheld) ∙ stands in cc (sym free.newcomer.not_waiting ∙ queued)
 ]
 not_taken other t k m taken unheld stands = absurd taken
 
@@ -143,9 +143,6 @@ waiting_mark : (x : Part) (z : ℕ × Mode) → awaits x ≡ Some z → nat_lt 1
 waiting_mark (part.Core c) z is = waiting_mark_edt c.edt z is
 waiting_mark other z is = refl
 
-ready_set : (n : ℕ) → nat_lt 1 n ≡ true → nat_lt 0 n ≡ true
-ready_set n is = grind (arith, common_steps)
-
 idle_ended : (s : Setting) (past : History) (t : ℕ) → IsRun s past → IsIdle s past t → is_started past t ≡ true → is_ended past t ≡ true
 idle_ended s past t run (inl (inl ended)) on = ended
 idle_ended s past t run (inl (inr some)) on = let told = told_law s past run t in absurd (some (told.all_set (ready_set (mark ((parts_of s past).core t)).0 (sym told.has_started ∙ on))))
@@ -193,7 +190,7 @@ pub queued_idle : (s : Setting) (past : History) (t d : ℕ) (m : Mode) → IsRu
 queued_idle s past t d m run queued = record {
   waits = queued.waits;
   not_held = not_held ((parts_of s past).face d) t m (once s past run d) queued.queued;
-  not_gone = off_from (is_gone_on ((parts_of s past).face d)) (λ gone.
+  not_gone = false_from_ne_true (is_gone_on ((parts_of s past).face d)) (λ gone.
       queue_in ((parts_of s past).face d) t m (gone_face (made s past d) (link_calls past d) (block_calls s past d) (event_calls s past d) (scope_calls past d) gone) queued.queued);
 }
 

@@ -1,6 +1,6 @@
 -- The EDTs of a run are what was made as EDTs.
 use Rattle.std.proofs.Common.{◌≡◌, ℕ, List, [], ◌∷◌, Bool, true, false, ◌||◌, ◌&&◌, ◌==◌, if◌then◌else◌, Option, Some, None, refl, sym, ◌∙◌, ap}
-use Rattle.std.proofs.lemmas.Bool.{eqb-true}
+use Rattle.std.proofs.lemmas.Bool.{eqb-true, or_parts, and_parts, not-false}
 use Rattle.ocr_guid.specs.Target.{EventCall}
 use Rattle.ocr_guid.specs.declared.Code.TheVariants as code
 use Rattle.ocr_slots.specs.Slots as slot
@@ -18,7 +18,6 @@ use Rattle.ocr_parts.specs.Kinds.{is_template}
 use Rattle.ocr_parts.specs.Codes.{ATemplate, is_of_other_kind}
 use Rattle.ocr_parts.specs.LegalOn.{IsNamed}
 use Rattle.ocr_quiet.specs.Quiet.{EdtsLaw}
-use Rattle.ocr_quiet.proofs.Choices.{or_left, not_off, both_true}
 use Rattle.ocr_parts.proofs.Within.{done_is, new_free, beside_free}
 use Rattle.ocr_quiet.proofs.Choices.{done_kinds}
 use Rattle.ocr_finish.specs.Scope.{ScopeCall}
@@ -56,9 +55,9 @@ edts_law s (Call u home (call.EventCreateParams k fl most sats ds) a w ∷ past)
 edts_law s (Call u home (call.EdtCreate from pc ps dc ds fl o) a w ∷ past) run t =
     let was : is_edt_made (made s past t) ≡ is_edt past t = edts_law s past run.0 t in
     edt_made (makes a t) _ _ _ (λ is.
-    let done : a.code ≡ code.Done = done_is a.code (both_true (is_done a.code) (a.value == t) is).0 in
+    let done : a.code ≡ code.Done = done_is a.code (and_parts (is_done a.code) (a.value == t) is).0 in
     let kinds = done_kinds u (parts_of s past).face (call.EdtCreate from pc ps dc ds fl o) (sym run.1.on_parts.code ∙ done) in
-    template_made (made s past from) (link_calls past from) (block_calls s past from) (event_calls s past from) (scope_calls past from) ps dc (not_off _ (or_left (is_of_other_kind ATemplate ((parts_of s past).face from)) _ kinds)))
+    template_made (made s past from) (link_calls past from) (block_calls s past from) (event_calls s past from) (scope_calls past from) ps dc (not-false _ (or_parts (is_of_other_kind ATemplate ((parts_of s past).face from)) _ kinds).0))
     (other_made (is_done a.code && names_new a.scope t) _ _ _ (λ on. none_edt s past t was (beside_free _ (is_done a.code) s past _ a.scope t run.1.on_parts.scope on).0) refl
     (other_made (is_done a.code && names_new a.output t) _ _ _ (λ on. none_edt s past t was (beside_free _ (is_done a.code) s past _ a.output t run.1.on_parts.output on).0) refl was))
 edts_law s (e ∷ past) run t = edts_law s past run.0 t

@@ -1,7 +1,7 @@
 -- Who an EDT is: its home is a finish scope that was made, and its output an event, where it has one. So
 -- are what a scope leaves and what it satisfies when it is done.
 use Rattle.std.proofs.Common.{◌≡◌, ◌⊎◌, inl, inr, ℕ, ◌<◌, List, [], ◌∷◌, Bool, true, false, not, ◌&&◌, ◌==◌, if◌then◌else◌, Option, Some, None, refl, sym, ap, subst, arith}
-use Rattle.std.proofs.lemmas.Bool.{eqb-true}
+use Rattle.std.proofs.lemmas.Bool.{eqb-true, and_parts}
 use Rattle.ocr_edt.specs.declared.Identity.{Identity}
 use Rattle.ocr_edt.specs.Edt as edt
 use Rattle.ocr_meaning.specs.Holds.{is_done}
@@ -18,10 +18,9 @@ use Rattle.ocr_parts.specs.Kinds.{is_scope, identity_on, home_on}
 use Rattle.ocr_parts.specs.LegalOn.{IsSatisfiable, IsBeside, last_of, IsCallOn}
 use Rattle.ocr_parts.specs.Legal.{IsRun}
 use Rattle.ocr_parts.proofs.Beside.{beside_is, below_last, scope_below}
-use Rattle.ocr_parts.proofs.Choices.{same}
-use Rattle.ocr_parts.proofs.Fresh.{both_of}
 use Rattle.ocr_parts.proofs.Phases.{identity_is}
 use Rattle.ocr_quiet.proofs.Lasting.{Faces, AreLasting, lasts}
+use Rattle.ocr_base.proofs.Booleans.{same}
 
 -- NULL_GUID, or a finish scope that was made
 abbrev pub NamesScope : Faces → ℕ → Type 0
@@ -76,12 +75,12 @@ module _ (s : Setting) (past : History) (by home from pc dc fl : ℕ) (ps ds : L
 
   pub scope_made : (a.scope == 0) ≡ false → made s (Call by home (call.EdtCreate from pc ps dc ds fl o) a w ∷ past) a.scope ≡ Some (MadeScope home a.output)
   scope_made some =
-      let done : is_done a.code ≡ true = (both_of (is_done a.code) (fl == 1) (beside_on _ s.limit (parts_of s past) a.value a.scope legal.scope some)).0 in
+      let done : is_done a.code ≡ true = (and_parts (is_done a.code) (fl == 1) (beside_on _ s.limit (parts_of s past) a.value a.scope legal.scope some)).0 in
       rw (done, not_equal a.value a.scope (above_edt some), some, same a.scope) refl
 
   pub output_made : (a.output == 0) ≡ false → made s (Call by home (call.EdtCreate from pc ps dc ds fl o) a w ∷ past) a.output ≡ Some (MadeEvent OUTPUT_KIND OUTPUT_FLAGS 0)
   output_made some =
-      let done : is_done a.code ≡ true = (both_of (is_done a.code) o (beside_on _ s.limit (parts_of s past) (last_of a) a.output legal.output some)).0 in
+      let done : is_done a.code ≡ true = (and_parts (is_done a.code) o (beside_on _ s.limit (parts_of s past) (last_of a) a.output legal.output some)).0 in
       let edt : (a.value == a.output) ≡ false = not_equal a.value a.output (below_last a above_edt a.output (above_last some)) in
       let apart : names_new a.scope a.output ≡ false = names_apart a.scope a.output (λ more. scope_below a a.output more (above_last some)) in
       rw (done, edt, apart, some, same a.output) refl

@@ -1,7 +1,7 @@
 -- What is made stays what it is: a block stays a block, and an event keeps its slots. Nothing is made
 -- past the limit.
 use Rattle.std.proofs.Common.{◌≡◌, ◌⊎◌, inl, inr, ℕ, ◌+◌, ◌≤◌, List, ◌∷◌, [], Bool, true, false, Option, Some, None, ◌==◌, refl, sym, ◌∙◌, subst, arith}
-use Rattle.std.proofs.lemmas.Bool.{eqb-true}
+use Rattle.std.proofs.lemmas.Bool.{eqb-true, false_from_ne_true}
 use Rattle.ocr_guid.specs.Target.{EventCall}
 use Rattle.ocr_slots.specs.Slots as slot
 use Rattle.ocr_datablock.specs.Block as block
@@ -23,7 +23,6 @@ use Rattle.ocr_parts.specs.Kinds.{is_block, is_scope}
 use Rattle.ocr_parts.specs.Codes.{slot_most}
 use Rattle.ocr_parts.specs.LegalOn.{IsSatisfiable, IsCallOn}
 use Rattle.ocr_parts.specs.Legal.{IsRun, IsLegal}
-use Rattle.ocr_quiet.proofs.Choices.{off_from}
 use Rattle.ocr_parts.proofs.Fresh.{new_fresh, made_old}
 use Rattle.ocr_finish.specs.Scope.{ScopeCall}
 
@@ -86,8 +85,8 @@ called_above s past t home c a w d legal above none = elim (is_new c a d) as (λ
 
 opened_above : (s : Setting) (d : ℕ) → s.limit + 3 ≤ d → opened s d ≡ None
 opened_above s d above =
-    let one : (d == ARGUMENTS) ≡ false = off_from (d == ARGUMENTS) (λ is. let e : d ≡ 1 = eqb-true d ARGUMENTS is in omega (arith, e, above)) in
-    let two : (d == MAIN_EDT) ≡ false = off_from (d == MAIN_EDT) (λ is. let e : d ≡ 2 = eqb-true d MAIN_EDT is in omega (arith, e, above)) in
+    let one : (d == ARGUMENTS) ≡ false = false_from_ne_true (d == ARGUMENTS) (λ is. let e : d ≡ 1 = eqb-true d ARGUMENTS is in omega (arith, e, above)) in
+    let two : (d == MAIN_EDT) ≡ false = false_from_ne_true (d == MAIN_EDT) (λ is. let e : d ≡ 2 = eqb-true d MAIN_EDT is in omega (arith, e, above)) in
     rw (one, two) refl
 
 pub above_law : (s : Setting) (past : History) → IsRun s past → (d : ℕ) → s.limit + 3 ≤ d → made s past d ≡ None

@@ -1,6 +1,6 @@
 -- Who holds and who waits, where a block is destroyed and where an EDT finds one gone; and so in each entry.
 use Rattle.std.proofs.Common.{◌≡◌, inl, inr, ℕ, suc, ◌+◌, not, ◌≤◌, List, [], ◌∷◌, true, false, Option, Some, None, ◌==◌, if◌then◌else◌, refl, sym, ◌∙◌, ap, subst, is_some, arith, Bool}
-use Rattle.std.proofs.lemmas.Bool.{eqb-true}
+use Rattle.std.proofs.lemmas.Bool.{eqb-true, or_parts, not-false, true_from_ne_false, and_left}
 use Rattle.ocr_acquire.specs.declared.Mode.{Mode}
 use Rattle.ocr_acquire.specs.Mode.{mode_in}
 use Rattle.ocr_acquire.proofs.Rising.{rises_below}
@@ -28,7 +28,7 @@ use Rattle.ocr_meaning.specs.declared.call.Call as body
 use Rattle.ocr_meaning.specs.declared.call.Call.TheVariants as call
 use Rattle.ocr_parts.specs.declared.part.Part.TheVariants as part
 use Rattle.ocr_quiet.proofs.Waiting.{dropped_own, other_next, ended_standing, acquired_standing, waited_standing, started_standing, end_standing, made_standing, edt_standing, stored_same, linked_same}
-use Rattle.ocr_quiet.proofs.Standing.{in_back, none_back, returned_kept, passed_same, passed_comes, passed_queue, without_other, without_own, once_tail, dead_not}
+use Rattle.ocr_quiet.proofs.Standing.{returned_kept, passed_same, passed_comes, passed_queue, without_other, without_own, once_tail}
 use Rattle.ocr_quiet.specs.Waits.{stands}
 use Rattle.ocr_history.specs.declared.entry.Entry.TheVariants.{StaleAcquire}
 use Rattle.ocr_guid.specs.declared.Code.TheVariants as code
@@ -41,7 +41,6 @@ use Rattle.ocr_history.specs.declared.entry.What.{What}
 use Rattle.ocr_history.specs.declared.entry.What.TheVariants as what
 use Rattle.ocr_parts.specs.Calls.{is_object, slot_target, target_of}
 use Rattle.ocr_parts.specs.Codes.{ABlock, code_of, is_of_other_kind}
-use Rattle.ocr_quiet.proofs.Choices.{or_left, not_off}
 use Rattle.ocr_parts.proofs.After.{not_stale, done_is}
 use Rattle.ocr_quiet.proofs.Choices.{done_kinds}
 use Rattle.ocr_finish.specs.Scope.{State, after_join, after_leave}
@@ -50,6 +49,7 @@ use Rattle.ocr_parts.specs.Effects.{with_named, with_beside, new_scope, new_outp
 use Rattle.ocr_parts.specs.Progress.{with_face}
 use Rattle.ocr_parts.specs.Kinds.{home_on, with_scope}
 use Rattle.ocr_parts.specs.Parts.{new_identity}
+use Rattle.ocr_datablock.proofs.Lines.{mode_skips, none_second}
 
 -- A BLOCK IS DESTROYED: as a hold ends, but for the step of the block
 doomed_line : (t : ℕ) (w : List (ℕ × ℕ)) (loan : Option Loan) (st : block.State) → block.line (hold_ended block_steps.after_doom t w loan st) ≡ block.line_after_grants true (block.line_without t (block.line st))
@@ -60,7 +60,7 @@ doomed_keeps t w loan st fresh once =
     let left : block.Line = block.line_without t (block.line st) in
     let line : block.line (hold_ended block_steps.after_doom t w loan st) ≡ block.line_after_grants true left = doomed_line t w loan st in
     record {
-      gone = λ live. dead_not st.destroyed _ fresh;
+      gone = λ live. and_left st.destroyed _ fresh;
       stays = λ u m apart live is.
           let alive : block.is_line_gone true (block.line_after_grants true left) ≡ false = ap (block.is_line_gone true) (sym line) ∙ live in
           ap (λ (l : block.Line). mode_in u (stands l)) line ∙ ap (mode_in u) (passed_same true left alive) ∙ without_other t u st.holders st.queue apart ∙ is;
@@ -74,7 +74,7 @@ doomed_leaves : (t : ℕ) (w : List (ℕ × ℕ)) (loan : Option Loan) (st : blo
 doomed_leaves t w loan st m idle is =
     let left : block.Line = block.line_without t (block.line st) in
     let was : mode_in t (stands left) ≡ Some m = passed_comes true left t m (ap (λ (l : block.Line). mode_in t (stands l)) (sym (doomed_line t w loan st)) ∙ is) in
-    idle m (sym (in_back t (block.without t st.holders) st.queue (without_own t st.holders)) ∙ was)
+    idle m (sym (mode_skips t (block.without t st.holders) st.queue (without_own t st.holders)) ∙ was)
 
 doomed_out : (t : ℕ) (w : List (ℕ × ℕ)) (loan : Option Loan) (st : block.State) (m : Mode) → ((k : Mode) → mode_in t st.queue ≡ Some k → ⊥) → block_steps.StandOnce (stands (block.line st)) → mode_in t (queue_on (part.Block (hold_ended block_steps.after_doom t w loan st))) ≡ Some m → ⊥
 doomed_out t w loan st m idle once is =
@@ -122,22 +122,21 @@ record IsPassing (d : ℕ) (was now : Edt) : Type 0 where
   same : held_in now ≡ held_in was
   ordered : IsOrdered (held_in now) (rest_in now)
 
-only_true : (b : Bool) → (b ≡ false → ⊥) → b ≡ true
-only_true true wrong = refl
-only_true false wrong = absurd (wrong refl)
-
 stale_passing : (d : ℕ) (m : Mode) (s : Edt) → next_in (progress_in s) ≡ Some (d, m) → IsOrdered (held_in s) (rest_in s) → IsPassing d s (stale_edt (awoken s))
 stale_passing d m (phase.Acquiring p) next ordered =
     let passed = passes p.identity p.holds p.stale p.rest ordered in
     record { idle = refl; awaited = λ e k is. cc is; same = passed.same; ordered = passed.ordered }
 stale_passing d m (phase.Waiting p) next ordered =
     let passed = passes p.identity p.holds p.stale p.rest ordered in
-    record { idle = refl; awaited = λ e k is. only_true (d == e) (λ apart. other_next d e m k (next_of p) next is apart); same = passed.same; ordered = passed.ordered }
+    record { idle = refl; awaited = λ e k is. true_from_ne_false (d == e) (λ apart. other_next d e m k (next_of p) next is apart); same = passed.same; ordered = passed.ordered }
 stale_passing d m other next ordered = cc next
 
-no_mode : (x : Part) (t : ℕ) (m : Mode) → standing x ≡ [] → mode_in t (queue_on x) ≡ Some m → ⊥
-no_mode (part.Block st) t m none is = let nobody : mode_in t st.queue ≡ None = none_back t st.holders st.queue (ap (mode_in t) none) in cc (nobody, is)
-no_mode other t m none is = cc is
+-- nobody waits at what has nobody standing
+pub queue_in : (x : Part) (t : ℕ) (m : Mode) → standing x ≡ [] → mode_in t (queue_on x) ≡ Some m → ⊥
+queue_in (part.Block st) t m none is =
+    let nobody : mode_in t st.queue ≡ None = none_second t st.holders st.queue (ap (mode_in t) none) in
+    cc (nobody, is)
+queue_in other t m none is = cc is
 
 passed_core : (f : Parts) (t d : ℕ) (m : Mode) (c : Part) → f.core t ≡ c → AreStanding f → next_in (core_progress c) ≡ Some (d, m) → standing (f.face d) ≡ [] → AreStanding (with_core f t (on_core c (with_phase (λ e. stale_edt (awoken e)))))
 passed_core f t d m (part.Core k) is all next none =
@@ -154,7 +153,7 @@ passed_core f t d m (part.Core k) is all next none =
     ])
     (λ e n stood awaiting. absurd (
     let here : d ≡ e = eqb-true d e (step.awaited e n (ap awaits (sym is) ∙ awaiting)) in
-    no_mode (f.face e) t n (subst (λ (g : ℕ). standing (f.face g) ≡ []) here none) stood))
+    queue_in (f.face e) t n (subst (λ (g : ℕ). standing (f.face g) ≡ []) here none) stood))
     step.ordered
 passed_core f t d m other is all next none = cc next
 
@@ -170,7 +169,7 @@ fresh_block other is fresh = cc is
 fresh_of : (t : ℕ) (f : Parts) (d : ℕ) (a : Answer) → is_done a.code ≡ true → a.code ≡ code_of t f.face (call.DbDestroy d) → IsBlock (f.face d) (λ st. st.destroyed ≡ false)
 fresh_of t f d a on code_is =
     let is : code_of t f.face (call.DbDestroy d) ≡ code.Done = sym code_is ∙ done_is a.code on in
-    fresh_block (f.face d) (not_off _ (or_left (is_of_other_kind ABlock (f.face d)) false (done_kinds t f.face (call.DbDestroy d) is))) (or_left (is_destroyed (f.face d)) false (not_stale t f.face (call.DbDestroy d) is))
+    fresh_block (f.face d) (not-false _ (or_parts (is_of_other_kind ABlock (f.face d)) false (done_kinds t f.face (call.DbDestroy d) is)).0) (or_parts (is_destroyed (f.face d)) false (not_stale t f.face (call.DbDestroy d) is)).0
 
 doomed_same : (x : Part) → (is_gone_on (with_template x doomed_template) ≡ is_gone_on x) × (standing (with_template x doomed_template) ≡ standing x) × (queue_on (with_template x doomed_template) ≡ queue_on x)
 doomed_same (part.Template t) = (refl, refl, refl)

@@ -1,6 +1,6 @@
 -- What is sent is sound: it carries NULL_GUID or a block, and reaches a slot. So is what events keep.
 use Rattle.std.proofs.Common.{◌≡◌, inl, inr, ℕ, suc, ◌+◌, ◌≤◌, nat_lt, List, [], ◌∷◌, length, map, Bool, true, false, not, ◌||◌, ◌&&◌, ◌==◌, if◌then◌else◌, Option, Some, None, refl, sym, ◌∙◌, ap, subst, arith}
-use Rattle.std.proofs.lemmas.Bool.{eqb-true}
+use Rattle.std.proofs.lemmas.Bool.{eqb-true, or_parts, not-false}
 use Rattle.std.proofs.lemmas.Grind.{common_steps}
 use Rattle.ocr_mail.specs.Mail as mail
 use Rattle.ocr_guid.specs.Target.{sent_by_firing, sent_by_linking}
@@ -42,7 +42,7 @@ use Rattle.ocr_parts.specs.Legal.{IsRun, IsLegal}
 use Rattle.ocr_parts.specs.Messages.{what_to, carried_by, satisfied, linked, linked_by, dep_sends, sent_by, satisfy_some, leave_some, sent_if_done, sent_by_leave, sent_by_message, payload_of_end, sent_by_end, sends, delivered, pending}
 use Rattle.ocr_parts.proofs.After.{after_law, accepted, done_is}
 use Rattle.ocr_quiet.specs.Sent.{IsGiven, IsSoundMessage, SentLaw}
-use Rattle.ocr_quiet.proofs.Choices.{not_off, or_left, or_right, done_kinds}
+use Rattle.ocr_quiet.proofs.Choices.{done_kinds}
 use Rattle.ocr_quiet.proofs.Each.{Each, each_from, each_joined, each_front, each_back, each_mapped, each_at}
 use Rattle.ocr_quiet.proofs.Payloads.{payloads_in, new_payloads, satisfied_payloads, linked_payloads, destroyed_payloads, IsNow, now_given}
 use Rattle.ocr_quiet.proofs.Lasting.{Faces, IsLasting, AreLasting, lasts}
@@ -196,11 +196,11 @@ joined_parts f c home h are = joined_keeps (AreSoundParts f) c home h are (λ _.
 payload_given : (f : Faces) (p : ℕ) → is_any is_of_other_kind f (wanted_payload p) ≡ false → IsGiven f p
 payload_given f p off = elim (p == 0) as (λ b. (p == 0) ≡ b → is_any is_of_other_kind f (if b then [] else (p, ABlock) ∷ []) ≡ false → IsGiven f p) [
   | true ↦ λ null _. inl (eqb-true p 0 null)
-  | false ↦ λ _ off. inr (not_off (is_block (f p)) (or_left (not (is_block (f p))) false off))
+  | false ↦ λ _ off. inr (not-false (is_block (f p)) (or_parts (not (is_block (f p))) false off).0)
 ] refl off
 
 satisfied_given : (t : ℕ) (f : Faces) (e p i : ℕ) → code_of t f (call.Satisfy e p i) ≡ code.Done → IsGiven f p
-satisfied_given t f e p i is = payload_given f p (or_right (is_of_other_kind AnEvent (f e)) _ (done_kinds t f (call.Satisfy e p i) is))
+satisfied_given t f e p i is = payload_given f p (or_parts (is_of_other_kind AnEvent (f e)) _ (done_kinds t f (call.Satisfy e p i) is)).1
 
 not_above : (n m : ℕ) → nat_lt n m ≡ false → m ≤ n
 not_above n m off = grind (arith, common_steps)
@@ -215,13 +215,13 @@ depended_slot brings other i m kind is = cc kind
 
 depended_aim : (t : ℕ) (f : Faces) (from x i m : ℕ) → code_of t f (call.AddDependence from x i m) ≡ code.Done → IsAimed f (target_of (is_edt_face (f x)) x i)
 depended_aim t f from x i m is =
-    depended_slot (brings_block f from) (f x) i m (not_off _ (or_left (is_of_other_kind Target (f x)) _ (done_kinds t f (call.AddDependence from x i m) is))) (accepted t f (call.AddDependence from x i m) is)
+    depended_slot (brings_block f from) (f x) i m (not-false _ (or_parts (is_of_other_kind Target (f x)) _ (done_kinds t f (call.AddDependence from x i m) is)).0) (accepted t f (call.AddDependence from x i m) is)
 
 -- WHAT A CALL SENDS
 depended_sound : (f : Parts) (from : ℕ) (to : Reached) → is_any is_of_other_kind f.face (wanted_source from) ≡ false → AreSoundParts f.face f → IsAimed f.face to → Each (IsSoundMessage f.face) (linked_by (not (from == 0)) from to f)
 depended_sound f from to off are aim = elim (from == 0) as (λ b. (from == 0) ≡ b → is_any is_of_other_kind f.face (if b then [] else (from, Source) ∷ []) ≡ false → Each (IsSoundMessage f.face) (linked_by (not b) from to f)) [
   | true ↦ λ null _. (to_sound f.face (from, to) (inl (eqb-true from 0 null), aim), tt)
-  | false ↦ λ _ off. linked_sound f.face (f.face from) from to (not_off _ (or_left (is_of_other_kind Source (f.face from)) false off)) (λ is. is) (are from) aim
+  | false ↦ λ _ off. linked_sound f.face (f.face from) from to (not-false _ (or_parts (is_of_other_kind Source (f.face from)) false off).0) (λ is. is) (are from) aim
 ] refl off
 
 -- a link leaves each object of its kind
@@ -259,7 +259,7 @@ deps_sound f t k (d ∷ rest) h off kinds are =
     (elim (is_given d) as (λ b. is_given d ≡ b → Each (IsSoundMessage f) (if b then linked_by (is_object d) d to h else [])) [
       | true ↦ λ given. elim (is_object d) as (λ b. is_object d ≡ b → is_any is_of_other_kind f (if b then (d, Source) ∷ wanted_sources rest else wanted_sources rest) ≡ false → Each (IsSoundMessage f) (linked_by b d to h)) [
         | true ↦ λ _ off.
-            let kind : has_kind Source (f d) ≡ true = not_off _ (or_left (is_of_other_kind Source (f d)) _ off) in
+            let kind : has_kind Source (f d) ≡ true = not-false _ (or_parts (is_of_other_kind Source (f d)) _ off).0 in
             let same : has_kind Source (h.face d) ≡ has_kind Source (f d) = rw ((kinds d).0, (kinds d).1) refl in
             linked_sound f (h.face d) d to (same ∙ kind) (λ is. sym (kinds d).0 ∙ is) (are d) tt
         | false ↦ λ bare _. (to_sound f (d, to) (inl (null_given d given bare), tt), tt)
@@ -267,16 +267,16 @@ deps_sound f t k (d ∷ rest) h off kinds are =
       | false ↦ λ _. tt
     ] refl)
     (later (elim (is_object d) as (λ b. is_any is_of_other_kind f (if b then (d, Source) ∷ wanted_sources rest else wanted_sources rest) ≡ false → is_any is_of_other_kind f (wanted_sources rest) ≡ false) [
-      | true ↦ λ off. or_right (is_of_other_kind Source (f d)) _ off
+      | true ↦ λ off. (or_parts (is_of_other_kind Source (f d)) _ off).1
       | false ↦ λ off. off
     ] off))
 
 call_sound : (f : Parts) (t : ℕ) (c : body.Call) (a : Answer) → code_of t f.face c ≡ code.Done → AreSoundParts f.face f → Each (IsSoundMessage f.face) (sent_by c a f)
 call_sound f t (call.Satisfy e p i) a is are = satisfied_sound f.face (f.face e) i p (satisfied_given t f.face e p i is) (are e)
 call_sound f t (call.AddDependence from x i m) a is are =
-    depended_sound f from _ (or_right (is_of_other_kind Target (f.face x)) _ (done_kinds t f.face (call.AddDependence from x i m) is)) are (depended_aim t f.face from x i m is)
+    depended_sound f from _ (or_parts (is_of_other_kind Target (f.face x)) _ (done_kinds t f.face (call.AddDependence from x i m) is)).1 are (depended_aim t f.face from x i m is)
 call_sound f t (call.EdtCreate from pc ps dc ds fl o) a is are =
-    deps_sound f.face a.value 0 ds f (or_right (is_of_other_kind ATemplate (f.face from)) _ (done_kinds t f.face (call.EdtCreate from pc ps dc ds fl o) is)) (λ g. (refl, refl)) are
+    deps_sound f.face a.value 0 ds f (or_parts (is_of_other_kind ATemplate (f.face from)) _ (done_kinds t f.face (call.EdtCreate from pc ps dc ds fl o) is)).1 (λ g. (refl, refl)) are
 call_sound f t other a is are = tt
 
 -- WHAT A CALL MAKES of the parts

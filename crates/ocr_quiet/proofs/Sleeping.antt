@@ -1,7 +1,6 @@
 -- An EDT whose slots are set goes on or stands in a queue, and in a quiet run nobody waits.
 use Rattle.std.proofs.Common.{◌≡◌, ◌⊎◌, inl, inr, ℕ, zero, suc, ◌+◌, ◌<◌, ◌≤◌, nat_lt, List, [], ◌∷◌, ◌++◌, true, false, Option, Some, None, ◌==◌, not, refl, sym, ◌∙◌, ap, subst, is_some, arith}
-use Rattle.std.proofs.lemmas.Bool.{eq-eqb}
-use Rattle.std.proofs.lemmas.Grind.{common_steps}
+use Rattle.std.proofs.lemmas.Bool.{eq-eqb, false_from_ne_true}
 use Rattle.ocr_guid.specs.Target.{EventCall}
 use Rattle.ocr_acquire.specs.declared.Mode.{Mode}
 use Rattle.ocr_acquire.specs.Mode.{is_null, mode_in}
@@ -14,7 +13,7 @@ use Rattle.ocr_history.specs.declared.entry.Entry.TheVariants.{Call, Deliver, Ac
 use Rattle.ocr_parts.specs.declared.part.Part.{Part}
 use Rattle.ocr_history.specs.History.{History, Setting, is_stopped}
 use Rattle.ocr_history.specs.Made.{Made, MadeBlock, MadeEdt, made, is_edt_made, creator_in}
-use Rattle.ocr_parts.specs.Calls.{plan_of, asks_in, slots_now, open_slots, link_calls, block_calls, edt_calls, loans_of, mode_next, next_member, with_plan, event_calls, scope_calls}
+use Rattle.ocr_parts.specs.Calls.{plan_of, asks_in, slots_now, open_slots, link_calls, block_calls, edt_calls, loans_of, mode_next, next_member, event_calls, scope_calls}
 use Rattle.ocr_history.specs.Edts.{is_started, is_ended}
 use Rattle.ocr_parts.specs.Parts.{Parts, face, core, parts_of, identity_of}
 use Rattle.ocr_parts.specs.Kinds.{on_core, progress_in, core_progress, next_in, IsBlock, is_acquiring, is_acquiring_edt, is_block}
@@ -26,15 +25,14 @@ use Rattle.ocr_quiet.specs.Marks.{mark_in, mark, IsTold}
 use Rattle.ocr_quiet.specs.Marks.{mark_in, mark, IsTold}
 use Rattle.ocr_quiet.specs.Quiet.{IsWakingOf, IsQueued, CanWake, WakeLaw, QuietLaw, NobodyLaw}
 use Rattle.ocr_parts.specs.Runs.{IsWaking, IsQuiet}
-use Rattle.ocr_parts.proofs.After.{readied_parts}
+use Rattle.ocr_parts.proofs.After.{readied_parts, core_next}
 use Rattle.ocr_parts.proofs.Allowed.{free_law}
 use Rattle.ocr_parts.proofs.Awaited.{awaited_law}
 use Rattle.ocr_parts.proofs.Lent.{ready_core}
-use Rattle.ocr_quiet.proofs.Choices.{off_from}
 use Rattle.ocr_quiet.proofs.Edts.{edts_law}
 use Rattle.ocr_parts.specs.declared.loans.Kept.{Kept}
 use Rattle.ocr_parts.specs.Runs.{IsWaking, IsQuiet}
-use Rattle.ocr_quiet.proofs.Standing.{in_front, in_back, once_back}
+use Rattle.ocr_quiet.proofs.Standing.{in_front, once_back}
 use Rattle.ocr_quiet.proofs.Waiting.{ready_standing}
 use Rattle.ocr_quiet.proofs.Stages.{once, standing_law, told_law, ready_told}
 use Rattle.ocr_quiet.proofs.Given.{wanted_law, ready_there}
@@ -45,9 +43,10 @@ use Rattle.ocr_datablock.specs.Steps as block_steps
 use Rattle.ocr_edt.specs.declared.Edt.TheVariants as phase
 use Rattle.ocr_edt.specs.Edt as edt
 use Rattle.ocr_parts.specs.declared.part.Part.TheVariants as part
-use Rattle.ocr_parts.proofs.Phases.{next_is}
 use Rattle.ocr_finish.specs.Scope.{ScopeCall}
 use Rattle.ocr_edt.specs.declared.Identity.{Identity}
+use Rattle.ocr_datablock.proofs.Lines.{mode_skips}
+use Rattle.std.proofs.lemmas.Grind.{common_steps}
 
 -- AN EDT THAT WAS MADE READY, and has not started, acquires or waits
 pub record IsComing (y : Part) : Type 0 where
@@ -70,12 +69,6 @@ coming (Some (MadeEdt f ps n)) i calls loans members is below =
     let found = coming_edt members part.Vacant (edt.edt_of _ calls) below in
     record { progress = found.0; is = found.1; rest = found.2; waits = found.3 }
 coming other i calls loans members is below = cc is
-
--- WHAT COMES NEXT
-pub core_next : (m : Option Made) (i : Identity) (members : List (ℕ × Mode)) (calls : List edt.EdtCall) (loans : List (ℕ × Kept)) (x : ℕ × Mode)
-    → next_in (core_progress (on_core (core m i calls loans) (with_phase (made_ready members)))) ≡ Some x → first_of (edt.undone_of (with_plan members calls)) ≡ Some x
-core_next (Some (MadeEdt f ps n)) i members calls loans x is = next_is i members calls x is
-core_next other i members calls loans x is = cc is
 
 pub record IsFirst (f : ℕ → Part) (held : List (ℕ × Mode)) (d : ℕ) (m : Mode) : Type 0 where
   pub there : is_block (f d) ≡ true
@@ -111,7 +104,7 @@ fate (Some (MadeBlock n c)) links blocks events scopes t m is used free awaited 
           inl (record { fit = inl (held ∙ ap (λ (j : Mode). Some j) same); not_lent = awaited (ap (λ (o : Option Mode). is_some o) held) })
       | None ↦ λ unheld. elim (mode_in t queue) as (λ o. mode_in t queue ≡ o → Fate (part.Block (block.state_of n c blocks)) t m) [
         | Some k ↦ λ stands.
-            let same : k ≡ m = own k (in_back t holders queue unheld ∙ stands) in
+            let same : k ≡ m = own k (mode_skips t holders queue unheld ∙ stands) in
             inr (inr (inl (stands ∙ ap (λ (j : Mode). Some j) same)))
         | None ↦ λ unqueued. elim (block.can_grant (block.is_destroyed blocks) (block.line_of c blocks) m) as (λ b. block.can_grant (block.is_destroyed blocks) (block.line_of c blocks) m ≡ b → Fate (part.Block (block.state_of n c blocks)) t m) [
           | true ↦ λ can. inl (record { fit = inr (record { newcomer = record { no_holder = unheld; not_waiting = unqueued; some_mode = used }; grantable = can }); not_lent = free m can })
@@ -125,13 +118,13 @@ fate (Some (MadeBlock n c)) links blocks events scopes t m is used free awaited 
 fate other links blocks events scopes t m is used free awaited own = cc is
 
 refused_nowhere : (x : Part) (t : ℕ) (m : Mode) → IsBlock x (IsRefused t m) → (is_gone_on x ≡ false) × (mode_in t (standing x) ≡ None)
-refused_nowhere (part.Block st) t m refused = (refused.not_gone, in_back t st.holders st.queue refused.newcomer.no_holder ∙ refused.newcomer.not_waiting)
+refused_nowhere (part.Block st) t m refused = (refused.not_gone, mode_skips t st.holders st.queue refused.newcomer.no_holder ∙ refused.newcomer.not_waiting)
 refused_nowhere other t m refused = absurd refused
 
 queue_stands : (x : Part) (t : ℕ) (m : Mode) → ((k : Mode) → mode_in t (standing x) ≡ Some k → k ≡ m) → block_steps.StandOnce (standing x) → mode_in t (queue_on x) ≡ Some m → mode_in t (standing x) ≡ Some m
 queue_stands (part.Block st) t m own once is = elim (mode_in t st.holders) as (λ o. mode_in t st.holders ≡ o → mode_in t (st.holders ++ st.queue) ≡ Some m) [
   | Some k ↦ λ held. absurd (let none : mode_in t st.queue ≡ None = once_back t st.holders st.queue once (ap (λ (o : Option Mode). is_some o) held) in cc (none, is))
-  | None ↦ λ unheld. in_back t st.holders st.queue unheld ∙ is
+  | None ↦ λ unheld. mode_skips t st.holders st.queue unheld ∙ is
 ] refl
 queue_stands other t m own once is = cc is
 
@@ -269,7 +262,7 @@ stuck s past run quiet t d m has =
     let told = told_law s past run t in
     let stage = holding_stage (made s past t) (identity_of past t) (edt_calls s past t) (loans_of s past t) d m has in
     let going : is_ended past t ≡ false = told.has_ended ∙ stage.1 in
-    let off : is_started past t ≡ false = off_from (is_started past t) (λ on. let ended : is_ended past t ≡ true = quiet.ended t on in cc (ended, going)) in
+    let off : is_started past t ≡ false = false_from_ne_true (is_started past t) (λ on. let ended : is_ended past t ≡ true = quiet.ended t on in cc (ended, going)) in
     elim (wake_law s past t run quiet.open_run (sym (edts_law s past run t) ∙ stage.2) off (told.all_set stage.0)) [
       | inl wakes ↦ absurd (quiet.asleep wakes.0 (waking t wakes.0 wakes.1) wakes.2)
       | inr queued ↦ queued
@@ -341,13 +334,13 @@ nobody_from s past run quiet (suc k) d above =
 pub nobody_queues : (s : Setting) (past : History) → IsRun s past → IsQuiet s past → (d : ℕ) → queue_on ((parts_of s past).face d) ≡ []
 nobody_queues s past run quiet d = nobody_from s past run quiet (s.limit + 3) d (omega arith)
 
+pub ready_set : (n : ℕ) → nat_lt 1 n ≡ true → nat_lt 0 n ≡ true
+ready_set n is = grind (arith, common_steps)
+
 not_queued : (s : Setting) (past : History) → IsRun s past → IsQuiet s past → (t d : ℕ) (m : Mode) → IsQueued s past t d m → ⊥
 not_queued s past run quiet t d m queued =
     let nobody : mode_in t (queue_on ((parts_of s past).face d)) ≡ None = ap (mode_in t) (nobody_queues s past run quiet d) in
     cc (sym nobody ∙ queued.queued)
-
-lower : (n : ℕ) → nat_lt 1 n ≡ true → nat_lt 0 n ≡ true
-lower n is = grind (arith, common_steps)
 
 pub nobody_law : NobodyLaw
 nobody_law s past quiet run = record {
@@ -364,8 +357,8 @@ quiet_law s past quiet run = λ t is_one. (
     | inl wakes ↦ quiet.asleep wakes.0 (waking t wakes.0 wakes.1) wakes.2
     | inr queued ↦ not_queued s past run quiet t queued.0 queued.1 queued.2
   ]),
-  (λ some. off_from (is_started past t) (λ on.
+  (λ some. false_from_ne_true (is_started past t) (λ on.
       let told = told_law s past run t in
       let high : nat_lt 1 (mark ((parts_of s past).core t)).0 ≡ true = sym told.has_started ∙ on in
-      some (told.all_set (lower (mark ((parts_of s past).core t)).0 high)))),
+      some (told.all_set (ready_set (mark ((parts_of s past).core t)).0 high)))),
 )

@@ -27,13 +27,12 @@ use Rattle.ocr_parts.specs.Progress.{with_phase, made_ready, next_on, ready_at, 
 use Rattle.ocr_parts.specs.Kinds.{home_on, size_on, words_on, on_core, progress_in, core_progress, next_in, is_running, is_acquiring, is_acquiring_edt, work_in}
 use Rattle.ocr_parts.specs.LegalOn.{IsCallOn}
 use Rattle.ocr_parts.specs.Legal.{IsRun, IsLegal}
-use Rattle.ocr_quiet.specs.Waits.{stands, standing, queue_on, held_on, rest_on, awaits, IsOrdered, AreStanding, IsOnce, is_gone_on}
+use Rattle.ocr_quiet.specs.Waits.{stands, standing, held_on, rest_on, awaits, IsOrdered, AreStanding, IsOnce, is_gone_on}
 use Rattle.ocr_quiet.specs.Marks.{mark_in, mark, is_lost_in, IsTold, IsMarked}
 use Rattle.ocr_parts.proofs.After.{after_law, linked_core, deps_core}
 use Rattle.ocr_parts.proofs.Allowed.{allowed_law}
-use Rattle.ocr_quiet.proofs.Standing.{none_back}
 use Rattle.ocr_quiet.proofs.Waiting.{ready_standing, nothing_wanted}
-use Rattle.ocr_quiet.proofs.Passing.{IsEmptyGone, entry_standing}
+use Rattle.ocr_quiet.proofs.Passing.{IsEmptyGone, entry_standing, queue_in}
 use Rattle.ocr_slots.specs.Slots as slot
 use Rattle.ocr_datablock.specs.Block as block
 use Rattle.ocr_datablock.specs.Steps as block_steps
@@ -89,12 +88,6 @@ first_standing false f n links = refl
 new_awaits : (m : Option Made) (i : Identity) → (awaits (core m i [] []) ≡ None) × (held_on (core m i [] []) ≡ []) × (rest_on (core m i [] []) ≡ [])
 new_awaits (Some (MadeEdt f ps n)) i = (refl, refl, refl)
 new_awaits other i = (refl, refl, refl)
-
-pub queue_in : (x : Part) (t : ℕ) (m : Mode) → standing x ≡ [] → mode_in t (queue_on x) ≡ Some m → ⊥
-queue_in (part.Block st) t m none is =
-    let nobody : mode_in t st.queue ≡ None = none_back t st.holders st.queue (ap (mode_in t) none) in
-    cc (nobody, is)
-queue_in other t m none is = cc is
 
 open_standing : (s : Setting) → AreStanding (parts_of s [])
 open_standing s = record {

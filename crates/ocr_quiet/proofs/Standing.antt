@@ -1,12 +1,12 @@
 -- Who stands at a block after a step.
-use Rattle.std.proofs.Common.{◌≡◌, ◌⊎◌, inl, inr, ℕ, List, [], ◌∷◌, ◌++◌, Bool, true, false, Option, Some, None, ◌==◌, ◌&&◌, not, if◌then◌else◌, refl, sym, ◌∙◌, ap, subst, is_some, rules}
-use Rattle.std.proofs.lemmas.Bool.{eqb-true}
+use Rattle.std.proofs.Common.{◌≡◌, ◌⊎◌, inl, inr, ℕ, List, [], ◌∷◌, ◌++◌, Bool, true, false, Option, Some, None, ◌==◌, ◌&&◌, not, if◌then◌else◌, refl, sym, ◌∙◌, ap, subst, is_some}
+use Rattle.std.proofs.lemmas.Bool.{eqb-true, and_left, and_right}
 use Rattle.std.proofs.lemmas.List.{append-nil, append_assoc}
 use Rattle.ocr_acquire.specs.declared.Mode.{Mode}
 use Rattle.ocr_acquire.specs.Mode.{mode_in, is_exclusive}
 use Rattle.ocr_datablock.specs.Lent.{Loan}
 use Rattle.ocr_acquire.specs.Writes.{written}
-use Rattle.ocr_datablock.proofs.Lines.{queue_splits}
+use Rattle.ocr_datablock.proofs.Lines.{queue_splits, none_both, mode_skips, none_second}
 use Rattle.ocr_parts.specs.Effects.{asked_if, lent_if, granted, returned, hold_ended}
 use Rattle.ocr_parts.specs.LegalOn.{IsTaken, IsRefused}
 use Rattle.ocr_quiet.specs.Waits.{stands, standing, queue_on}
@@ -14,9 +14,9 @@ use Rattle.ocr_quiet.proofs.Moving.{Keeps}
 use Rattle.ocr_datablock.specs.Block as block
 use Rattle.ocr_datablock.specs.Steps as block_steps
 use Rattle.ocr_parts.specs.declared.part.Part.TheVariants as part
-
-same : (n : ℕ) → (n == n) ≡ true
-same n = search rules
+use Rattle.ocr_base.proofs.Booleans.{same}
+use Rattle.ocr_parts.proofs.Awaited.{not_first}
+use Rattle.ocr_parts.proofs.Blocks.{mode_added}
 
 -- LISTS of EDTs with their modes
 pub in_front : (t : ℕ) (xs ys : List (ℕ × Mode)) (m : Mode) → mode_in t xs ≡ Some m → mode_in t (xs ++ ys) ≡ Some m
@@ -26,19 +26,9 @@ in_front t (one ∷ rest) ys m is = elim (one.0 == t) as (λ b. (if b then Some 
   | false ↦ λ is. in_front t rest ys m is
 ] is
 
-pub in_back : (t : ℕ) (xs ys : List (ℕ × Mode)) → mode_in t xs ≡ None → mode_in t (xs ++ ys) ≡ mode_in t ys
-in_back t [] ys is = refl
-in_back t (one ∷ rest) ys is = elim (one.0 == t) as (λ b. (if b then Some one.1 else mode_in t rest) ≡ None → (if b then Some one.1 else mode_in t (rest ++ ys)) ≡ mode_in t ys) [
-  | true ↦ λ is. cc is
-  | false ↦ λ is. in_back t rest ys is
-] is
-
 pub push_other : (t u : ℕ) (m : Mode) (xs : List (ℕ × Mode)) → (t == u) ≡ false → mode_in u (xs ++ (t, m) ∷ []) ≡ mode_in u xs
 push_other t u m [] apart = rw apart refl
 push_other t u m (one ∷ rest) apart = ap (λ (o : Option Mode). if one.0 == u then Some one.1 else o) (push_other t u m rest apart)
-
-pub push_own : (t : ℕ) (m : Mode) (xs : List (ℕ × Mode)) → mode_in t xs ≡ None → mode_in t (xs ++ (t, m) ∷ []) ≡ Some m
-push_own t m xs none = in_back t xs ((t, m) ∷ []) none ∙ rw (same t) refl
 
 pub without_other : (t u : ℕ) (xs ys : List (ℕ × Mode)) → (t == u) ≡ false → mode_in u (block.without t xs ++ ys) ≡ mode_in u (xs ++ ys)
 without_other t u [] ys apart = refl
@@ -54,18 +44,11 @@ without_own t (one ∷ rest) = elim (one.0 == t) as (λ b. (one.0 == t) ≡ b �
   | false ↦ λ is. rw is (without_own t rest)
 ] refl
 
-pub none_back : (t : ℕ) (xs ys : List (ℕ × Mode)) → mode_in t (xs ++ ys) ≡ None → mode_in t ys ≡ None
-none_back t [] ys is = is
-none_back t (one ∷ rest) ys is = elim (one.0 == t) as (λ b. (if b then Some one.1 else mode_in t (rest ++ ys)) ≡ None → mode_in t ys ≡ None) [
-  | true ↦ λ is. cc is
-  | false ↦ λ is. none_back t rest ys is
-] is
-
 -- who holds does not wait
 pub once_back : (t : ℕ) (xs ys : List (ℕ × Mode)) → block_steps.StandOnce (xs ++ ys) → is_some (mode_in t xs) ≡ true → mode_in t ys ≡ None
 once_back t [] ys once is = cc is
 once_back t (one ∷ rest) ys once is = elim (one.0 == t) as (λ b. (one.0 == t) ≡ b → is_some (if b then Some one.1 else mode_in t rest) ≡ true → mode_in t ys ≡ None) [
-  | true ↦ λ here _. subst (λ (n : ℕ). mode_in n ys ≡ None) (eqb-true one.0 t here) (none_back one.0 rest ys once.0)
+  | true ↦ λ here _. subst (λ (n : ℕ). mode_in n ys ≡ None) (eqb-true one.0 t here) (none_second one.0 rest ys once.0)
   | false ↦ λ _ is. once_back t rest ys once.1 is
 ] refl is
 
@@ -73,12 +56,8 @@ some_not_empty : (t : ℕ) (xs : List (ℕ × Mode)) → is_some (mode_in t xs) 
 some_not_empty t [] is = cc is
 some_not_empty t (one ∷ rest) is = refl
 
-held_not_gone : (b c : Bool) → c ≡ false → (b && c) ≡ false
-held_not_gone true c is = is
-held_not_gone false c is = refl
-
 pub holder_lives : (t : ℕ) (st : block.State) → is_some (mode_in t st.holders) ≡ true → block.is_gone st ≡ false
-holder_lives t st is = held_not_gone st.destroyed _ (some_not_empty t st.holders is)
+holder_lives t st is = and_right st.destroyed _ (some_not_empty t st.holders is)
 
 -- A QUEUE THAT GOES ON: all stay in their order, unless the block is gone
 pub passed_same : (b : Bool) (l : block.Line) → block.is_line_gone b (block.line_after_grants b l) ≡ false → stands (block.line_after_grants b l) ≡ stands l
@@ -102,7 +81,7 @@ once_tail (one ∷ rest) ys once = once_tail rest ys once.1
 suffix_mode : (u : ℕ) (front rest : List (ℕ × Mode)) (m : Mode) → block_steps.StandOnce (front ++ rest) → mode_in u rest ≡ Some m → mode_in u (front ++ rest) ≡ Some m
 suffix_mode u front rest m once is = elim (mode_in u front) as (λ o. mode_in u front ≡ o → mode_in u (front ++ rest) ≡ Some m) [
   | Some k ↦ λ there. absurd (let none : mode_in u rest ≡ None = once_back u front rest once (ap (λ (o : Option Mode). is_some o) there) in cc (none, is))
-  | None ↦ λ none. in_back u front rest none ∙ is
+  | None ↦ λ none. mode_skips u front rest none ∙ is
 ] refl
 
 pub passed_queue : (b : Bool) (l : block.Line) (u : ℕ) (m : Mode) → block_steps.StandOnce l.queue → mode_in u (block.line_after_grants b l).queue ≡ Some m → mode_in u l.queue ≡ Some m
@@ -154,7 +133,7 @@ pub ended_leaves : (t : ℕ) (w : List (ℕ × ℕ)) (loan : Option Loan) (st : 
 ended_leaves t w loan st m holder once is =
     let left : block.Line = block.line_without t (block.line st) in
     let was : mode_in t (stands left) ≡ Some m = passed_comes st.destroyed left t m (ap (λ (l : block.Line). mode_in t (stands l)) (sym (ended_line t w loan st)) ∙ is) in
-    let none : mode_in t (stands left) ≡ None = in_back t (block.without t st.holders) st.queue (without_own t st.holders) ∙ once_back t st.holders st.queue once holder in
+    let none : mode_in t (stands left) ≡ None = mode_skips t (block.without t st.holders) st.queue (without_own t st.holders) ∙ once_back t st.holders st.queue once holder in
     cc (was, none)
 
 -- A BLOCK IS ASKED FOR: who asks comes last
@@ -192,25 +171,14 @@ third true c x y z off other = cc off
 third false true x y z off other = cc other
 third false false x y z off other = refl
 
-can_alive : (d x : Bool) → (not d && x) ≡ true → d ≡ false
-can_alive true x is = cc is
-can_alive false x is = refl
-
 can_empty : (d x y : Bool) → (not d && (x && y)) ≡ true → x ≡ true
 can_empty true x y is = cc is
 can_empty false true y is = refl
 can_empty false false y is = cc is
 
-pub dead_not : (d x : Bool) → d ≡ false → (d && x) ≡ false
-dead_not true x is = cc is
-dead_not false x is = refl
-
 pushed_last : (holders queue : List (ℕ × Mode)) (one : ℕ × Mode) → block.is_empty queue ≡ true → (holders ++ one ∷ []) ++ queue ≡ (holders ++ queue) ++ one ∷ []
 pushed_last holders [] one is = append-nil (holders ++ one ∷ []) ∙ ap (λ (h : List (ℕ × Mode)). h ++ one ∷ []) (sym (append-nil holders))
 pushed_last holders (other ∷ rest) one is = cc is
-
-none_both : (t : ℕ) (xs ys : List (ℕ × Mode)) → mode_in t xs ≡ None → mode_in t ys ≡ None → mode_in t (xs ++ ys) ≡ None
-none_both t xs ys one other = in_back t xs ys one ∙ other
 
 pub taken_pushed : (t : ℕ) (m : Mode) (st : block.State) → IsTaken t m st → IsPushed t m st (granted t m st)
 taken_pushed t m st taken = elim taken.fit [
@@ -225,17 +193,17 @@ taken_pushed t m st taken = elim taken.fit [
         queue = inl (ap (λ (l : block.Line). l.queue) line);
       }
   | inr free ↦
-      let alive : st.destroyed ≡ false = can_alive st.destroyed _ free.grantable in
+      let alive : st.destroyed ≡ false = not_first st.destroyed _ free.grantable in
       let new : block.Line = record { holders = st.holders ++ (t, m) ∷ []; queue = st.queue } in
-      let joins : block.line_after_ask st.destroyed (block.line st) t m ≡ new = second _ _ _ _ _ (dead_not st.destroyed _ alive) free.grantable in
+      let joins : block.line_after_ask st.destroyed (block.line st) t m ≡ new = second _ _ _ _ _ (and_left st.destroyed _ alive) free.grantable in
       let asked : asked_if t m st ≡ block_steps.after_ask st t m = ap (λ (o : Option Mode). if is_some o then st else block_steps.after_ask st t m) free.newcomer.no_holder in
       let line : block.line (granted t m st) ≡ new = (lent_kept t m (asked_if t m st)).0 ∙ ap block.line asked ∙ joins in
       let dead : (granted t m st).destroyed ≡ false = (lent_kept t m (asked_if t m st)).1 ∙ ap (λ (x : block.State). x.destroyed) asked ∙ alive in
       let last : stands new ≡ stands (block.line st) ++ (t, m) ∷ [] = pushed_last st.holders st.queue (t, m) (can_empty st.destroyed _ _ free.grantable) in
       record {
-        gone = dead_not _ _ dead ∙ sym (dead_not st.destroyed _ alive);
+        gone = and_left _ _ dead ∙ sym (and_left st.destroyed _ alive);
         stood = inr (ap stands line ∙ last);
-        own = ap (λ (l : block.Line). mode_in t (stands l)) line ∙ ap (mode_in t) last ∙ push_own t m (stands (block.line st)) (none_both t st.holders st.queue free.newcomer.no_holder free.newcomer.not_waiting);
+        own = ap (λ (l : block.Line). mode_in t (stands l)) line ∙ ap (mode_in t) last ∙ mode_added t m (stands (block.line st)) (none_both t st.holders st.queue free.newcomer.no_holder free.newcomer.not_waiting);
         queue = inl (ap (λ (l : block.Line). l.queue) line);
       }
 ]
@@ -248,7 +216,7 @@ refused_pushed t m st refused =
     record {
       gone = ap (block.is_line_gone st.destroyed) line;
       stood = inr (ap stands line ∙ last);
-      own = ap (λ (l : block.Line). mode_in t (stands l)) line ∙ ap (mode_in t) last ∙ push_own t m (stands (block.line st)) (none_both t st.holders st.queue refused.newcomer.no_holder refused.newcomer.not_waiting);
+      own = ap (λ (l : block.Line). mode_in t (stands l)) line ∙ ap (mode_in t) last ∙ mode_added t m (stands (block.line st)) (none_both t st.holders st.queue refused.newcomer.no_holder refused.newcomer.not_waiting);
       queue = inr (ap (λ (l : block.Line). l.queue) line);
     }
 
@@ -260,9 +228,9 @@ taken_unqueued t m st taken once = elim taken.fit [
       let line : block.line (granted t m st) ≡ block.line st = (lent_kept t m (asked_if t m st)).0 ∙ ap block.line asked in
       ap (λ (l : block.Line). mode_in t l.queue) line ∙ once_back t st.holders st.queue once (ap (λ (o : Option Mode). is_some o) held)
   | inr free ↦
-      let alive : st.destroyed ≡ false = can_alive st.destroyed _ free.grantable in
+      let alive : st.destroyed ≡ false = not_first st.destroyed _ free.grantable in
       let new : block.Line = record { holders = st.holders ++ (t, m) ∷ []; queue = st.queue } in
-      let joins : block.line_after_ask st.destroyed (block.line st) t m ≡ new = second _ _ _ _ _ (dead_not st.destroyed _ alive) free.grantable in
+      let joins : block.line_after_ask st.destroyed (block.line st) t m ≡ new = second _ _ _ _ _ (and_left st.destroyed _ alive) free.grantable in
       let asked : asked_if t m st ≡ block_steps.after_ask st t m = ap (λ (o : Option Mode). if is_some o then st else block_steps.after_ask st t m) free.newcomer.no_holder in
       let line : block.line (granted t m st) ≡ new = (lent_kept t m (asked_if t m st)).0 ∙ ap block.line asked ∙ joins in
       ap (λ (l : block.Line). mode_in t l.queue) line ∙ free.newcomer.not_waiting
@@ -272,5 +240,5 @@ pub refused_queue : (t : ℕ) (m k : Mode) (st : block.State) → IsRefused t m 
 refused_queue t m k st refused is =
     let new : block.Line = record { holders = st.holders; queue = st.queue ++ (t, m) ∷ [] } in
     let line : block.line (block_steps.after_ask st t m) ≡ new = third _ _ _ _ _ refused.not_gone refused.not_grantable in
-    let both : Some m ≡ Some k = sym (push_own t m st.queue refused.newcomer.not_waiting) ∙ ap (λ (l : block.Line). mode_in t l.queue) (sym line) ∙ is in
+    let both : Some m ≡ Some k = sym (mode_added t m st.queue refused.newcomer.not_waiting) ∙ ap (λ (l : block.Line). mode_in t l.queue) (sym line) ∙ is in
     cc

@@ -1,5 +1,5 @@
 -- Who holds and who waits, in each entry.
-use Rattle.std.proofs.Common.{◌≡◌, ◌⊎◌, inl, inr, ℕ, suc, ◌<◌, ◌≤◌, List, [], ◌∷◌, ◌++◌, true, false, Option, Some, None, ◌==◌, if◌then◌else◌, refl, sym, ◌∙◌, ap, subst, is_some, rules, arith}
+use Rattle.std.proofs.Common.{◌≡◌, ◌⊎◌, inl, inr, ℕ, suc, ◌<◌, ◌≤◌, List, [], ◌∷◌, ◌++◌, true, false, Option, Some, None, ◌==◌, if◌then◌else◌, refl, sym, ◌∙◌, ap, subst, is_some, arith}
 use Rattle.std.proofs.lemmas.Bool.{eqb-true, eq-eqb, ne_eqb}
 use Rattle.ocr_acquire.specs.declared.Mode.{Mode}
 use Rattle.ocr_acquire.specs.Mode.{mode_in}
@@ -30,12 +30,10 @@ use Rattle.ocr_datablock.specs.Steps as block_steps
 use Rattle.ocr_edt.specs.declared.Edt.TheVariants as phase
 use Rattle.ocr_parts.specs.declared.part.Part.TheVariants as part
 use Rattle.ocr_edt.specs.declared.Identity.{Identity}
+use Rattle.ocr_base.proofs.Booleans.{same}
 
-flip : (d e : ℕ) → (d == e) ≡ false → (e == d) ≡ false
+pub flip : (d e : ℕ) → (d == e) ≡ false → (e == d) ≡ false
 flip d e apart = ne_eqb e d (λ z. absurd (let is : (d == e) ≡ true = eq-eqb d e (sym z) in cc (is, apart)))
-
-same : (n : ℕ) → (n == n) ≡ true
-same n = search rules
 
 -- THE EDT whose core changes
 abbrev Has : Edt → ℕ → Mode → Type 0

@@ -9,7 +9,6 @@ use Rattle.ocr_history.specs.declared.entry.Entry.TheVariants.{Stop}
 use Rattle.ocr_history.specs.declared.entry.Stop as run
 use Rattle.ocr_judge.specs.Judging.{IsToldAs, IsVerdict}
 use Rattle.ocr_judge.specs.declared.judging.Verdict.{Verdict}
-use Rattle.ocr_judge.proofs.Steps.{history_next, item, item_is}
 use Rattle.ocr_parts.specs.Bodies.{says_next}
 use Rattle.ocr_parts.specs.Legal.{IsRun, IsLegal}
 use Rattle.ocr_stopping.specs.Stopping.{IsFront}
@@ -34,10 +33,8 @@ use Rattle.ocr_replay.specs.declared.replaying.ReplayStop.{ReplayStop}
 use Rattle.ocr_replay.specs.declared.replaying.ReplayStop.TheVariants as why
 use Rattle.ocr_replay.specs.Stopped.{IsStoppedAt}
 use Rattle.ocr_replay.specs.Replaying.{IsFirstIllegal, IsAtEnd, verdict_at}
-
-pub all_of : (xs : List Entry) → take (length xs) xs ≡ xs
-all_of [] = refl
-all_of (x ∷ xs) = ap (λ l. x ∷ l) (all_of xs)
+use Rattle.ocr_stopping.proofs.Some.{within_le}
+use Rattle.ocr_history.proofs.Fronts.{item, item_is, history_next, all_of}
 
 pub past_end : (xs : List Entry) (n : ℕ) → length xs ≤ n → take n xs ≡ xs
 past_end [] zero past = refl
@@ -100,9 +97,6 @@ whole_run s xs n why run below last is legal =
 room_for : (xs : List Verdict) (t : ℕ) (v d : Verdict) → t < length xs → v ≡ slice_index_or xs t v → slice_index_or xs t d ≡ v
 room_for xs t v d below is = grind (arith, common_steps)
 
-within_limit : (limit t : ℕ) → is_within limit t ≡ true → t ≤ limit
-within_limit limit t is = grind (arith, common_steps)
-
 made_within : WithinLaw → EdtsLaw → (s : Setting) (past : History) (t : ℕ) → 2 ≤ s.limit → IsRun s past → is_edt past t ≡ true → is_within s.limit t ≡ true
 made_within law edts s past t enough run there = elim (is_within s.limit t) as (λ b. is_within s.limit t ≡ b → b ≡ true) [
   | true ↦ λ _. refl
@@ -134,7 +128,7 @@ front_of told edts within s xs r done =
       left = so_far.left ∙ ap (pending s) whole;
       long = omega (arith, done.room);
       told = λ t running v is.
-          let small : t ≤ s.limit = within_limit s.limit t (made_within within edts s (history_of xs) t done.some run (running_edt told edts s (history_of xs) t run running)) in
+          let small : t ≤ s.limit = within_le s.limit t (made_within within edts s (history_of xs) t done.some run (running_edt told edts s (history_of xs) t run running)) in
           let same : verdict_at r.verdicts.items t ≡ v = room_for r.verdicts.items t v _ (omega (arith, small, done.room)) is in
           let judged = so_far.judged t (subst (λ (h : History). IsRunning h t) (sym whole) running) in
           subst (λ (w : Verdict). IsToldAs (says_next s (history_of xs) t) w.told) same

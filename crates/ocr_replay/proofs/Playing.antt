@@ -1,7 +1,7 @@
 -- A replay goes on by an entry, or stops at it.
 use Rattle.std.proofs.Common.{◌≡◌, ℕ, ◌+◌, ◌-◌, ◌^◌, ◌<◌, ◌≤◌, List, [], ◌∷◌, ◌++◌, take, length, slice_index_or, slice_set, Bool, true, false, not, ◌==◌, ◌||◌, nat_lt, if◌then◌else◌, Option, Some, None, is_some, arith, refl, sym, ◌∙◌, ap, subst, rules}
 use Rattle.std.proofs.lemmas.Grind.{common_steps}
-use Rattle.std.proofs.lemmas.Bool.{eqb-true}
+use Rattle.std.proofs.lemmas.Bool.{eqb-true, or_parts, not-true, not-false, true≢false}
 use Rattle.std.specs.List.{Contains}
 use Rattle.ocr_acquire.specs.declared.Mode.{Mode}
 use Rattle.ocr_datablock.specs.Lent.{Loan, loan_of}
@@ -11,7 +11,7 @@ use Rattle.ocr_edt.specs.declared.Edt.TheVariants as phase
 use Rattle.ocr_edt.specs.declared.Identity.{Identity}
 use Rattle.ocr_history.specs.Edts.{is_started, IsRunning}
 use Rattle.ocr_history.specs.History.{History, Setting, history_of, is_stopped, own}
-use Rattle.ocr_history.specs.Made.{Made, MadeBlock, MadeTemplate, MadeEvent, MadeScope, MadeEdt, made, is_edt, is_edt_made, function_in, params_in}
+use Rattle.ocr_history.specs.Made.{Made, MadeBlock, MadeTemplate, MadeEvent, MadeScope, MadeEdt, made, is_edt, function_in, params_in}
 use Rattle.ocr_history.specs.declared.entry.Entry.{Entry}
 use Rattle.ocr_history.specs.declared.entry.Entry.TheVariants.{Call, Deliver, Start, Free, End, Stop}
 use Rattle.ocr_history.specs.declared.entry.Stop.TheVariants as by
@@ -22,7 +22,6 @@ use Rattle.ocr_judge.specs.Mailing.{left_from, message_at, sent_row}
 use Rattle.ocr_judge.specs.Tests.{Whether}
 use Rattle.ocr_judge.specs.declared.judging.Verdict.{Verdict}
 use Rattle.ocr_judge.proofs.Letters.{dropped, sent, waiting}
-use Rattle.ocr_judge.proofs.Steps.{same, not_true, not_false, history_next}
 use Rattle.ocr_legality.specs.Tests.{MayEnter}
 use Rattle.ocr_mail.specs.Mail.{without}
 use Rattle.ocr_table.specs.Table.{state_in, face_on, core_on, IsOf, IsBefore}
@@ -54,10 +53,9 @@ use Rattle.ocr_standing.specs.Lasting.{BodyLaw, NoOwnLaw, has_own}
 use Rattle.ocr_tree.specs.Tree.{FunctionTree}
 use Rattle.ocr_replay.specs.Replaying.{entry_at, verdict_at, IsReplayed, IsReplaying, IsNext, IsComing, IsEntered, IsStarted, IsJudged, IsFirstIllegal, mail_after, CanDeliver}
 use Rattle.ocr_replay.specs.declared.state.Replay.{Replay}
-
--- WHO RUNS has started, and has not ended
-true_false : true ≡ false → ⊥
-true_false is = cc is
+use Rattle.ocr_base.proofs.Booleans.{same}
+use Rattle.ocr_standing.proofs.Said.{started_made}
+use Rattle.ocr_history.proofs.Fronts.{history_next, past_len}
 
 abbrev some_or : {A : Type 0} → A → Option A → A
 some_or d None = d
@@ -96,13 +94,13 @@ past_it v n after apart = grind (arith, common_steps)
 made_here : (b : Body) (t n : ℕ) (xs : List Entry) (v : Verdict) (e : Entry) → IsVerdict b t xs n v.at v.told → e ≡ slice_index_or xs n e → runs t e ≡ true → not (v.at == n) ≡ true
     → IsMadeBy (at_place b t xs n) e
 made_here b t n xs v e verdict is mine apart =
-    let off : (v.at == n) ≡ false = not_true (v.at == n) apart in
+    let off : (v.at == n) ≡ false = not-true (v.at == n) apart in
     verdict.said n (omega arith) (past_it v.at n verdict.after off) e is mine
 
 not_made_here : (b : Body) (t n : ℕ) (xs : List Entry) (v : Verdict) (e : Entry) → IsVerdict b t xs n v.at v.told → n < length xs → e ≡ slice_index_or xs n e → not (v.at == n) ≡ false
     → IsMadeBy (at_place b t xs n) e → ⊥
 not_made_here b t n xs v e verdict below is here =
-    let at : v.at ≡ n = eqb-true v.at n (not_false (v.at == n) here) in
+    let at : v.at ≡ n = eqb-true v.at n (not-false (v.at == n) here) in
     let unsaid : IsUnsaid b t xs v.at = verdict.unsaid (omega (arith, at, below)) in
     (subst (λ (k : ℕ). IsUnsaid b t xs k) at unsaid e is).1
 
@@ -179,9 +177,6 @@ len_after : (e : Entry) (rows : List (List (Option What))) → length (mail_afte
 len_after (Deliver m c) rows = search rules
 len_after other rows = refl
 
-past_len : (xs : List Entry) (n : ℕ) → n ≤ length xs → length (history_of (take n xs)) ≡ n
-past_len xs n within = grind (arith, common_steps)
-
 pub mail_next : (s : Setting) (past : History) (e : Entry) (rows : List (List (Option What))) (ms : List What) → left_from 0 rows ≡ pending s past → IsSaid s past e → length rows ≡ length past → ms ≡ sends e (parts_of s past)
     → left_from 0 (mail_after e rows ++ sent_row ms ∷ []) ≡ pending s (e ∷ past)
 mail_next s past e rows ms left said len are =
@@ -253,10 +248,6 @@ restrict body_law s xs n e t v run legal no_stop below is edt running verdict =
       told = verdict.told;
     })
 
-later_or : (b c : Bool) → (b || c) ≡ false → c ≡ false
-later_or true c is = cc is
-later_or false c is = is
-
 -- who runs after an entry that did not start it ran before it
 ran_before : (past : History) (e : Entry) (t : ℕ) → (e ≡ Start t → ⊥) → IsRunning (e ∷ past) t → IsRunning past t
 ran_before past (Start u) t no_start running = record {
@@ -266,20 +257,12 @@ ran_before past (Start u) t no_start running = record {
   ] refl running.started;
   not_ended = running.not_ended;
 }
-ran_before past (End u g) t no_start running = record { started = running.started; not_ended = later_or (u == t) _ running.not_ended }
+ran_before past (End u g) t no_start running = record { started = running.started; not_ended = (or_parts (u == t) _ running.not_ended).1 }
 ran_before past other t no_start running = record { started = running.started; not_ended = running.not_ended }
-
-core_edt : (m : Option Made) (i : Identity) (calls : List edt.EdtCall) (loans : List (ℕ × Kept)) → nat_lt 1 (mark (core m i calls loans)).0 ≡ true → is_edt_made m ≡ true
-core_edt None i calls loans is = cc is
-core_edt (Some (MadeBlock n c)) i calls loans is = cc is
-core_edt (Some (MadeTemplate f pc dc)) i calls loans is = cc is
-core_edt (Some (MadeEvent k fl most)) i calls loans is = cc is
-core_edt (Some (MadeScope outer event)) i calls loans is = cc is
-core_edt (Some (MadeEdt f ps n)) i calls loans is = refl
 
 pub running_edt : ToldLaw → EdtsLaw → (s : Setting) (past : History) (t : ℕ) → IsRun s past → IsRunning past t → is_edt past t ≡ true
 running_edt told edts s past t run running =
-    sym (edts s past run t) ∙ core_edt (made s past t) (identity_of past t) (edt_calls s past t) (loans_of s past t) (sym (told s past run t).has_started ∙ running.started)
+    sym (edts s past run t) ∙ started_made (made s past t) (identity_of past t) (edt_calls s past t) (loans_of s past t) (sym (told s past run t).has_started ∙ running.started)
 
 -- THE REPLAY after one entry more
 pub next_other : ToldLaw → EdtsLaw → BodyLaw → (s : Setting) (xs : List Entry) (n : ℕ) (e : Entry) (r new : Replay) → IsComing s xs n e r → IsEntered s xs (n + 1) new.table new.mail
@@ -311,7 +294,7 @@ next_start told edts body_law s xs n u r new coming entered judged = record {
     | false ↦ λ apart.
         let past : History = history_of (take n xs) in
         let next = coming.next in
-        let before : IsRunning past t = ran_before past (Start u) t (λ is. true_false (sym (same u) ∙ ap (λ (k : ℕ). u == k) (start_of is) ∙ apart))
+        let before : IsRunning past t = ran_before past (Start u) t (λ is. true≢false (sym (same u) ∙ ap (λ (k : ℕ). u == k) (start_of is) ∙ apart))
         (subst (λ (h : History). IsRunning h t) (history_next xs n (Start u) next.within next.is) running) in
         rw (judged.others t apart) (restrict body_law s xs n (Start u) t (verdict_at r.verdicts.items t) next.so_far.run (coming_legal s xs n (Start u) r coming) refl next.within next.is
         (running_edt told edts s past t next.so_far.run before) before (next.so_far.judged t before))
@@ -325,9 +308,9 @@ no_own (Call u home c a w ∷ past) t is = elim (u == t) as (λ b. (b || has_own
   | true ↦ λ is. cc is
   | false ↦ λ is. no_own past t is
 ] is
-no_own (Start u ∷ past) t is = no_own past t (later_or (u == t) _ is)
-no_own (Free u d w ∷ past) t is = no_own past t (later_or (u == t) _ is)
-no_own (End u g ∷ past) t is = no_own past t (later_or (u == t) _ is)
+no_own (Start u ∷ past) t is = no_own past t (or_parts (u == t) _ is).1
+no_own (Free u d w ∷ past) t is = no_own past t (or_parts (u == t) _ is).1
+no_own (End u g ∷ past) t is = no_own past t (or_parts (u == t) _ is).1
 no_own (other ∷ past) t is = no_own past t is
 
 pub fresh_now : NoOwnLaw → (s : Setting) (xs : List Entry) (n t : ℕ) (r : Replay) → IsStarted s xs n t r → own (history_of (take (n + 1) xs)) t ≡ []
@@ -418,7 +401,7 @@ first_replaying s xs table rows vs of none = record {
   of = of;
   sent = rw none refl;
   left = rw none refl;
-  judged = λ t running. absurd (true_false (sym running.started));
+  judged = λ t running. absurd (true≢false (sym running.started));
 }
 
 -- THE ENTRY at a place

@@ -1,6 +1,5 @@
 -- Each entry of a run may come after those before it.
-use Rattle.std.proofs.Common.{◌≡◌, ◌<◌, ◌≤◌, ◌+◌, ◌-◌, ◌^◌, ℕ, zero, suc, List, [], ◌∷◌, length, take, get_or, refl, ap, sym, subst, arith}
-use Rattle.std.proofs.lemmas.Grind.{common_steps}
+use Rattle.std.proofs.Common.{◌≡◌, ◌<◌, ◌≤◌, ◌+◌, ◌-◌, ◌^◌, ℕ, zero, suc, List, length, take, slice_index_or, ap, sym, subst, arith}
 use Rattle.ocr_history.specs.declared.entry.Entry.{Entry}
 use Rattle.ocr_history.specs.History.{History, Setting, history_of}
 use Rattle.ocr_parts.specs.Kinds.{counted_on}
@@ -9,22 +8,7 @@ use Rattle.ocr_parts.specs.Legal.{IsRun, IsLegal}
 use Rattle.ocr_parts.specs.Parts.{Parts, parts_of}
 use Rattle.ocr_table.specs.Table.{IsOf, IsBefore, face_on}
 use Rattle.ocr_table.specs.declared.table.Table.{Table}
-use Rattle.ocr_report.proofs.Uses.{history_next}
-
-all_of : (xs : List Entry) → take (length xs) xs ≡ xs
-all_of [] = refl
-all_of (x ∷ xs) = ap (λ l. x ∷ l) (all_of xs)
-
-item : (xs : List Entry) (i : ℕ) → i < length xs → Entry
-item [] i below = absurd (omega (arith, below))
-item (x ∷ xs) zero below = x
-item (x ∷ xs) (suc i) below = item xs i (omega (arith, below))
-
-item_is : (xs : List Entry) (i : ℕ) (below : i < length xs) → item xs i below ≡ get_or xs i (item xs i below)
-unfolding item
-item_is [] i below = absurd (omega (arith, below))
-item_is (x ∷ xs) zero below = refl
-item_is (x ∷ xs) (suc i) below = item_is xs i (omega (arith, below))
+use Rattle.ocr_history.proofs.Fronts.{history_next, all_of, past_len, item, item_is}
 
 -- a front of a run is a run
 front_run : (s : Setting) (xs : List Entry) (n d : ℕ) → n + d ≡ length xs → IsRun s (history_of xs) → IsRun s (history_of (take n xs))
@@ -35,20 +19,17 @@ front_run s xs n (suc d) is run =
     let below : n < length xs = omega (arith, is) in
     (subst (λ h. IsRun s h) (history_next xs n (item xs n below) below (item_is xs n below)) (front_run s xs (n + 1) d (omega (arith, is)) run)).0
 
-next_legal : (s : Setting) (xs : List Entry) (n : ℕ) (e : Entry) → n < length xs → e ≡ get_or xs n e → IsRun s (history_of xs) → IsLegal s (history_of (take n xs)) e
+next_legal : (s : Setting) (xs : List Entry) (n : ℕ) (e : Entry) → n < length xs → e ≡ slice_index_or xs n e → IsRun s (history_of xs) → IsLegal s (history_of (take n xs)) e
 next_legal s xs n e below is run =
     (subst (λ h. IsRun s h) (history_next xs n e below is) (front_run s xs (n + 1) (length xs - (n + 1)) (omega (arith, below)) run)).1
 
 -- so it may be entered into the table of those
-pub may_enter : (s : Setting) (xs : List Entry) (n : ℕ) (e : Entry) (table : Table) → n < length xs → e ≡ get_or xs n e → IsRun s (history_of xs) → IsOf s (history_of (take n xs)) table → IsBefore s (history_of (take n xs)) e table
+pub may_enter : (s : Setting) (xs : List Entry) (n : ℕ) (e : Entry) (table : Table) → n < length xs → e ≡ slice_index_or xs n e → IsRun s (history_of xs) → IsOf s (history_of (take n xs)) table → IsBefore s (history_of (take n xs)) e table
 may_enter s xs n e table below is run of = record {
   of = of;
   run = front_run s xs n (length xs - n) (omega (arith, below)) run;
   legal = next_legal s xs n e below is run;
 }
-
-past_len : (xs : List Entry) (n : ℕ) → n ≤ length xs → length (history_of (take n xs)) ≡ n
-past_len xs n within = grind (arith, common_steps)
 
 pub few_counted : CountedLaw → (s : Setting) (xs : List Entry) (n : ℕ) (table : Table) → n < length xs → n < 2 ^ 64 - 1 → IsOf s (history_of (take n xs)) table → (g : ℕ) → counted_on (face_on table g) < 2 ^ 64 - 1
 few_counted law s xs n table below few of g =

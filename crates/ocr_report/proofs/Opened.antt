@@ -5,6 +5,7 @@ use Rattle.std.specs.List.{flat_map, list_any, range_with_len}
 use Rattle.std.specs.BTreeMap.{BTreeMap}
 use Rattle.std.proofs.lemmas.List.Elements.{filter_agree}
 use Rattle.std.proofs.lemmas.Grind.{flat_map-append}
+use Rattle.std.proofs.Math.Bool.{or-false}
 use Rattle.ocr_slots.specs.Slots.{SlotCall, Linking, Setting, is_set, payload_of}
 use Rattle.ocr_history.specs.History.{Setting as Set, History}
 use Rattle.ocr_history.specs.Made.{Made, MadeBlock, MadeTemplate, MadeEdt, MadeEvent, MadeScope, made}
@@ -18,12 +19,8 @@ use Rattle.ocr_report.specs.Open.{open_in, unset_below}
 use Rattle.ocr_report.specs.Slots.{AreCounts, AreSet, slots_in, depc_in, counted_in}
 use Rattle.ocr_report.proofs.Unstarted.{all_kept}
 
-or_false : (b : Bool) → (b || false) ≡ b
-or_false true = refl
-or_false false = refl
-
 any_last : (f : ℕ → Bool) (ns : List ℕ) (n : ℕ) → list_any f (ns ++ n ∷ []) ≡ (list_any f ns || f n)
-any_last f [] n = or_false (f n)
+any_last f [] n = or-false (f n)
 any_last f (m ∷ ns) n = ap (λ b. f m || b) (any_last f ns n) ∙ or_assoc (f m) (list_any f ns) (f n)
   where
     or_assoc : (a b c : Bool) → (a || (b || c)) ≡ ((a || b) || c)

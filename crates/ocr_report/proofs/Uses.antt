@@ -1,18 +1,12 @@
 -- One entry more among the uses of destroyed objects.
-use Rattle.std.proofs.Common.{◌≡◌, ◌∙◌, ◌<◌, ◌+◌, ℕ, List, [], ◌∷◌, ◌++◌, Bool, ◌||◌, if◌then◌else◌, length, take, get_or, refl, ap, sym, codes}
-use Rattle.std.proofs.lemmas.List.{reverse-append, take_more}
+use Rattle.std.proofs.Common.{◌≡◌, ◌∙◌, ◌+◌, ℕ, List, [], ◌∷◌, ◌++◌, Bool, ◌||◌, if◌then◌else◌, refl, ap, codes}
 use Rattle.ocr_history.specs.declared.entry.Entry.{Entry}
 use Rattle.ocr_history.specs.declared.entry.Entry.TheVariants as an
-use Rattle.ocr_history.specs.History.{History, history_of}
+use Rattle.ocr_history.specs.History.{History}
 use Rattle.ocr_journal.specs.Phrase.{Text, phrase}
 use Rattle.ocr_report.specs.Destroyed.{is_destroyed, is_victim, victim_in, was_destroyed}
 use Rattle.ocr_report.specs.Stale.{stale_line, stale_lines, first_stale, objects_of}
 use Rattle.ocr_history.specs.Stale.{is_stale}
-
-pub history_next : (xs : List Entry) (i : ℕ) (e : Entry) → i < length xs → e ≡ get_or xs i e → history_of (take (i + 1) xs) ≡ e ∷ history_of (take i xs)
-history_next xs i e below is =
-    ap history_of (take_more xs i e below) ∙ reverse-append (take i xs) (get_or xs i e ∷ [])
-    ∙ ap (λ (x : Entry). x ∷ history_of (take i xs)) (sym is)
 
 first_same : (f g : ℕ → Bool) → ((n : ℕ) → f n ≡ g n) → (ns : List ℕ) → first_stale f ns ≡ first_stale g ns
 first_same f g same [] = refl

@@ -77,7 +77,7 @@ fn put(numbers: &mut Vec<u64>, number: u64) -> Result<(), NoMemory>
 }
 
 /// The EDTs that were made, rising.
-#[tactic(auto, using(crate::proofs::Rising::made_rising))]
+#[tactic(auto, using(ocr_history::proofs::Left::made_rising))]
 pub fn edts(alloc: Global, entries: &[Entry]) -> Result<Vec<u64>, NoMemory>
     ensures { IfOk result (λ edts. edts.items ≡ made_edts (history_of entries.now)) }
 {

@@ -89,7 +89,7 @@ up_to_has n (suc k) lo hi = dite (ℕ_discrete n (suc k))
     (λ e. let a : one_at n (suc k) ≡ 1 = ap (one_at n) (sym e) ∙ one_here n in omega arith)
     (λ ne. let r = up_to_has n k lo (omega arith) in omega arith)
 
-one_view : {V : Type 0} (v u : V) (i : ℕ) → get_elem? (v ∷ []) i ≡ some u → v ≡ u
+pub one_view : {V : Type 0} (v u : V) (i : ℕ) → get_elem? (v ∷ []) i ≡ some u → v ≡ u
 one_view v u zero e = some-injective v u e
 one_view v u (suc i) e = absurd (some-ne-none u (sym e))
 
@@ -97,7 +97,7 @@ none_most : (o : Option ℕ) → is_none o ≤ 1
 none_most None = omega arith
 none_most (Some x) = omega arith
 
-map_length : {A B : Type 0} (f : A → B) (xs : List A) → length (map f xs) ≡ length xs
+pub map_length : {A B : Type 0} (f : A → B) (xs : List A) → length (map f xs) ≡ length xs
 map_length f [] = refl
 map_length f (x ∷ xs) = ap suc (map_length f xs)
 

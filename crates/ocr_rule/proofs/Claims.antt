@@ -1,5 +1,6 @@
 -- The EDTs that a view has claimed.
 use Rattle.std.proofs.Common.{◌≡◌, ℕ, zero, suc, ◌+◌, ◌≤◌, inl, inr, ⊎_elim, Bool, true, false, ◌||◌, List, [], ◌∷◌, ◌++◌, length, reverse, refl, ap, sym, ◌∙◌, arith, Some, Option}
+use Rattle.std.proofs.lemmas.Bool.{or_left}
 use mathlib.Core.Option.{some}
 use lib.ListN.{get_elem?}
 use Rattle.atomic_table.specs.Table.{State}
@@ -15,10 +16,6 @@ use Rattle.ocr_rule.proofs.Accounts.{busy}
 use Rattle.ocr_rule.proofs.Owing.{below_zero, is_some}
 use Rattle.ocr_rule.proofs.Slots.{true_is}
 use Rattle.ocr_rule.proofs.Totals.{among_append, entries_append, total_one}
-
-or_left : (a b : Bool) → a ≡ true → (a || b) ≡ true
-or_left true b is = refl
-or_left false b is = cc is
 
 or_last : (a b : Bool) → b ≡ true → (a || (b || false)) ≡ true
 or_last true b is = refl

@@ -1,6 +1,7 @@
 -- The step that enters an entry keeps the second rule.
 use Rattle.std.proofs.Common.{◌≡◌, ◌≢◌, ℕ, zero, suc, ◌+◌, ◌-◌, ◌<◌, ◌≤◌, ◌⊎◌, inl, inr, ⊎_elim, Bool, true, false, ◌||◌, ◌&&◌, if◌then◌else◌, List, [], ◌∷◌, ◌++◌, length, reverse, refl, ap, sym, subst, ◌∙◌, arith, None, Some, Option}
 use Rattle.std.specs.Prelude.{slice_index, slice_set}
+use Rattle.std.proofs.lemmas.Bool.{or_cases}
 use mathlib.Core.Option.{some, some-injective, some-ne-none}
 use mathlib.Core.Logic.{dite}
 use native.Mathlib.Decide.{ℕ_discrete, dec_le}
@@ -19,9 +20,9 @@ use Rattle.ocr_rule.proofs.Totals.{total_set, total_one, total_two, tally_append
 use Rattle.ocr_rule.proofs.Accounts.{busy}
 use Rattle.ocr_rule.proofs.Claims.{begun_now, begun_more}
 use Rattle.ocr_rule.proofs.Owing.{some_view, making_append, times_without, in_times, below_same, below_one, below_all}
-use Rattle.ocr_rule.proofs.Slots.{bools, options, clash, none_is, count_here, count_else, makes_for, pay_here, pay_else, sets_for, slot_for, after_none, after_resumed, after_same, tied_back, tied_now, or_of, created_none, slots_later, payload_later, told_more}
+use Rattle.ocr_rule.proofs.Slots.{bools, options, clash, none_is, count_here, count_else, makes_for, pay_here, pay_else, sets_for, slot_for, after_none, after_resumed, after_same, tied_back, tied_now, created_none, slots_later, payload_later, told_more}
 
-nil_append : {A : Type 0} (xs : List A) → xs ++ [] ≡ xs
+pub nil_append : {A : Type 0} (xs : List A) → xs ++ [] ≡ xs
 nil_append [] = refl
 nil_append (x ∷ xs) = ap (λ l. x ∷ l) (nil_append xs)
 
@@ -359,7 +360,7 @@ module _ {G E P N F : Type 0} (m : Meaning G E P N F) (laws : CountingLaws m) (r
         (λ y. let z = y.2 in ⊎_elim
         (λ on. begun_now m n v w log.0 e log.1 log.2 on)
         (λ was. begun_more m n v w log.0 e log.1 log.2 (old.begun n (omega arith) was))
-        (or_of (m.starts e n) (is_started m t past n) is))
+        (or_cases (m.starts e n) (is_started m t past n) is))
         (claims_after n);
     spent = λ z. absurd (omega arith);
   }
@@ -372,7 +373,7 @@ module _ {G E P N F : Type 0} (m : Meaning G E P N F) (laws : CountingLaws m) (r
     tied = λ n p has is.
         let none = not_mine n has in
         old.tied n p has (tied_back (m.starts e n) (m.ends e n) (is_started m t past n) (is_ended m t past n) (m.counting.waits e n) (is_in n woken) (awaited m t past n) (m.core t.limit n) p (no_start n none) (no_wait n none) is);
-    begun = λ n has is. old.begun n has (⊎_elim (λ on. let off = no_start n (not_mine n has) in absurd (cc (on, off))) (λ was. was) (or_of (m.starts e n) (is_started m t past n) is));
+    begun = λ n has is. old.begun n has (⊎_elim (λ on. let off = no_start n (not_mine n has) in absurd (cc (on, off))) (λ was. was) (or_cases (m.starts e n) (is_started m t past n) is));
     spent = old.spent;
   }
     where

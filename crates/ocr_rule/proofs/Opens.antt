@@ -4,7 +4,7 @@ use Rattle.std.specs.Prelude.{replicate, slice_index, MatchOption}
 use Rattle.std.proofs.Math.ListN.{length-set}
 use Rattle.std.proofs.lemmas.List.{length-replicate}
 use mathlib.Core.Option as maybe
-use mathlib.Core.Option.{some, some-injective, some-ne-none}
+use mathlib.Core.Option.{some, some-ne-none}
 use mathlib.Core.Logic.{dite}
 use native.Mathlib.Decide.{ℕ_discrete}
 use lib.ListN.{get_elem?}
@@ -20,7 +20,7 @@ use Rattle.ocr_rule.specs.Steps.{rooted}
 use Rattle.ocr_rule.specs.Sums.{weigh, one_at, is_free, replace}
 use Rattle.ocr_rule.specs.declared.view.View.{View}
 use Rattle.ocr_rule.specs.declared.view.Terms.{Terms}
-use Rattle.ocr_rule.proofs.Beginning.{opens_counted}
+use Rattle.ocr_rule.proofs.Beginning.{opens_counted, one_view, map_length}
 use Rattle.ocr_rule.proofs.Splits.{nothing_yet}
 use Rattle.ocr_rule.proofs.Totals.{one_else, at_less}
 
@@ -53,14 +53,6 @@ at_home : {A : Type 0} (xs : List A) (p : ℕ) (a : A) → get_elem? xs p ≡ so
 at_home [] p a at = absurd (some-ne-none a (sym at))
 at_home (x ∷ xs) zero a at = ap some at
 at_home (x ∷ xs) (suc p) a at = at_home xs p a at
-
-map_length : {A B : Type 0} (f : A → B) (xs : List A) → length (map f xs) ≡ length xs
-map_length f [] = refl
-map_length f (x ∷ xs) = ap suc (map_length f xs)
-
-one_view : {V : Type 0} (v u : V) (i : ℕ) → get_elem? (v ∷ []) i ≡ some u → v ≡ u
-one_view v u zero e = some-injective v u e
-one_view v u (suc i) e = absurd (some-ne-none u (sym e))
 
 module _ {G E P N F : Type 0} (m : Meaning G E P N F) (laws : CountingLaws m) (t : Terms G) (parts : List (ℕ × P)) (ok : OpensWith m t parts) (ws : List ℕ) (laid : IsLaidOut m.first t.limit m.opened ws) where
   abbrev pub slots : List (Option P)

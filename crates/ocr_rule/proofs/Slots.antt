@@ -1,6 +1,7 @@
 -- What an entry does to what a history says of an EDT.
 use Rattle.std.proofs.Common.{◌≡◌, ◌≢◌, ℕ, ◌+◌, ◌-◌, ◌≤◌, ◌⊎◌, inl, inr, ⊎_elim, Bool, true, false, ◌||◌, ◌&&◌, ◌==◌, if◌then◌else◌, List, [], ◌∷◌, ◌++◌, reverse, refl, ap, sym, subst, ◌∙◌, arith, eq-eqb, ne_eqb, None, Some, Option}
 use Rattle.std.proofs.lemmas.List.{reverse-append}
+use Rattle.std.proofs.lemmas.Bool.{or_right, or_cases, or_from}
 use mathlib.Core.Logic.{dite}
 use native.Mathlib.Decide.{ℕ_discrete}
 use Rattle.ocr_mail.specs.Mail.{tally}
@@ -166,23 +167,6 @@ tied_now false false false sb (Some q) z before core p is = inr (inl is)
 tied_now false false false sb None true before core p is = cc is
 tied_now false false false sb None false before core p is = inr (inr is)
 
-or_false : (a b : Bool) → (a || b) ≡ false → (a ≡ false) × (b ≡ false)
-or_false true b is = cc is
-or_false false b is = (refl, is)
-
--- one of two
-pub or_of : (a b : Bool) → (a || b) ≡ true → (a ≡ true) ⊎ (b ≡ true)
-or_of true b is = inl refl
-or_of false b is = inr is
-
-or_either : (a b : Bool) → b ≡ true → (a || b) ≡ true
-or_either true b is = refl
-or_either false b is = is
-
-or_both : (a b : Bool) → a ≡ false → b ≡ false → (a || b) ≡ false
-or_both true b p q = cc p
-or_both false b p q = q
-
 module _ {G E P N F : Type 0} (m : Meaning G E P N F) (laws : CountingLaws m) (runs : Lawful m) (t : Terms G) (past : List E) (e : E) (may : MayCome m t past e) (told : Consistent m t past)
     (unmade : (n : ℕ) → 1 ≤ sum_of (one_at n) (m.makes e) → (1 ≤ n) × (n ≤ t.limit) × (up_to (one_at n) m.opened + made_sum m.makes (one_at n) (reverse past) ≡ 0)) where
   -- an EDT that it makes was not made
@@ -220,13 +204,13 @@ module _ {G E P N F : Type 0} (m : Meaning G E P N F) (laws : CountingLaws m) (r
     rests = λ n p is.
         let w = after_cases (m.starts e n) (m.ends e n) (m.counting.waits e n) (is_in n (m.counting.resumes t.setting.value t.limit (reverse past) e)) (awaited m t past n) p is in
         ⊎_elim
-        (λ z. let ready = (laws.waiting t past e n p may z).0 in (or_both (m.starts e n) (is_started m t past n) w.0 ready.unstarted, or_both (m.ends e n) (is_ended m t past n) w.1 ready.unended, (ready.set.slots, slots_later n ready.set.slots ready.set.made)))
-        (λ z. let r = told.rests n p z.2 in (or_both (m.starts e n) (is_started m t past n) w.0 r.0, or_both (m.ends e n) (is_ended m t past n) w.1 r.1, (r.2.0, slots_later n r.2.0 r.2.1)))
+        (λ z. let ready = (laws.waiting t past e n p may z).0 in (or_from (m.starts e n) (is_started m t past n) w.0 ready.unstarted, or_from (m.ends e n) (is_ended m t past n) w.1 ready.unended, (ready.set.slots, slots_later n ready.set.slots ready.set.made)))
+        (λ z. let r = told.rests n p z.2 in (or_from (m.starts e n) (is_started m t past n) w.0 r.0, or_from (m.ends e n) (is_ended m t past n) w.1 r.1, (r.2.0, slots_later n r.2.0 r.2.1)))
         w.2;
     ends = λ n is. ⊎_elim
-        (λ on. or_either (m.starts e n) (is_started m t past n) (laws.ending t past e n may on).1)
-        (λ old. or_either (m.starts e n) (is_started m t past n) (told.ends n old))
-        (or_of (m.ends e n) (is_ended m t past n) is);
+        (λ on. or_right (m.starts e n) (is_started m t past n) (laws.ending t past e n may on).1)
+        (λ old. or_right (m.starts e n) (is_started m t past n) (told.ends n old))
+        (or_cases (m.ends e n) (is_ended m t past n) is);
     facts = λ n q x is. ⊎_elim
         (λ z. let law = laws.setting t past e n q z.0 may z.1 in
         let same : ◌≡◌ {A = Option ℕ} (Some z.0) (Some x) = sym (pay_here (m.counting.sets e) n q z.0 (payload_of m t past n q) z.1).0 ∙ is in

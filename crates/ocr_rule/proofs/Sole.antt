@@ -34,7 +34,7 @@ module _ {E : Type 0} where
       let r = same_items xs ys (omega (arith, len)) (λ n lt. each (suc n) (omega arith)) in
       ap (λ (z : E). z ∷ xs) h ∙ ap (λ (l : List E). y ∷ l) r
 
-below_here : (n m : ℕ) → n < m → 1 ≤ below (one_at n) m
+pub below_here : (n m : ℕ) → n < m → 1 ≤ below (one_at n) m
 below_here n zero lt = absurd (omega arith)
 below_here n (suc m) lt = dite (ℕ_discrete n m)
     (λ e. let one : one_at n m ≡ 1 = rw (eq-eqb n m e) refl in omega arith)

@@ -1,5 +1,5 @@
 -- The steps on the words that count are allowed, and what they tell.
-use Rattle.std.proofs.Common.{◌≡◌, ◌≢◌, ℕ, zero, suc, ◌+◌, ◌-◌, ◌%◌, ◌<◌, ◌≤◌, inl, inr, ⊎_elim, false, List, [], ◌∷◌, length, reverse, refl, ap, sym, subst, ◌∙◌, arith, eqb, eq-eqb, ne_eqb, get_or-set_same, get_or-set_other, None, Some, Option}
+use Rattle.std.proofs.Common.{◌≡◌, ◌≢◌, ℕ, ◌+◌, ◌-◌, ◌%◌, ◌<◌, ◌≤◌, inl, inr, ⊎_elim, false, List, [], ◌∷◌, length, reverse, refl, ap, sym, subst, ◌∙◌, arith, eqb, eq-eqb, ne_eqb, get_or-set_same, get_or-set_other, None, Some, Option}
 use Rattle.std.specs.Prelude.{slice_index, slice_set}
 use Rattle.std.proofs.Math.ListN.{length-set}
 use Rattle.std.proofs.lemmas.List.{set-get_or}
@@ -31,10 +31,7 @@ use Rattle.ocr_rule.proofs.Slots.{none_is, true_is}
 use Rattle.ocr_rule.proofs.Counting as counting
 use Rattle.ocr_rule.proofs.Apart.{counted_elsewhere}
 use Rattle.ocr_rule.proofs.Claims.{set_all}
-
-one_listed : {A : Type 0} (x y : A) (i : ℕ) → get_elem? (x ∷ []) i ≡ some y → x ≡ y
-one_listed x y zero e = cc e
-one_listed x y (suc i) e = cc e
+use Rattle.ocr_rule.proofs.Beginning.{one_view}
 
 module _ {G E P N F : Type 0} (m : Meaning G E P N F) (t : Terms G) where
   module _ (J : List E) (s : State (Option P) (View G E P N F)) (k : Kept m t J s) (c : Counted m t (reverse J) s) (id : ℕ) (v : View G E P N F) (at : get_elem? s.views id ≡ some v) where
@@ -233,7 +230,7 @@ module _ {G E P N F : Type 0} (m : Meaning G E P N F) (t : Terms G) where
         subst (λ l. m.stands t.setting.value t.limit l (m.counting.is_set n k x)) (reverse_twice h.history) (h.counted.told.facts n k x (payload_is s h at n k has slot ∙ ap (λ q. Some (slice_index s.words (payload_at (length s.homes) n q))) (sym same))) in
         let facts : FactsOf (m.stands t.setting.value t.limit h.history) w.facts = λ j f there. ⊎_elim
         (λ y. facts_at s h at j f y)
-        (λ y. subst (m.stands t.setting.value t.limit h.history) (one_listed (m.counting.is_set n k x) f y.0 y.1) fact)
+        (λ y. subst (m.stands t.setting.value t.limit h.history) (one_view (m.counting.is_set n k x) f y.0 y.1) fact)
         (at_append me.0.facts (m.counting.is_set n k x ∷ []) j f there) in
         let kept = kept_beyond h.history s h.kept id me.0 at is_out i x (omega arith) w.facts me.0.debts me.0.claims facts in
         let counted = idle_counted s h at i w.facts in (

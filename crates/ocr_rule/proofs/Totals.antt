@@ -1,6 +1,7 @@
 -- Sums over views and logs.
 use Rattle.std.proofs.Common.{◌≡◌, ◌≢◌, ℕ, zero, suc, ◌+◌, ◌*◌, ◌<◌, ◌≤◌, ◌⊎◌, inl, inr, ⊎_elim, List, [], ◌∷◌, ◌++◌, length, set, refl, ap, sym, ◌∙◌, arith, add-one, eq-eqb, ne_eqb, eqb-true, Bool, true, false, Option, Some, None, if◌then◌else◌, ◌&&◌, ◌||◌, ◌==◌, reverse}
 use Rattle.std.proofs.lemmas.List.{reverse-append}
+use Rattle.std.proofs.lemmas.Bool.{and_parts}
 use mathlib.Core.Option.{some, some-injective, some-ne-none}
 use mathlib.Core.Logic.{dite}
 use native.Mathlib.Decide.{ℕ_discrete, dec_le}
@@ -81,13 +82,8 @@ module _ {N : Type 0} (f : ℕ × ℕ → ℕ) where
 abbrev pub one_name : ℕ × ℕ → ℕ × ℕ → ℕ
 one_name nm x = if (nm.0 == x.0) && (nm.1 == x.1) then 1 else 0
 
-both_true : (a b : Bool) → (a && b) ≡ true → (a ≡ true) × (b ≡ true)
-both_true true true e = (refl, refl)
-both_true true false e = absurd (cc e)
-both_true false b e = absurd (cc e)
-
 pub named_same : {N : Type 0} (nm : ℕ × ℕ) (x : ℕ × ℕ × N) → same_name nm x ≡ true → nm ≡ (x.0, x.1)
-named_same nm x is = let b = both_true (nm.0 == x.0) (nm.1 == x.1) is in let p : nm.0 ≡ x.0 = eqb-true nm.0 x.0 b.0 in let q : nm.1 ≡ x.1 = eqb-true nm.1 x.1 b.1 in λ i. (p i, q i)
+named_same nm x is = let b = and_parts (nm.0 == x.0) (nm.1 == x.1) is in let p : nm.0 ≡ x.0 = eqb-true nm.0 x.0 b.0 in let q : nm.1 ≡ x.1 = eqb-true nm.1 x.1 b.1 in λ i. (p i, q i)
 
 module _ {N : Type 0} (f : ℕ × ℕ → ℕ) (nm : ℕ × ℕ) where
   -- what is dropped weighs what its name weighs
@@ -107,7 +103,7 @@ has_tally (y ∷ ys) nm zero x at =
 has_tally (y ∷ ys) nm (suc k) x at = let r = has_tally ys nm k x at in omega arith
 
 both_of : (nm y : ℕ × ℕ) → ((nm.0 == y.0) && (nm.1 == y.1)) ≡ true → nm ≡ y
-both_of nm y is = let b = both_true (nm.0 == y.0) (nm.1 == y.1) is in let p : nm.0 ≡ y.0 = eqb-true nm.0 y.0 b.0 in let q : nm.1 ≡ y.1 = eqb-true nm.1 y.1 b.1 in λ i. (p i, q i)
+both_of nm y is = let b = and_parts (nm.0 == y.0) (nm.1 == y.1) is in let p : nm.0 ≡ y.0 = eqb-true nm.0 y.0 b.0 in let q : nm.1 ≡ y.1 = eqb-true nm.1 y.1 b.1 in λ i. (p i, q i)
 
 pub tally_has : {N : Type 0} (xs : List (ℕ × ℕ × N)) (nm : ℕ × ℕ) → 1 ≤ tally (one_name nm) xs → (k : ℕ) × (x : N) × (get_elem? xs k ≡ some (nm.0, nm.1, x))
 tally_has [] nm h = absurd (omega arith)

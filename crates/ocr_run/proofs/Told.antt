@@ -1,6 +1,6 @@
 -- Lines on `err`.
 use Rattle.std.proofs.Common.{rules, arith, ◌∙◌, ap, ◌∷◌, Bool, true, false, ◌||◌, ◌==◌, ◌↔◌, ◌≡◌, ◌≢◌, sym, subst, ◌⊎◌, inl, inr, ℕ, List, [], take, Option, Some, None, refl}
-use Rattle.std.proofs.lemmas.Bool.{eqb-true}
+use Rattle.std.proofs.lemmas.Bool.{eqb-true, or_cases}
 use Rattle.std.proofs.lemmas.List.{length-map}
 use Rattle.std.specs.Prelude.{IfSome, IfNone, IsSome, IsNone}
 use Rattle.std.specs.Io.KnownBytes.{Appends, Keeps}
@@ -24,11 +24,6 @@ told_whole old new fault line written = record { told = line; written = written;
 
 pub told_front : (old new : Option (List ℕ)) (fault : Type 0) (line : List ℕ) (n : ℕ) → Appends old new (take n line) → fault → IsTold old new fault line
 told_front old new fault line n written rose = record { told = take n line; written = written; front = inr (rose, (n, refl)) }
-
--- nothing was written
-pub keeps_same : (old : Option (List ℕ)) → Keeps old old
-keeps_same None = tt
-keeps_same (Some xs) = refl
 
 pub told_nothing : (old : Option (List ℕ)) (fault : Type 0) → IsTold old old fault []
 told_nothing None fault = record { told = []; written = tt; front = inl refl }
@@ -66,10 +61,6 @@ met_status status aborted = headline.aborted
 met_status status faulted = headline.faulted
 met_status status out_of_memory = headline.out_of_memory
 met_status status limited = headline.limited
-
-or_cases : (a b : Bool) → (a || b) ≡ true → (a ≡ true) ⊎ (b ≡ true)
-or_cases true b is = inl refl
-or_cases false b is = inr is
 
 silent_cases : (n : ℕ) → is_silent n ≡ true → (n ≡ 2) ⊎ ((n ≡ 3) ⊎ ((n ≡ 7) ⊎ (n ≡ 9)))
 silent_cases n is = elim (or_cases (n == 2) ((n == 3) || ((n == 7) || (n == 9))) is) [

@@ -84,7 +84,7 @@ core_stale (Some (MadeEdt f ps n)) i calls before loans made is = subst (λ (l :
 core_stale other i calls before loans made is = cc made
 
 -- what it holds
-started_mode : (e : Edt) (ms : List (ℕ × Mode)) (d : ℕ) → is_acquiring_edt (made_ready ms e) ≡ true → mode_in d (holds_of (work_in (started_edt (made_ready ms e)))) ≡ mode_in d (holds_of (work_in (started_edt e)))
+pub started_mode : (e : Edt) (ms : List (ℕ × Mode)) (d : ℕ) → is_acquiring_edt (made_ready ms e) ≡ true → mode_in d (holds_of (work_in (started_edt (made_ready ms e)))) ≡ mode_in d (holds_of (work_in (started_edt e)))
 started_mode (phase.Filling i) ms d is = refl
 started_mode (phase.Acquiring p) ms d is = refl
 started_mode other ms d is = cc is

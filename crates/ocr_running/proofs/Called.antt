@@ -1,7 +1,7 @@
 -- A call of the body that is entered.
-use Rattle.std.proofs.Common.{◌≡◌, ◌≢◌, ◌⊎◌, inl, inr, ⊎_elim, ℕ, zero, suc, ◌+◌, ◌-◌, ◌≤◌, Bool, true, false, ◌==◌, ◌||◌, ◌&&◌, if◌then◌else◌, List, [], ◌∷◌, ◌++◌, reverse, Option, refl, ap, sym, ◌∙◌, subst, arith}
+use Rattle.std.proofs.Common.{◌≡◌, ◌≢◌, ◌⊎◌, inl, inr, ⊎_elim, ℕ, zero, suc, ◌+◌, ◌-◌, ◌≤◌, Bool, true, false, ◌==◌, ◌&&◌, if◌then◌else◌, List, [], ◌∷◌, ◌++◌, reverse, Option, refl, ap, sym, ◌∙◌, subst, arith}
 use Rattle.std.proofs.lemmas.Grind.{common_steps}
-use Rattle.std.proofs.lemmas.Bool.{eqb-true}
+use Rattle.std.proofs.lemmas.Bool.{eqb-true, and_from, or_left, or_right}
 use Rattle.ocr_base.proofs.Booleans.{same as number_same}
 use Rattle.ocr_code.specs.Checked.{checked_tree}
 use Rattle.ocr_code.specs.declared.checked.Checked.{Checked}
@@ -37,7 +37,7 @@ use Rattle.ocr_facts.specs.Clerks.{AreAtHand, OcrTerms, OcrView, of_terms}
 use Rattle.ocr_facts.specs.Ocr.{beside, makes, meaning, some_number, touches, wakes}
 use Rattle.ocr_facts.proofs.Homes.{home_settled}
 use Rattle.ocr_facts.proofs.Owed.{hand_counted}
-use Rattle.ocr_facts.proofs.Places.{named_place, places_good, within_is}
+use Rattle.ocr_facts.proofs.Places.{named_place, places_good, within_is, IsAt}
 use Rattle.ocr_clerks.specs.Entering.{CanMake, OcrKnown}
 use Rattle.ocr_clerks.specs.Work.{AtWork, OcrTable}
 use Rattle.ocr_running.specs.Calls.{IsAnswer, IsCoded, IsNextTo, drawn_for, faces_of, home_for, makes_output, makes_scope}
@@ -49,7 +49,7 @@ use Rattle.ocr_running.proofs.Entering.{call_may, call_wakes, runs_here, wakes_a
 use Rattle.ocr_running.proofs.Logs.{serves_same}
 use Rattle.ocr_running.proofs.Cores.{first_has, first_look}
 use Rattle.ocr_running.proofs.Parts.{core_of, is_run, seen_core}
-use Rattle.ocr_running.proofs.Places.{IsAt, IsBesideAt, call_beside, call_from, call_wants, covers_at, faces_home, same_places}
+use Rattle.ocr_running.proofs.Places.{IsBesideAt, call_beside, call_from, call_wants, covers_at, faces_home, same_places, at_one}
 
 -- THE LISTS of parts at hand and kept, that differ in the core alone
 has_same : (ps qs : List (ℕ × Part)) (n : ℕ) → keys ps ≡ keys qs → has ps n ≡ has qs n
@@ -57,6 +57,12 @@ has_same [] [] n is = refl
 has_same [] (q ∷ qs) n is = cc is
 has_same (p ∷ ps) [] n is = cc is
 has_same (p ∷ ps) (q ∷ qs) n is = let h : p.0 ≡ q.0 = cc is in let t : keys ps ≡ keys qs = cc is in rw (h, has_same ps qs n t) refl
+
+pub core_out : (limit t : ℕ) → is_within limit t ≡ true → is_within limit (limit + t) ≡ false
+core_out limit t is = grind (arith, common_steps)
+
+pub core_back : (limit t : ℕ) → is_within limit t ≡ true → (limit + t) - limit ≡ t
+core_back limit t is = omega arith
 
 pub core_alike : (limit edt n : ℕ) (core kept : Core) (rest : List (ℕ × Part)) → is_within limit edt ≡ true → IsCoreOf core kept
     → seen limit n (look ((limit + edt, part.Core core) ∷ rest) n) ≡ seen limit n (look ((limit + edt, part.Core kept) ∷ rest) n)
@@ -83,30 +89,6 @@ keys_at p (x ∷ rest) = let r = keys_at p rest in omega (arith, r)
 sum_append : (p : ℕ) (ns ms : List ℕ) → sum_of (one_at p) (ns ++ ms) ≡ sum_of (one_at p) ns + sum_of (one_at p) ms
 sum_append p [] ms = omega arith
 sum_append p (n ∷ ns) ms = let r = sum_append p ns ms in omega (arith, r)
-
-or_one : (a b : Bool) → a ≡ true → (a || b) ≡ true
-or_one true b is = refl
-or_one false b is = cc is
-
-or_two : (a b : Bool) → b ≡ true → (a || b) ≡ true
-or_two true b is = refl
-or_two false b is = is
-
-core_out : (limit t : ℕ) → is_within limit t ≡ true → is_within limit (limit + t) ≡ false
-core_out limit t is = grind (arith, common_steps)
-
-core_back : (limit t : ℕ) → is_within limit t ≡ true → (limit + t) - limit ≡ t
-core_back limit t is = omega arith
-
-both_on : (a b : Bool) → a ≡ true → b ≡ true → (a && b) ≡ true
-both_on true b p q = q
-both_on false b p q = cc p
-
-at_one : (p n rest : ℕ) → 1 ≤ one_at p n + rest → (p ≡ n) ⊎ (1 ≤ rest)
-at_one p n rest is = elim (p == n) as (λ b. (p == n) ≡ b → 1 ≤ (if b then 1 else 0) + rest → (p ≡ n) ⊎ (1 ≤ rest)) [
-  | true ↦ λ same _. inl (eqb-true p n same)
-  | false ↦ λ _ is. inr (omega (arith, is))
-] refl is
 
 at_here : (k rest : ℕ) → 1 ≤ one_at k k + rest
 at_here k rest = let one = one_here k in omega (arith, one)
@@ -154,13 +136,13 @@ beside_at p other a n makes low which same = cc makes
 
 module _ (limit edt home : ℕ) (c : body.Call) (a : Answer) (w : List (ℕ × ℕ)) (within : is_within limit edt ≡ true) where
   own_place : 1 ≤ touches limit (Call edt home c a w) (limit + edt)
-  own_place = named_place limit (Call edt home c a w) (limit + edt) (rw (core_out limit edt within, core_back limit edt within) (both_on (is_within limit edt) _ within (or_one (edt == edt) _ (number_same edt))))
+  own_place = named_place limit (Call edt home c a w) (limit + edt) (rw (core_out limit edt within, core_back limit edt within) (and_from (is_within limit edt) _ within (or_left (edt == edt) _ (number_same edt))))
 
   new_face : is_within limit a.value ≡ true → is_creation c ≡ true → 1 ≤ touches limit (Call edt home c a w) a.value
-  new_face there creates = named_place limit (Call edt home c a w) a.value (rw there (or_two _ (names_face c a a.value) (or_two _ (is_creation c && (a.value == a.value)) (both_on (is_creation c) (a.value == a.value) creates (number_same a.value)))))
+  new_face there creates = named_place limit (Call edt home c a w) a.value (rw there (or_right _ (names_face c a a.value) (or_right _ (is_creation c && (a.value == a.value)) (and_from (is_creation c) (a.value == a.value) creates (number_same a.value)))))
 
   new_core : is_within limit a.value ≡ true → makes_core c ≡ true → 1 ≤ touches limit (Call edt home c a w) (limit + a.value)
-  new_core there makes = named_place limit (Call edt home c a w) (limit + a.value) (rw (core_out limit a.value there, core_back limit a.value there) (both_on (is_within limit a.value) _ there (or_two (edt == a.value) _ (both_on (makes_core c) (a.value == a.value) makes (number_same a.value)))))
+  new_core there makes = named_place limit (Call edt home c a w) (limit + a.value) (rw (core_out limit a.value there, core_back limit a.value there) (and_from (is_within limit a.value) _ there (or_right (edt == a.value) _ (and_from (makes_core c) (a.value == a.value) makes (number_same a.value)))))
 
   -- each place that was taken is named
   made_named : (p : ℕ) → (is_done a.code ≡ true → is_creation c ≡ true → is_within limit a.value ≡ true) → (1 ≤ a.scope → is_within limit a.scope ≡ true) → (1 ≤ a.output → is_within limit a.output ≡ true) → IsAt p (places_made limit c a) → 1 ≤ touches limit (Call edt home c a w) p

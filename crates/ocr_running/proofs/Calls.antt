@@ -1,10 +1,9 @@
 -- A call of a running EDT, on the parts at hand.
 use Rattle.std.proofs.Common.{◌≡◌, ℕ, ◌≤◌, Bool, true, false, ◌==◌, ◌&&◌, List, [], ◌∷◌, reverse, None, refl, sym, ◌∙◌, ap, subst, arith}
 use Rattle.ocr_guid.specs.Code.{number_of}
-use Rattle.ocr_meaning.specs.Behaviour.{Asks, Behaviour, Ends, IsNextWith, Stops}
 use Rattle.ocr_meaning.specs.Call.{is_access, is_creation}
 use Rattle.ocr_meaning.specs.Holds.{is_done}
-use Rattle.ocr_meaning.specs.Laws.{IsServed, MakesOnly}
+use Rattle.ocr_meaning.specs.Laws.{IsServed}
 use Rattle.ocr_meaning.specs.declared.call.Answer.{Answer}
 use Rattle.ocr_meaning.specs.declared.call.Call as body
 use Rattle.ocr_meaning.specs.declared.call.Call.TheVariants as call
@@ -42,11 +41,6 @@ served_coded functions (call.Store d k v) served plain = cc plain
 served_coded functions call.Shutdown served plain = absurd served
 served_coded functions (call.Abort c) served plain = absurd served
 served_coded functions other served plain = tt
-
-pub next_of : (IsSuch : body.Call → Type 0) (b : Behaviour) (c : body.Call) (private : List (ℕ × ℕ)) → MakesOnly IsSuch b → IsNextWith c private b → IsSuch c
-next_of IsSuch (Ends g holds) c private only next = absurd next
-next_of IsSuch (Stops why) c private only next = absurd next
-next_of IsSuch (Asks call writes go) c private only next = subst IsSuch next.0 only.0
 
 no_core : (t : OcrTerms) (past : History) (n : ℕ) → made (of_terms t) past n ≡ None → (parts_of (of_terms t) past).core n ≡ part.Vacant
 no_core t past n none = rw none refl

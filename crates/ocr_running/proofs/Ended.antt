@@ -1,7 +1,7 @@
 -- The End as a clerk makes it, and what it leaves.
 use Rattle.std.proofs.Common.{◌≡◌, ◌⊎◌, inl, inr, ⊎_elim, ℕ, ◌+◌, ◌≤◌, Bool, true, false, ◌==◌, ◌||◌, if◌then◌else◌, List, [], ◌∷◌, ◌++◌, length, Option, Some, refl, ap, sym, ◌∙◌, subst, arith}
 use Rattle.std.specs.List.{All}
-use Rattle.std.proofs.lemmas.Bool.{eqb-true}
+use Rattle.std.proofs.lemmas.Bool.{eqb-true, and_from}
 use Rattle.std.proofs.lemmas.Grind.{common_steps}
 use Rattle.ocr_base.proofs.Booleans.{same as number_same}
 use Rattle.ocr_code.specs.declared.checked.Checked.{Checked}
@@ -39,13 +39,12 @@ use Rattle.ocr_clerks.proofs.Hands.{in_hand_some, some_keys}
 use Rattle.ocr_running.specs.Running.{HasTaken, IsNewest, Runs, StepsFirst, first_in, held_at, returned_faces}
 use Rattle.ocr_running.specs.Serving.{Serves, own_log}
 use Rattle.ocr_running.proofs.Asked.{all_from, once_in, taken_at_hand}
-use Rattle.ocr_running.proofs.Called.{hand_is, keys_at, runnable_in}
+use Rattle.ocr_running.proofs.Called.{hand_is, keys_at, runnable_in, core_out, core_back}
 use Rattle.ocr_running.proofs.Cores.{first_core}
 use Rattle.ocr_running.proofs.Phases.{core_steps, kept_from, stepped_work}
 use Rattle.ocr_running.proofs.Entering.{end_legal, end_may}
 use Rattle.ocr_running.proofs.Logs.{among_more, claim_ends, runs_back, serves_same}
 use Rattle.ocr_running.proofs.Places.{core_from, covers_at, face_from, same_places}
-use Rattle.ocr_running.proofs.Started.{both_on, core_back, core_out}
 
 -- few messages go out
 pub few_sent : (i : Identity) (p : ℕ) → length (sent_by_end i p) ≤ 2
@@ -86,7 +85,7 @@ module _ (table : OcrTable) (program : Checked) (edt g : ℕ) (b : Body) (holds 
   at_hand = hand_is table.1.limit edt took.core took.kept took.taken ps c.view.parts within took.is refl view_parts (once_in table program c work took.sees)
 
   core_named : 1 ≤ touches table.1.limit (End edt g) (table.1.limit + edt)
-  core_named = named_place table.1.limit (End edt g) (table.1.limit + edt) (rw (core_out table.1.limit edt within, core_back table.1.limit edt within) (both_on (is_within table.1.limit edt) (edt == edt) within (number_same edt)))
+  core_named = named_place table.1.limit (End edt g) (table.1.limit + edt) (rw (core_out table.1.limit edt within, core_back table.1.limit edt within) (and_from (is_within table.1.limit edt) (edt == edt) within (number_same edt)))
 
   face_named : is_within table.1.limit g ≡ true → 1 ≤ touches table.1.limit (End edt g) g
   face_named there = named_place table.1.limit (End edt g) g (rw there (number_same g))

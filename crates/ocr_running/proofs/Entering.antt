@@ -1,6 +1,5 @@
 -- What a clerk knows of an entry of the EDT that it runs.
 use Rattle.std.proofs.Common.{◌≡◌, ℕ, ◌+◌, true, false, List, [], ◌∷◌, reverse, Some, None, is_some, if◌then◌else◌, refl, ap, sym, ◌∙◌, subst}
-use mathlib.Core.Option.{some-ne-none}
 use Rattle.ocr_acquire.specs.Mode.{mode_in}
 use Rattle.ocr_code.specs.Checked.{checked_tree}
 use Rattle.ocr_guid.specs.declared.Code.TheVariants as code
@@ -34,10 +33,9 @@ use Rattle.ocr_standing.specs.Kept.{kept_ready}
 use Rattle.ocr_standing.proofs.Working.{freeing_law}
 use Rattle.ocr_rule.specs.Counting.{is_in}
 use Rattle.ocr_rule.specs.Owing.{times}
-use Rattle.ocr_rule.specs.Rule.{FactsOf, Fits}
+use Rattle.ocr_rule.specs.Rule.{Fits}
 use Rattle.ocr_facts.specs.Clerks.{AreAtHand, MayEnter, OcrTerms, OcrView, of_terms}
 use Rattle.ocr_facts.specs.Ocr.{meaning, wakes}
-use Rattle.ocr_facts.specs.declared.fact.Fact.{Fact}
 use Rattle.ocr_facts.proofs.Entered.{settled_resumes}
 use Rattle.ocr_facts.proofs.Queues.{doomed, released}
 use Rattle.ocr_facts.proofs.Waits.{end_idle}
@@ -45,9 +43,7 @@ use Rattle.ocr_running.specs.Serving.{Serves, own_log}
 use Rattle.ocr_running.proofs.Cores.{first_core, first_has, first_look}
 use Rattle.ocr_running.proofs.Parts.{core_of, hand_alike, is_run, legal_on_hand, runs_in}
 use Rattle.ocr_running.proofs.Served.{says_known}
-
-no_facts : (P : Fact → Type 0) → FactsOf P []
-no_facts P k f at = absurd (some-ne-none f (sym at))
+use Rattle.ocr_facts.proofs.Owed.{no_facts}
 
 module _ (t : OcrTerms) (v : OcrView) (edt : ℕ) (b : Body) (hand : List (ℕ × Part)) (runnable : IsRunnable (checked_tree t.setting.value.program)) (serves : Serves t v edt b) (at_hand : AreAtHand t.limit hand v.parts) where
   -- A CALL that is legal on the parts at hand and comes next

@@ -1,6 +1,7 @@
 -- The log and the facts of a clerk after an entry of the EDT that it runs.
 use Rattle.std.proofs.Common.{◌≡◌, ℕ, zero, suc, Bool, true, false, ◌==◌, ◌||◌, ◌&&◌, if◌then◌else◌, List, [], ◌∷◌, ◌++◌, reverse, refl, ap, sym, ◌∙◌, subst}
 use Rattle.std.proofs.lemmas.List.{reverse-append}
+use Rattle.std.proofs.lemmas.Bool.{or_parts, or_right}
 use mathlib.Core.Option.{some, some-ne-none}
 use lib.ListN.{get_elem?}
 use Rattle.ocr_base.proofs.Booleans.{same as number_same}
@@ -24,14 +25,6 @@ or_false : (a b : Bool) → b ≡ false → (a || b) ≡ a
 or_false true b is = refl
 or_false false b is = is
 
-or_true : (a b : Bool) → b ≡ true → (a || b) ≡ true
-or_true true b is = refl
-or_true false b is = is
-
-left_off : (a b : Bool) → (a || b) ≡ false → a ≡ false
-left_off true b is = cc is
-left_off false b is = refl
-
 -- ONE ENTRY MORE
 pub among_more : (test : Entry → Bool) (log : List (ℕ × Entry)) (n : ℕ) (e : Entry) → is_among test (entries (log ++ (n, e) ∷ [])) ≡ (is_among test (entries log) || test e)
 among_more test log n e =
@@ -47,13 +40,13 @@ runs_on log n u e off runs = record {
 pub runs_back : (log : List (ℕ × Entry)) (n u : ℕ) (e : Entry) → starts e u ≡ false → RunsIn starts ends (log ++ (n, e) ∷ []) u → RunsIn starts ends log u
 runs_back log n u e off runs = record {
   started = sym (or_false (is_among (λ x. starts x u) (entries log)) (starts e u) off) ∙ (sym (among_more (λ x. starts x u) log n e) ∙ runs.started);
-  goes_on = left_off (is_among (λ x. ends x u) (entries log)) (ends e u) (sym (among_more (λ x. ends x u) log n e) ∙ runs.goes_on);
+  goes_on = (or_parts (is_among (λ x. ends x u) (entries log)) (ends e u) (sym (among_more (λ x. ends x u) log n e) ∙ runs.goes_on)).0;
 }
 
 -- the EDT starts
 none_ends : (es : List Entry) (t : ℕ) → is_among (λ e. is_own e t) es ≡ false → is_among (λ e. ends e t) es ≡ false
 none_ends [] t off = refl
-none_ends (e ∷ rest) t off = both (ends e t) (is_among (λ x. ends x t) rest) (one e t (left_off (is_own e t) (is_among (λ x. is_own x t) rest) off)) (none_ends rest t (right (is_own e t) (is_among (λ x. is_own x t) rest) off))
+none_ends (e ∷ rest) t off = both (ends e t) (is_among (λ x. ends x t) rest) (one e t (or_parts (is_own e t) (is_among (λ x. is_own x t) rest) off).0) (none_ends rest t (right (is_own e t) (is_among (λ x. is_own x t) rest) off))
   where
     both : (a b : Bool) → a ≡ false → b ≡ false → (a || b) ≡ false
     both true b p q = cc p
@@ -69,7 +62,7 @@ none_ends (e ∷ rest) t off = both (ends e t) (is_among (λ x. ends x t) rest) 
 
 pub starts_now : (log : List (ℕ × Entry)) (n t : ℕ) → is_among (λ e. is_own e t) (entries log) ≡ false → RunsIn starts ends (log ++ (n, Start t) ∷ []) t
 starts_now log n t off = record {
-  started = among_more (λ x. starts x t) log n (Start t) ∙ or_true (is_among (λ x. starts x t) (entries log)) (t == t) (number_same t);
+  started = among_more (λ x. starts x t) log n (Start t) ∙ or_right (is_among (λ x. starts x t) (entries log)) (t == t) (number_same t);
   goes_on = among_more (λ x. ends x t) log n (Start t) ∙ or_false (is_among (λ x. ends x t) (entries log)) false refl ∙ none_ends (entries log) t off;
 }
 
@@ -98,7 +91,7 @@ own_none (other ∷ past) t off = own_none past t (rest (is_own other t) (is_amo
     rest true b is = cc is
     rest false b is = is
 
-among_turned : (test : Entry → Bool) (xs : List Entry) → is_among test (reverse xs) ≡ is_among test xs
+pub among_turned : (test : Entry → Bool) (xs : List Entry) → is_among test (reverse xs) ≡ is_among test xs
 among_turned test [] = refl
 among_turned test (x ∷ xs) =
     ap (is_among test) (reverse-append (x ∷ []) xs) ∙ (among_append test (reverse xs) (x ∷ [])

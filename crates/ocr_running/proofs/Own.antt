@@ -8,13 +8,11 @@ use Rattle.ocr_history.specs.Edts as edts
 use Rattle.ocr_history.specs.History.{History, own}
 use Rattle.ocr_standing.specs.Lasting.{is_own}
 use Rattle.ocr_rule.specs.Sums.{entries, is_among, picked}
-use Rattle.ocr_rule.proofs.Totals.{among_append, picked_append}
+use Rattle.ocr_rule.proofs.Totals.{picked_append}
 use Rattle.ocr_facts.specs.Ocr.{ends}
 use Rattle.ocr_running.specs.Serving.{own_log}
-
-append_none : {A : Type 0} (l : List A) → l ++ [] ≡ l
-append_none [] = refl
-append_none (y ∷ ys) = ap (λ z. y ∷ z) (append_none ys)
+use Rattle.ocr_rule.proofs.Entered.{nil_append}
+use Rattle.ocr_running.proofs.Logs.{among_turned}
 
 pub picked_reverse : (test : Entry → Bool) (xs : List Entry) → picked test (reverse xs) ≡ reverse (picked test xs)
 picked_reverse test [] = refl
@@ -23,7 +21,7 @@ picked_reverse test (x ∷ xs) =
     ∙ (picked_append test (reverse xs) (x ∷ [])
     ∙ elim (test x) as (λ b. picked test (reverse xs) ++ (if b then x ∷ [] else []) ≡ reverse (if b then x ∷ picked test xs else picked test xs)) [
       | true ↦ ap (λ (l : List Entry). l ++ x ∷ []) (picked_reverse test xs) ∙ sym (reverse-append (x ∷ []) (picked test xs))
-      | false ↦ append_none (picked test (reverse xs)) ∙ picked_reverse test xs
+      | false ↦ nil_append (picked test (reverse xs)) ∙ picked_reverse test xs
     ])
 
 -- THE CALLS
@@ -61,16 +59,6 @@ swap true false = refl
 swap false true = refl
 swap false false = refl
 
-or_false : (a : Bool) → (a || false) ≡ a
-or_false true = refl
-or_false false = refl
-
-among_reverse : (test : Entry → Bool) (xs : List Entry) → is_among test (reverse xs) ≡ is_among test xs
-among_reverse test [] = refl
-among_reverse test (x ∷ xs) =
-    ap (is_among test) (reverse-append (x ∷ []) xs) ∙ (among_append test (reverse xs) (x ∷ [])
-    ∙ (ap (λ (b : Bool). is_among test (reverse xs) || b) (or_false (test x)) ∙ (swap (is_among test (reverse xs)) (test x) ∙ ap (λ (b : Bool). test x || b) (among_reverse test xs))))
-
 -- an EDT's end is its own
 ends_own : (e : Entry) (t : ℕ) → is_own e t ≡ false → ends e t ≡ false
 ends_own (End u g) t off = off
@@ -85,4 +73,4 @@ among_picked t (x ∷ xs) = elim (is_own x t) as (λ b. is_own x t ≡ b → (en
 
 pub ended_by_log : (J : List Entry) (log : List (ℕ × Entry)) (t : ℕ) → picked (λ e. is_own e t) J ≡ picked (λ e. is_own e t) (entries log) → edts.is_ended (reverse J) t ≡ is_among (λ e. ends e t) (entries log)
 ended_by_log J log t same =
-    ended_among (reverse J) t ∙ (among_reverse (λ e. ends e t) J ∙ (among_picked t J ∙ (ap (is_among (λ e. ends e t)) same ∙ sym (among_picked t (entries log)))))
+    ended_among (reverse J) t ∙ (among_turned (λ e. ends e t) J ∙ (among_picked t J ∙ (ap (is_among (λ e. ends e t)) same ∙ sym (among_picked t (entries log)))))

@@ -14,12 +14,12 @@ use Rattle.ocr_parts.specs.Taken.{ArePartsOf, has, is_within, look, parts_in, se
 use Rattle.ocr_parts.proofs.Within.{within_law}
 use Rattle.ocr_acquire.specs.declared.Mode.{Mode}
 use Rattle.ocr_standing.specs.Kept.{IsPlanFor, kept_ready}
-use Rattle.ocr_standing.proofs.Kept.{alike_kept, back_law}
+use Rattle.ocr_standing.proofs.Kept.{alike_kept, back_law, within_core}
 use Rattle.ocr_rule.specs.Rule.{Fits}
 use Rattle.ocr_facts.specs.Clerks.{AreAtHand, OcrTerms, OcrView, of_terms}
 use Rattle.ocr_facts.specs.Ocr.{meaning}
 use Rattle.ocr_facts.proofs.Entered.{fitting_parts}
-use Rattle.ocr_facts.proofs.Homes.{core_place, placed_core, running_settled}
+use Rattle.ocr_facts.proofs.Homes.{placed_core, running_settled}
 use Rattle.ocr_facts.proofs.Runs.{run_is}
 
 module _ (t : OcrTerms) (v : OcrView) (J : List Entry) (fits : Fits meaning t J v) where
@@ -39,7 +39,7 @@ module _ (t : OcrTerms) (v : OcrView) (J : List Entry) (fits : Fits meaning t J 
   legal_on_hand hand e members at_hand covers plan legal = back_law (of_terms t) (reverse J) e hand members (record { enough = fits.limits; run = is_run; covers = covers; parts = at_hand_of hand at_hand; plan = plan }) legal
 
 pub seen_core : (limit t : ℕ) (c : Core) → is_within limit t ≡ true → seen limit (limit + t) (part.Core c) ≡ settled (part.Core c)
-seen_core limit t c within = let w = core_place limit t within in rw (w.0, w.1, within) refl
+seen_core limit t c within = let w = within_core limit t within in rw (w.0, w.1, within) refl
 
 -- the EDT whose core is at hand has it in the history
 pub core_of : (t : OcrTerms) (v : OcrView) (J : List Entry) (hand : List (ℕ × Part)) (edt : ℕ) (c : Core) → Fits meaning t J v → AreAtHand t.limit hand v.parts → is_within t.limit edt ≡ true

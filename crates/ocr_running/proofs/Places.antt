@@ -15,13 +15,11 @@ use Rattle.ocr_parts.specs.declared.part.Part.{Part}
 use Rattle.ocr_parts.specs.Footprint.{Covers, and_beside, and_core, and_face, and_made, and_wanted, call_footprint, makes_core}
 use Rattle.ocr_parts.specs.Taken.{has, is_within}
 use Rattle.ocr_rule.specs.Sums.{one_at, sum_of, weigh}
-use Rattle.ocr_rule.proofs.Totals.{one_here, one_same}
+use Rattle.ocr_rule.proofs.Totals.{one_here}
 use Rattle.ocr_facts.specs.Ocr.{touches}
-use Rattle.ocr_facts.proofs.Places.{named_place, places_differ}
+use Rattle.ocr_facts.proofs.Places.{named_place, places_differ, face_stays, face_here, beside_stays, IsAt}
 use Rattle.ocr_running.specs.Calls.{faces_of}
-
-abbrev pub IsAt : ℕ → List ℕ → Type 0
-IsAt p ns = 1 ≤ sum_of (one_at p) ns
+use Rattle.std.proofs.lemmas.Bool.{eqb-true}
 
 -- WHAT STANDS in a list into which a number was placed
 abbrev placed_if : Bool → Bool → ℕ → ℕ → List ℕ → List ℕ
@@ -53,25 +51,21 @@ placed_here n (m ∷ ns) = elim (nat_lt n m) as (λ b. IsAt n (placed_if b (n ==
     same : (n m : ℕ) → (n == m) ≡ true → n ≡ m
     same n m is = grind (arith, common_steps)
 
-at_head : (p n rest : ℕ) → 1 ≤ one_at p n + rest → (p ≡ n) ⊎ (1 ≤ rest)
-at_head p n rest is = dite (dec_le 1 (one_at p n)) (λ some. inl (one_same p n some)) (λ none. inr (omega (arith, is, none)))
+pub at_one : (p n rest : ℕ) → 1 ≤ one_at p n + rest → (p ≡ n) ⊎ (1 ≤ rest)
+at_one p n rest is = elim (p == n) as (λ b. (p == n) ≡ b → 1 ≤ (if b then 1 else 0) + rest → (p ≡ n) ⊎ (1 ≤ rest)) [
+  | true ↦ λ same _. inl (eqb-true p n same)
+  | false ↦ λ _ is. inr (omega (arith, is))
+] refl is
 
 placed_from : (p n : ℕ) (ns : List ℕ) → IsAt p (placed n ns) → (p ≡ n) ⊎ IsAt p ns
-placed_from p n [] is = ⊎_elim (λ same. inl same) (λ none. absurd (omega (arith, none))) (at_head p n 0 is)
+placed_from p n [] is = ⊎_elim (λ same. inl same) (λ none. absurd (omega (arith, none))) (at_one p n 0 is)
 placed_from p n (m ∷ ns) is = elim (nat_lt n m) as (λ b. IsAt p (placed_if b (n == m) n m ns) → (p ≡ n) ⊎ IsAt p (m ∷ ns)) [
-  | true ↦ λ is. at_head p n (one_at p m + sum_of (one_at p) ns) is
+  | true ↦ λ is. at_one p n (one_at p m + sum_of (one_at p) ns) is
   | false ↦ elim (n == m) as (λ b. IsAt p (placed_if false b n m ns) → (p ≡ n) ⊎ IsAt p (m ∷ ns)) [
     | true ↦ λ is. inr is
-    | false ↦ λ is. ⊎_elim (λ same. inr (let one = one_here m in subst (λ (k : ℕ). 1 ≤ one_at k m + sum_of (one_at k) ns) (sym same) (some_here m (sum_of (one_at m) ns)))) (λ rest. ⊎_elim (λ same. inl same) (λ there. inr (omega (arith, there))) (placed_from p n ns rest)) (at_head p m (sum_of (one_at p) (placed n ns)) is)
+    | false ↦ λ is. ⊎_elim (λ same. inr (let one = one_here m in subst (λ (k : ℕ). 1 ≤ one_at k m + sum_of (one_at k) ns) (sym same) (some_here m (sum_of (one_at m) ns)))) (λ rest. ⊎_elim (λ same. inl same) (λ there. inr (omega (arith, there))) (placed_from p n ns rest)) (at_one p m (sum_of (one_at p) (placed n ns)) is)
   ]
 ] is
-
--- FACES AND CORES
-face_stays : (limit g p : ℕ) (ns : List ℕ) → IsAt p ns → IsAt p (and_face limit g ns)
-face_stays limit g p ns is = elim (is_within limit g) as (λ b. IsAt p (if b then placed g ns else ns)) [ true ↦ placed_stays p g ns is | false ↦ is ]
-
-core_stays : (limit t p : ℕ) (ns : List ℕ) → IsAt p ns → IsAt p (and_core limit t ns)
-core_stays limit t p ns is = elim (is_within limit t) as (λ b. IsAt p (if b then placed (limit + t) ns else ns)) [ true ↦ placed_stays p (limit + t) ns is | false ↦ is ]
 
 pub face_from : (limit g p : ℕ) (ns : List ℕ) → IsAt p (and_face limit g ns) → ((is_within limit g ≡ true) × (p ≡ g)) ⊎ IsAt p ns
 face_from limit g p ns is = elim (is_within limit g) as (λ b. is_within limit g ≡ b → IsAt p (if b then placed g ns else ns) → ((is_within limit g ≡ true) × (p ≡ g)) ⊎ IsAt p ns) [
@@ -127,13 +121,6 @@ beside_from limit home p (call.EdtCreate from pc ps dc ds fl o) a ns is = ⊎_el
     (face_from limit home p (and_face limit a.scope (and_face limit a.output ns)) is)
 beside_from limit home p other a ns is = inr is
 
-beside_stays : (limit home p : ℕ) (c : body.Call) (a : Answer) (ns : List ℕ) → IsAt p ns → IsAt p (and_beside limit home c a ns)
-beside_stays limit home p (call.EdtCreate from pc ps dc ds fl o) a ns is = face_stays limit home p _ (face_stays limit a.scope p _ (face_stays limit a.output p ns is))
-beside_stays limit home p other a ns is = is
-
-face_here : (limit g : ℕ) (ns : List ℕ) → is_within limit g ≡ true → IsAt g (and_face limit g ns)
-face_here limit g ns within = rw within (placed_here g ns)
-
 beside_here : (limit home : ℕ) (c : body.Call) (a : Answer) (ns : List ℕ) (p : ℕ) → IsBesideAt limit home c a p → IsAt p (and_beside limit home c a ns)
 beside_here limit home (call.EdtCreate from pc ps dc ds fl o) a ns p is = ⊎_elim
     (λ same. subst (λ (k : ℕ). IsAt k (and_face limit home (and_face limit a.scope (and_face limit a.output ns)))) (sym same.1) (face_here limit home (and_face limit a.scope (and_face limit a.output ns)) same.0))
@@ -173,7 +160,7 @@ call_beside limit t home p c a w is = beside_here limit home c a (call_footprint
 -- LISTS OF PARTS
 pub has_at : (ps : List (ℕ × Part)) (n : ℕ) → 1 ≤ weigh (one_at n) ps → has ps n ≡ true
 has_at [] n is = absurd (omega (arith, is))
-has_at (x ∷ rest) n is = ⊎_elim (λ same. first (x.0 == n) (has rest n) (eq same)) (λ there. second (x.0 == n) (has rest n) (has_at rest n there)) (at_head n x.0 (weigh (one_at n) rest) is)
+has_at (x ∷ rest) n is = ⊎_elim (λ same. first (x.0 == n) (has rest n) (eq same)) (λ there. second (x.0 == n) (has rest n) (has_at rest n there)) (at_one n x.0 (weigh (one_at n) rest) is)
   where
     first : (a b : Bool) → a ≡ true → (a || b) ≡ true
     first true b is = refl

@@ -1,7 +1,7 @@
 -- The Start as a clerk makes it, and what it has then.
-use Rattle.std.proofs.Common.{◌≡◌, ◌≢◌, ◌⊎◌, inl, inr, ⊎_elim, ℕ, ◌+◌, ◌-◌, ◌≤◌, Bool, true, false, ◌==◌, ◌&&◌, if◌then◌else◌, List, [], ◌∷◌, ◌++◌, length, take, Option, Some, None, refl, ap, sym, ◌∙◌, subst, arith}
+use Rattle.std.proofs.Common.{◌≡◌, ◌≢◌, ◌⊎◌, inl, inr, ⊎_elim, ℕ, ◌+◌, ◌-◌, ◌≤◌, true, false, ◌==◌, if◌then◌else◌, List, [], ◌∷◌, ◌++◌, length, take, Option, Some, None, refl, ap, sym, ◌∙◌, subst, arith}
 use Rattle.std.specs.List.{All}
-use Rattle.std.proofs.lemmas.Bool.{eqb-true}
+use Rattle.std.proofs.lemmas.Bool.{eqb-true, and_from}
 use Rattle.std.proofs.lemmas.List.Elements.{All-cons, All-nil}
 use Rattle.std.proofs.lemmas.Grind.{common_steps}
 use Rattle.ocr_base.proofs.Booleans.{same as number_same}
@@ -42,7 +42,7 @@ use Rattle.ocr_readying.specs.Readying.{CanStart, PutAs, started_with}
 use Rattle.ocr_readying.proofs.Putting.{core_same, edt_same, item_same}
 use Rattle.ocr_running.specs.Running.{HasEntered, IsBegun, first_in, hand_at, slots_in}
 use Rattle.ocr_running.specs.Serving.{IsKnown, Serves, own_log}
-use Rattle.ocr_running.proofs.Called.{runnable_in}
+use Rattle.ocr_running.proofs.Called.{runnable_in, core_out, core_back}
 use Rattle.ocr_running.proofs.Cores.{core_first, first_core}
 use Rattle.ocr_running.proofs.Logs.{claims_stay, now_known, own_fresh, own_start, runs_back, starts_now, still_known}
 use Rattle.ocr_running.proofs.Places.{core_from, face_from, same_places}
@@ -54,16 +54,6 @@ use Rattle.ocr_running.proofs.Starting.{kept_pair, learnt, look_face, pair_once,
 ready_pair : (limit edt : ℕ) → is_within limit edt ≡ true → (core : Core) (slots : List Slot) (ms : List (ℕ × Mode)) → parts_in limit (kept_pair limit edt (with_phase (made_ready ms) core) slots) ≡ ready_at edt ms (parts_in limit (kept_pair limit edt core slots))
 ready_pair limit edt within core slots ms = core_steps limit edt within core ((edt, part.Edt slots) ∷ []) (with_phase (made_ready ms))
 
-pub core_out : (limit t : ℕ) → is_within limit t ≡ true → is_within limit (limit + t) ≡ false
-core_out limit t is = grind (arith, common_steps)
-
-pub core_back : (limit t : ℕ) → is_within limit t ≡ true → (limit + t) - limit ≡ t
-core_back limit t is = omega arith
-
-pub both_on : (a b : Bool) → a ≡ true → b ≡ true → (a && b) ≡ true
-both_on true b p q = q
-both_on false b p q = cc p
-
 -- THE PLACES of the Start
 module _ (limit edt : ℕ) (within : is_within limit edt ≡ true) (core : Core) (slots : List Slot) where
   one_of : (p n rest : ℕ) → 1 ≤ one_at p n + rest → (n ≡ p) ⊎ (1 ≤ rest)
@@ -73,7 +63,7 @@ module _ (limit edt : ℕ) (within : is_within limit edt ≡ true) (core : Core)
   ] refl is
 
   core_named : 1 ≤ touches limit (Start edt) (limit + edt)
-  core_named = named_place limit (Start edt) (limit + edt) (rw (core_out limit edt within, core_back limit edt within) (both_on (is_within limit edt) (edt == edt) within (number_same edt)))
+  core_named = named_place limit (Start edt) (limit + edt) (rw (core_out limit edt within, core_back limit edt within) (and_from (is_within limit edt) (edt == edt) within (number_same edt)))
 
   face_named : 1 ≤ touches limit (Start edt) edt
   face_named = named_place limit (Start edt) edt (rw within (number_same edt))
@@ -93,7 +83,7 @@ module _ (limit edt : ℕ) (within : is_within limit edt ≡ true) (core : Core)
       one_at_same : (n : ℕ) → one_at n n ≡ 1
       one_at_same n = rw (number_same n) refl
 
-face_else : (limit edt : ℕ) → 2 ≤ limit → (edt == (limit + edt)) ≡ false
+pub face_else : (limit edt : ℕ) → 2 ≤ limit → (edt == (limit + edt)) ≡ false
 face_else limit edt enough = grind (arith, common_steps)
 
 -- WHAT IT ASKS of the clerk

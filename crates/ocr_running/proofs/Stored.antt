@@ -26,13 +26,14 @@ use Rattle.ocr_facts.specs.Clerks.{OcrTerms, OcrView}
 use Rattle.ocr_facts.specs.Ocr.{meaning}
 use Rattle.ocr_clerks.specs.Entering.{OcrKnown}
 use Rattle.ocr_clerks.specs.Work.{AtWork, OcrTable, RunsOnly, Stays}
-use Rattle.ocr_clerks.proofs.Going.{Calm, stays_still, work_still}
+use Rattle.ocr_clerks.proofs.Going.{stays_still, work_still}
 use Rattle.ocr_running.specs.Accesses.{IsFit, IsFitCore, IsLoanFor}
 use Rattle.ocr_running.specs.Loans.{core_after}
 use Rattle.ocr_running.specs.Running.{Runs, first_in, holds_at}
 use Rattle.ocr_running.specs.Serving.{holds_in}
 use Rattle.ocr_running.proofs.Loaned.{core_stored}
 use Rattle.ocr_running.proofs.Logs.{serves_same}
+use Rattle.ocr_clerks.proofs.Whole.{still}
 
 -- SILENT stores are those in EW
 in_time : (b : Bool) (x : ℕ) → ◌≡◌ {A = Access} (if b then Silent 0 else Refused stop.BadIndex) (Silent x) → b ≡ true
@@ -112,14 +113,11 @@ one_found p v xs is = ap (find p) is ∙ rw (number_same p) refl
 pub one_replaced : {A : Type 0} (p : ℕ) (v w : A) (xs : List (ℕ × A)) → xs ≡ (p, v) ∷ [] → replace p w xs ≡ (p, w) ∷ []
 one_replaced p v w xs is = ap (replace p w) is ∙ rw (number_same p) refl
 
-still_view : (v : OcrView) → Calm v v
-still_view v = record { terms = refl; root = refl; seat = refl; out = refl; joined = refl; log = refl; weight = refl; drawn = refl; full = refl; reached = refl; closed = refl }
-
 abbrev pub IsStill : OcrKnown → OcrKnown → Type 0
 IsStill old new = (new.table ≡ old.table) × (new.view ≡ old.view) × SameRoom old new
 
 pub still_stays : (old new : OcrKnown) → IsStill old new → Stays old new
-still_stays old new rest = stays_still old new old.view rest.0 rest.1 (still_view old.view)
+still_stays old new rest = stays_still old new old.view rest.0 rest.1 (still old.view)
 
 pub still_both : (a b c : OcrKnown) → IsStill a b → IsStill b c → IsStill a c
 still_both a b c p q = (q.0 ∙ p.0, q.1 ∙ p.1, (q.2.0 ∙ p.2.0, q.2.1 ∙ p.2.1, q.2.2 ∙ p.2.2))
@@ -127,7 +125,7 @@ still_both a b c p q = (q.0 ∙ p.0, q.1 ∙ p.1, (q.2.0 ∙ p.2.0, q.2.1 ∙ p.
 pub still_work : (table : OcrTable) (p : Checked) (old new : OcrKnown) → AtWork table p old → IsStill old new → length new.parts ≡ length old.parts → AtWork table p new
 still_work table p old new work rest same =
     let room = rest.2.0 in let spare = rest.2.1 in
-    work_still table p old new old.view work rest.0 rest.1 (still_view old.view) (room_of old.room new.room room) (spare_of old.spare new.spare (length old.parts) (length new.parts) spare same)
+    work_still table p old new old.view work rest.0 rest.1 (still old.view) (room_of old.room new.room room) (spare_of old.spare new.spare (length old.parts) (length new.parts) spare same)
   where
     room_of : (n m : ℕ) → m ≡ n → n ≤ m
     room_of n m is = omega (arith, is)

@@ -16,6 +16,7 @@ use Rattle.ocr_clerks.specs.Work.{AtWork, OcrTable, Took, lifted}
 use Rattle.ocr_clerks.proofs.Going.{work_still}
 use Rattle.ocr_clerks.proofs.Hands.{keys_append, keys_length, lifted_keys, some_keys}
 use Rattle.ocr_running.specs.Running.{HasLifted}
+use Rattle.ocr_rule.proofs.Opens.{replace_length}
 
 -- THE END of a list of places
 module _ {A : Type 0} where
@@ -95,14 +96,6 @@ module _ (table : OcrTable) (program : Checked) (edt : ℕ) (first old mid : Ocr
         parts = is ∙ (ap (λ (y : Part). ps ++ (place, y) ∷ []) x_is ∙ ap (λ (l : List (ℕ × Part)). l ++ (place, item.0) ∷ []) h.parts);
         sees = subst (Sees meaning) (sym view) (took.sees (omega arith));
       }
-
--- a clerk at work that lifted a part is at work
-replace_length : {A : Type 0} (p : ℕ) (a : A) (xs : List (ℕ × A)) → length (replace p a xs) ≡ length xs
-replace_length p a [] = refl
-replace_length p a (x ∷ xs) = elim (p == x.0) as (λ b. length (if b then (p, a) ∷ xs else x ∷ replace p a xs) ≡ length (x ∷ xs)) [
-  | true ↦ refl
-  | false ↦ let r = replace_length p a xs in omega (arith, r)
-]
 
 pub work_lifted : (table : OcrTable) (p : Checked) (old new : OcrKnown) (place : ℕ) → AtWork table p old → (new.table ≡ old.table) × (new.view ≡ old.view) × SameRoom old new → new.parts ≡ replace place None old.parts → AtWork table p new
 work_lifted table p old new place work rest replaced =

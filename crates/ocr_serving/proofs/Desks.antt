@@ -1,5 +1,5 @@
 -- The desk, while the run goes on and once it was found ended.
-use Rattle.std.specs.Prelude.{IfOk, OnOk, IfErr}
+use Rattle.std.specs.Prelude.{OnOk, IfErr}
 use Rattle.std.proofs.Common.{Result, Ok, Err, ◌≡◌, ◌⊎◌, inl, inr, ℕ, ◌+◌, ◌-◌, ◌^◌, min, true, false, List, length, Option, Some, None, is_some, refl, ap, sym, ◌∙◌, subst, arith}
 use Rattle.ocr_base.specs.Count.{Rose}
 use Rattle.ocr_api.specs.Serving.{IsAccessStop, IsNextWhereEntered, IsRefusal, StoppedBy, by_body, by_closing, by_memory, refused_closed}
@@ -26,8 +26,9 @@ use Rattle.ocr_running.specs.declared.accessing.Refusal.{Refusal}
 use Rattle.ocr_running.specs.declared.accessing.Refusal.TheVariants as refusal
 use Rattle.ocr_running.specs.Running.{IsPushed, Runs, holds_at}
 use Rattle.ocr_running.specs.Serving.{own_log}
-use Rattle.ocr_running.proofs.Calls.{next_of, served_coded}
+use Rattle.ocr_running.proofs.Calls.{served_coded}
 use Rattle.ocr_serving.specs.Serving.{AtDesk, IsReady, holds_while, state_in}
+use Rattle.ocr_facts.proofs.Lawful.{asked_call}
 
 -- WHAT IT SAYS NEXT is a call that a code answers
 pub served_says : (table : OcrTable) (program : Checked) (edt : ℕ) (b : Body) (c : OcrKnown) (log : List Asked) → AtWork table program c → Runs table.1 edt b c → MakesOnly (IsServed (length b.program)) (says b log)
@@ -36,7 +37,7 @@ served_says table program edt b c log work runs =
     served_law b log (ap are_functions_named same ∙ work.runnable.named) (ap are_lists_short same ∙ work.runnable.short)
 
 pub next_coded : (table : OcrTable) (program : Checked) (edt : ℕ) (b : Body) (c : OcrKnown) (made : body.Call) (writes : List (ℕ × ℕ)) → is_access made ≡ false → AtWork table program c → Runs table.1 edt b c → IsNextWith made writes (says b (own_log c.view.log edt)) → IsCoded made
-next_coded table program edt b c made writes plain work runs next = served_coded (length b.program) made (next_of (IsServed (length b.program)) (says b (own_log c.view.log edt)) made writes (served_says table program edt b c (own_log c.view.log edt) work runs) next) plain
+next_coded table program edt b c made writes plain work runs next = served_coded (length b.program) made (asked_call (IsServed (length b.program)) (says b (own_log c.view.log edt)) made writes (served_says table program edt b c (own_log c.view.log edt) work runs) next) plain
 
 -- A COUNT that rose
 pub raised_rose : (before now : ℕ) → now ≡ min (before + 1) (2 ^ 64 - 1) → Rose before now
@@ -131,10 +132,6 @@ said_now o b d edt e now last none bodies edts i = says (bodies i) (own_log (sta
 
 pub pushed_so : (old pushed now new : Hand) → pushed ≡ old → new ≡ now → IsPushed pushed now → IsPushed old new
 pushed_so old pushed now new first last is = subst (λ (h : Hand). IsPushed old h) (sym last) (subst (λ (h : Hand). IsPushed h now) first is)
-
-pub ok_then : {A E : Type 0} (r : Result A E) (P Q : A → Type 0) → ((a : A) → P a → Q a) → IfOk r P → IfOk r Q
-ok_then (Ok a) P Q go is = go a is
-ok_then (Err e) P Q go is = tt
 
 pub on_ok_then : {A E : Type 0} (r : Result A E) (P Q : Type 0) → (P → Q) → OnOk r P → OnOk r Q
 on_ok_then (Ok a) P Q go is = go is

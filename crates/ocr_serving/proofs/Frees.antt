@@ -1,6 +1,6 @@
 -- A block that is given back, as a clerk enters it, and what that leaves.
 use Rattle.std.proofs.Common.{◌≡◌, ◌≢◌, ◌⊎◌, inl, inr, ⊎_elim, ℕ, ◌+◌, ◌≤◌, true, false, ◌==◌, if◌then◌else◌, List, [], ◌∷◌, ◌++◌, reverse, Option, Some, is_some, refl, ap, sym, ◌∙◌, subst, arith}
-use Rattle.std.proofs.lemmas.Bool.{eqb-true}
+use Rattle.std.proofs.lemmas.Bool.{eqb-true, and_from}
 use Rattle.std.proofs.lemmas.List.Elements.{All-cons, All-nil}
 use Rattle.ocr_base.proofs.Booleans.{eqb_flips, same as number_same}
 use Rattle.ocr_acquire.specs.declared.Mode.{Mode}
@@ -46,13 +46,12 @@ use Rattle.ocr_clerks.proofs.Hands.{in_hand_some}
 use Rattle.ocr_running.specs.Running.{AreOthers, HasEntered, HasTaken, Runs, first_in, held_at, holds_at}
 use Rattle.ocr_running.specs.Serving.{Serves, own_log}
 use Rattle.ocr_running.proofs.Asked.{once_in, taken_at_hand}
-use Rattle.ocr_running.proofs.Called.{hand_is, keys_at, runnable_in}
+use Rattle.ocr_running.proofs.Called.{hand_is, keys_at, runnable_in, core_out, core_back}
 use Rattle.ocr_running.proofs.Cores.{core_first, first_core, first_has, first_look, free_runs}
 use Rattle.ocr_running.proofs.Entering.{free_legal, free_may, free_wakes, runs_here, wakes_are}
 use Rattle.ocr_running.proofs.Logs.{claims_stay, own_free, runs_back, serves_on, serves_same}
 use Rattle.ocr_running.proofs.Parts.{core_of, is_run}
 use Rattle.ocr_running.proofs.Places.{core_from, covers_at, face_from, same_places}
-use Rattle.ocr_running.proofs.Started.{both_on, core_back, core_out}
 
 -- THE BLOCK has a number of an object
 inside : (f : Parts) (limit edt d : ℕ) → ((g : ℕ) → is_within limit g ≡ false → f.face g ≡ part.Vacant) → IsFreeOn f edt d → is_within limit d ≡ true
@@ -120,7 +119,7 @@ module _ (table : OcrTable) (program : Checked) (edt d : ℕ) (w : List (ℕ × 
   at_hand = hand_is table.1.limit edt took.core took.kept took.taken ps c.view.parts within took.is refl view_parts (once_in table program c work took.sees)
 
   core_named : 1 ≤ touches table.1.limit (Free edt d w) (table.1.limit + edt)
-  core_named = named_place table.1.limit (Free edt d w) (table.1.limit + edt) (rw (core_out table.1.limit edt within, core_back table.1.limit edt within) (both_on (is_within table.1.limit edt) (edt == edt) within (number_same edt)))
+  core_named = named_place table.1.limit (Free edt d w) (table.1.limit + edt) (rw (core_out table.1.limit edt within, core_back table.1.limit edt within) (and_from (is_within table.1.limit edt) (edt == edt) within (number_same edt)))
 
   face_named : 1 ≤ touches table.1.limit (Free edt d w) d
   face_named = named_place table.1.limit (Free edt d w) d (rw low (number_same d))

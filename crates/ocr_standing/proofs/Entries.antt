@@ -1,7 +1,7 @@
 -- What the EDTs hold, through each entry.
 use Rattle.std.proofs.Common.{◌≡◌, ◌⊎◌, inl, inr, ℕ, ◌+◌, ◌/◌, List, [], ◌∷◌, ◌++◌, Bool, true, false, not, Option, Some, None, ◌==◌, if◌then◌else◌, refl, sym, ◌∙◌, ap, subst, is_some, length}
 use Rattle.std.proofs.lemmas.Bool.{eqb-true, ne_eqb}
-use Rattle.ocr_base.proofs.Booleans.{same, eqb_flips}
+use Rattle.ocr_base.proofs.Booleans.{same}
 use Rattle.ocr_guid.specs.declared.target.Target.{Target}
 use Rattle.ocr_acquire.specs.declared.Mode.{Mode}
 use Rattle.ocr_acquire.specs.declared.Mode.TheVariants as mode
@@ -39,13 +39,14 @@ use Rattle.ocr_parts.specs.Effects.{with_beside, new_scope, new_output, joined, 
 use Rattle.ocr_parts.specs.Progress.{with_face, with_core, with_phase, made_ready, next_on, next_mode_on, linked_if, ready_at}
 use Rattle.ocr_parts.specs.LegalOn.{IsLoanBack, IsEnding, IsGranted, IsTaken, IsCallOn, IsLegalOn, IsDooming}
 use Rattle.ocr_parts.proofs.Lent.{loan_kept}
-use Rattle.ocr_quiet.proofs.Standing.{in_front, push_own}
-use Rattle.ocr_quiet.proofs.Waiting.{advances}
+use Rattle.ocr_quiet.proofs.Standing.{in_front}
+use Rattle.ocr_quiet.proofs.Waiting.{advances, flip}
 use Rattle.ocr_quiet.specs.Waits.{held_in, rest_in, held_on, rest_on, IsOrdered, AreStanding}
 use Rattle.ocr_standing.specs.Held.{IsLoanKept, IsKeptWith, IsHeldSo, loans_on, AreKeptOnce, AreHeld}
 use Rattle.ocr_standing.proofs.Holding.{if_block, if_any, HoldsElse, IsKeeping, moved_held, faced_held, cored_held, step_stays, linked_stays, vacant_stays, vacant_none, doomed_stays, evented_stays, scoped_stays}
 use Rattle.ocr_edt.specs.declared.Identity.{Identity}
 use Rattle.ocr_edt.specs.Steps.{with_next}
+use Rattle.ocr_parts.proofs.Blocks.{mode_added}
 
 -- NUMBERS
 not_own : (t u : ℕ) → (t == u) ≡ false → is_number u (Some t) ≡ false
@@ -143,9 +144,6 @@ fewer d e (one ∷ rest) is = elim (one.0 == e) as (λ c. (one.0 == e) ≡ c →
 once_without : (d : ℕ) (xs : List (ℕ × Kept)) → AreKeptOnce xs → AreKeptOnce (without_kept d xs)
 once_without d [] once = tt
 once_without d (one ∷ rest) once = elim (one.0 == d) as (λ b. AreKeptOnce (if b then rest else one ∷ without_kept d rest)) [ true ↦ once.1 | false ↦ (fewer d one.0 rest once.0, once_without d rest once.1) ]
-
-flip : (d e : ℕ) → (d == e) ≡ false → (e == d) ≡ false
-flip d e apart = eqb_flips e d ∙ apart
 
 dropped_held : (d : ℕ) (s : Edt) → is_some (work_in s) ≡ true → (mode_in d (held_in (dropped_edt d s)) ≡ None) × ((e : ℕ) → (d == e) ≡ false → mode_in e (held_in (dropped_edt d s)) ≡ mode_in e (held_in s))
 dropped_held d (phase.Running w) running = (mode_in-without d w.holds, λ e apart. mode_in-other d e w.holds (flip d e apart))
@@ -252,7 +250,7 @@ granted_loan t m false st is none whole = record {
 
 joined_holder : (d : Bool) (line : block.Line) (t : ℕ) (m : Mode) → block.can_grant d line m ≡ true → mode_in t line.holders ≡ None → mode_in t (block.line_after_ask d line t m).holders ≡ Some m
 joined_holder true line t m can none = cc can
-joined_holder false line t m can none = rw can (push_own t m line.holders none)
+joined_holder false line t m can none = rw can (mode_added t m line.holders none)
 
 asked_holder : (t : ℕ) (m : Mode) (o : Option Mode) (st : block.State) → mode_in t st.holders ≡ o → (o ≡ Some m) ⊎ IsGranted t m st → mode_in t (if is_some o then st else after_ask st t m).holders ≡ Some m
 asked_holder t m (Some k) st is (inl held) = is ∙ held

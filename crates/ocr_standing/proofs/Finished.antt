@@ -1,6 +1,6 @@
 -- A scope that has no member is the last of what lies in it.
 use Rattle.std.proofs.Common.{◌≡◌, inl, inr, ℕ, zero, suc, ◌<◌, true, false, not, ◌==◌, refl, ◌∙◌, ap, arith}
-use Rattle.std.proofs.lemmas.Bool.{eqb-true, not-true, true_from_ne_false}
+use Rattle.std.proofs.lemmas.Bool.{eqb-true, not-true, true_from_ne_false, and_parts, or_cases}
 use Rattle.ocr_base.proofs.Booleans.{same}
 use Rattle.ocr_history.specs.Edts.{is_ended}
 use Rattle.ocr_history.specs.History.{History, Setting}
@@ -9,7 +9,6 @@ use Rattle.ocr_parts.specs.declared.part.Part.{Part}
 use Rattle.ocr_parts.specs.declared.part.Part.TheVariants as part
 use Rattle.ocr_parts.specs.Parts.{parts_of}
 use Rattle.ocr_parts.specs.Legal.{IsRun}
-use Rattle.ocr_parts.proofs.Fresh.{both_of, either_of}
 use Rattle.ocr_quiet.proofs.Edts.{edts_law}
 use Rattle.ocr_standing.specs.Members.{numbers, is_member_edt, is_member_scope, members_on, outer_on, lies_in, FinishLaw}
 use Rattle.ocr_standing.proofs.Counting.{in_many}
@@ -40,10 +39,10 @@ step_empty s past y run some empty = elim (members_on ((parts_of s past).face y)
 
 all_empty : (s : Setting) (past : History) (x k y : ℕ) → IsRun s past → members_on ((parts_of s past).face x) ≡ 0 → lies_in (parts_of s past) x k y ≡ true → members_on ((parts_of s past).face y) ≡ 0
 all_empty s past x zero y run empty is = ap (λ (n : ℕ). members_on ((parts_of s past).face n)) (eqb-true y x is) ∙ empty
-all_empty s past x (suc k) y run empty is = elim (either_of (y == x) _ is) [
+all_empty s past x (suc k) y run empty is = elim (or_cases (y == x) _ is) [
   | inl here ↦ ap (λ (n : ℕ). members_on ((parts_of s past).face n)) (eqb-true y x here) ∙ empty
   | inr up ↦
-      let both = both_of (not (outer_on ((parts_of s past).face y) == 0)) _ up in
+      let both = and_parts (not (outer_on ((parts_of s past).face y) == 0)) _ up in
       step_empty s past y run (not-true (outer_on ((parts_of s past).face y) == 0) both.0) (all_empty s past x k (outer_on ((parts_of s past).face y)) run empty both.1)
 ]
 

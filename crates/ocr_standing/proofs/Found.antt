@@ -1,6 +1,6 @@
 -- What an EDT finds in a block that it acquires in EW or CONST.
 use Rattle.std.proofs.Common.{◌≡◌, ℕ, ◌/◌, List, [], ◌∷◌, Bool, true, false, Option, Some, None, ◌==◌, ◌&&◌, if◌then◌else◌, refl, sym, ◌∙◌, ap, subst}
-use Rattle.std.proofs.lemmas.Bool.{eqb-true}
+use Rattle.std.proofs.lemmas.Bool.{eqb-true, and_parts, false_from_ne_true}
 use Rattle.ocr_guid.specs.Target.{EventCall}
 use Rattle.ocr_acquire.specs.declared.Mode.{Mode}
 use Rattle.ocr_acquire.specs.declared.Mode.TheVariants as mode
@@ -32,7 +32,6 @@ use Rattle.ocr_parts.proofs.Allowed.{allowed_law}
 use Rattle.ocr_parts.proofs.Blocks.{borrower_is, asked_contents}
 use Rattle.ocr_parts.proofs.Lent.{kept_after_put, loan_kept}
 use Rattle.ocr_quiet.specs.Waits.{held_on}
-use Rattle.ocr_quiet.proofs.Choices.{off_from, both_true}
 use Rattle.ocr_parts.proofs.Fresh.{made_old}
 use Rattle.ocr_standing.proofs.Lasting.{not_new}
 use Rattle.ocr_standing.specs.Held.{IsLoanKept, IsKeptWith, IsHeldSo, loans_on, AreKeptOnce}
@@ -89,8 +88,8 @@ new_found words false d loans is = is
 
 step_found : (s : Setting) (past : History) (by : ℕ) (c : body.Call) (a : Answer) (t d : ℕ) (words : List ℕ) → IsRun s past → is_running ((parts_of s past).core by) ≡ true → IsFoundIn words (kept_in d (loans_of s past t)) → IsFoundIn words (kept_in d (loan_step by c a t (loans_of s past t)))
 step_found s past by (call.DbCreate n fl) a t d words run running is = added_if words (is_holding by fl a t) a.value (n / 8) d (loans_of s past t) is
-step_found s past by (call.DbRelease e) a t d words run running is = dropped_if words (is_done a.code && (by == t)) e d (loans_of s past t) (λ on. once_at s past by t run running (both_true (is_done a.code) (by == t) on).1) is
-step_found s past by (call.DbDestroy e) a t d words run running is = dropped_if words (is_done a.code && (by == t)) e d (loans_of s past t) (λ on. once_at s past by t run running (both_true (is_done a.code) (by == t) on).1) is
+step_found s past by (call.DbRelease e) a t d words run running is = dropped_if words (is_done a.code && (by == t)) e d (loans_of s past t) (λ on. once_at s past by t run running (and_parts (is_done a.code) (by == t) on).1) is
+step_found s past by (call.DbDestroy e) a t d words run running is = dropped_if words (is_done a.code && (by == t)) e d (loans_of s past t) (λ on. once_at s past by t run running (and_parts (is_done a.code) (by == t) on).1) is
 step_found s past by other a t d words run running is = is
 
 acquired_found : (s : Setting) (past : History) (u t b d : ℕ) (own : Bool) → IsFoundIn (found s past t d) (kept_in d (loans_of s past t))
@@ -155,7 +154,7 @@ alone_other by t m apart held = elim (by == t) as (λ b. b ≡ false → ◌≡�
 
 -- no other EDT has its words on loan
 not_back : (s : Setting) (past : History) (by t d : ℕ) (m : Mode) → IsRun s past → IsHeldIn (made s past d) (block_calls s past d) t m → (by == t) ≡ false → is_number by (block.borrower_of (block_calls s past d)) ≡ false
-not_back s past by t d m run held apart = off_from (is_number by (block.borrower_of (block_calls s past d))) (λ on.
+not_back s past by t d m run held apart = false_from_ne_true (is_number by (block.borrower_of (block_calls s past d))) (λ on.
     let alone = (loan_law (size_in (made s past d)) (creator_in (made s past d)) (block_calls s past d) by (allowed_law s past run d) (borrower_is by (block.borrower_of (block_calls s past d)) on)).0 in
     alone_other by t m apart (sym (ap (mode_in t) alone) ∙ held.holder))
 
@@ -192,19 +191,19 @@ step_same : (s : Setting) (past : History) (by home : ℕ) (c : body.Call) (a : 
 step_same s past by home (call.DbRelease b) a w t d n m run legal held isolated apart = ended_if n by w (block_calls s past d) (is_done a.code && (b == d)) (not_back s past by t d m run held apart)
 step_same s past by home (call.DbDestroy b) a w t d n m run legal held isolated apart = doomed_if n by w (block_calls s past d) (is_done a.code && (b == d)) (not_back s past by t d m run held apart)
 step_same s past by home (call.Store b k v) a w t d n m run legal held isolated apart = elim (is_done a.code && (b == d)) as (λ c. (is_done a.code && (b == d)) ≡ c → block.contents n (if c then block.Store k v ∷ block_calls s past d else block_calls s past d) ≡ block.contents n (block_calls s past d)) [
-  | true ↦ λ on. absurd (no_store s past by home b k v a w t d m run legal held isolated apart (both_true (is_done a.code) (b == d) on).1)
+  | true ↦ λ on. absurd (no_store s past by home b k v a w t d m run legal held isolated apart (and_parts (is_done a.code) (b == d) on).1)
   | false ↦ λ _. refl
 ] refl
 step_same s past by home other a w t d n m run legal held isolated apart = refl
 
-lend_same : (n t : ℕ) (m : Mode) (calls : List block.BlockCall) → block.contents n (lend_calls t m calls) ≡ block.contents n calls
+pub lend_same : (n t : ℕ) (m : Mode) (calls : List block.BlockCall) → block.contents n (lend_calls t m calls) ≡ block.contents n calls
 lend_same n t m calls = elim (is_exclusive m) as (λ b. block.contents n (if b then block.Lend t ∷ calls else calls) ≡ block.contents n calls) [ true ↦ refl | false ↦ refl ]
 
-granted_if : (n c t : ℕ) (m : Mode) (calls : List block.BlockCall) (b : Bool) → block.contents n (if b then grant_calls t m c calls else calls) ≡ block.contents n calls
+pub granted_if : (n c t : ℕ) (m : Mode) (calls : List block.BlockCall) (b : Bool) → block.contents n (if b then grant_calls t m c calls else calls) ≡ block.contents n calls
 granted_if n c t m calls true = lend_same n t m (ask_calls t m c calls) ∙ asked_contents n c calls t m
 granted_if n c t m calls false = refl
 
-asked_same : (n t : ℕ) (m : Mode) (calls : List block.BlockCall) (b : Bool) → block.contents n (if b then block.Ask t m ∷ calls else calls) ≡ block.contents n calls
+pub asked_same : (n t : ℕ) (m : Mode) (calls : List block.BlockCall) (b : Bool) → block.contents n (if b then block.Ask t m ∷ calls else calls) ≡ block.contents n calls
 asked_same n t m calls true = refl
 asked_same n t m calls false = refl
 

@@ -20,12 +20,13 @@ use Rattle.ocr_parts.specs.Footprint.{on_face, on_core_of, is_touched, Covers, I
 use Rattle.ocr_parts.proofs.After.{after_law}
 use Rattle.ocr_parts.proofs.Keeping.{frame_law}
 use Rattle.ocr_parts.proofs.Local.{effect_law, legality_law, settled_legal_law}
-use Rattle.ocr_parts.proofs.Settled.{settled_law}
+use Rattle.ocr_parts.proofs.Settled.{settled_law, settled_if}
 use Rattle.ocr_parts.proofs.Within.{within_law}
-use Rattle.ocr_parts.proofs.Choices.{chosen, left, same}
+use Rattle.ocr_parts.proofs.Choices.{chosen, left}
 use Rattle.ocr_standing.specs.Kept.{IsPlanFor, KeptLaw, BackLaw, AfterKeptLaw, UntouchedLaw, OwnCoreLaw}
+use Rattle.ocr_base.proofs.Booleans.{same}
 
-within_core : (limit u : ℕ) → is_within limit u ≡ true → (is_within limit (limit + u) ≡ false) × ((limit + u) - limit ≡ u)
+pub within_core : (limit u : ℕ) → is_within limit u ≡ true → (is_within limit (limit + u) ≡ false) × ((limit + u) - limit ≡ u)
 within_core limit u is = (grind (arith, common_steps), omega arith)
 
 -- THE PARTS ARE ALIKE where the entry looks
@@ -57,10 +58,6 @@ readied_alike ms (Wait t d) f h alike = ready_alike (Wait t d) f h t ms (same t)
 readied_alike ms (StaleAcquire t d) f h alike = ready_alike (StaleAcquire t d) f h t ms (same t) alike
 readied_alike ms (Start t) f h alike = ready_alike (Start t) f h t ms (same t) alike
 readied_alike ms other f h alike = alike
-
-settled_if : (b : Bool) (x y : Part) → settled (if b then x else y) ≡ (if b then settled x else settled y)
-settled_if true x y = refl
-settled_if false x y = refl
 
 settled_phase : (x : Part) (ms : List (ℕ × Mode)) → settled (on_core x (with_phase (made_ready ms))) ≡ on_core (settled x) (with_phase (made_ready ms))
 settled_phase (part.Core c) ms = refl

@@ -1,6 +1,6 @@
 -- What is made lasts, and the slots and the plan of an EDT stay once its slots are set.
 use Rattle.std.proofs.Common.{◌≡◌, ◌≢◌, ℕ, zero, suc, ◌+◌, ◌<◌, ◌≤◌, List, [], ◌∷◌, map, cond, Bool, true, false, Option, Some, None, ◌==◌, ◌&&◌, not, if◌then◌else◌, refl, sym, ◌∙◌, ap, subst, is_some, arith}
-use Rattle.std.proofs.lemmas.Bool.{eqb-true, eqb-false, ltb-true}
+use Rattle.std.proofs.lemmas.Bool.{eqb-true, eqb-false, ltb-true, and_parts, not-false, false_from_ne_true}
 use Rattle.std.specs.List.{filter, range_with_len}
 use Rattle.ocr_guid.specs.declared.Code.{Code}
 use Rattle.ocr_slots.specs.declared.Slot.{Slot}
@@ -20,7 +20,6 @@ use Rattle.ocr_parts.specs.Parts.{parts_of}
 use Rattle.ocr_parts.specs.Kinds.{is_edt_face}
 use Rattle.ocr_parts.specs.LegalOn.{IsCallOn}
 use Rattle.ocr_parts.specs.Legal.{IsRun, IsLegal}
-use Rattle.ocr_quiet.proofs.Choices.{off_from, not_off, both_true}
 use Rattle.ocr_quiet.proofs.Edts.{edts_law}
 use Rattle.ocr_parts.proofs.After.{edt_told}
 use Rattle.ocr_parts.proofs.Fresh.{new_fresh, made_old}
@@ -30,7 +29,7 @@ use Rattle.ocr_standing.proofs.Once.{dependence_slot, set_once_law, set_linked}
 
 -- WHAT IS MADE lasts, since it is not made anew
 pub not_new : (s : Setting) (past : History) (t home : ℕ) (c : body.Call) (a : Answer) (w : List (ℕ × ℕ)) (u : ℕ) → IsCallOn s.limit (parts_of s past) t home c a w → (made s past u ≡ None → ⊥) → is_new c a u ≡ false
-not_new s past t home c a w u legal there = off_from (is_new c a u) (λ on. there (made_none s past u (new_fresh s.limit (parts_of s past) t home c a w u legal on).vacant))
+not_new s past t home c a w u legal there = false_from_ne_true (is_new c a u) (λ on. there (made_none s past u (new_fresh s.limit (parts_of s past) t home c a w u legal on).vacant))
 
 pub made_law : MadeLaw
 made_law s past (Call t home c a w) g m legal is = made_old s past t home c a w g (not_new s past t home c a w g legal.on_parts (λ none. cc (none, is))) ∙ is
@@ -59,13 +58,13 @@ range_off p a (suc n) k none low high = elim (p a) as (λ b. p a ≡ b → cond 
 ] refl none
 
 pub all_set : (s : Setting) (past : History) (t k : ℕ) → open_slots s past t ≡ [] → k < depc_of s past t → slot.is_set (set_calls past t) k ≡ true
-all_set s past t k none below = not_off _ (range_off (λ j. not (slot.is_set (set_calls past t) j)) 0 (depc_of s past t) k none (omega arith) (omega (arith, below)))
+all_set s past t k none below = not-false _ (range_off (λ j. not (slot.is_set (set_calls past t) j)) 0 (depc_of s past t) k none (omega arith) (omega (arith, below)))
 
 -- no accepted dependence links one of them
 links_stay : (s : Setting) (past : History) (t home : ℕ) (c : body.Call) (a : Answer) (w : List (ℕ × ℕ)) (u : ℕ) → IsRun s past → IsCallOn s.limit (parts_of s past) t home c a w → is_edt_made (made s past u) ≡ true → open_slots s past u ≡ [] → link_step c a u (link_calls past u) ≡ link_calls past u
 links_stay s past t home (call.AddDependence from x i m) a w u run legal is_made set = elim (is_done a.code && (x == u)) as (λ b. (is_done a.code && (x == u)) ≡ b → (if b then slot.Linking i (mode_named m) ∷ link_calls past u else link_calls past u) ≡ link_calls past u) [
   | true ↦ λ is. absurd (
-      let both = both_true (is_done a.code) (x == u) is in
+      let both = and_parts (is_done a.code) (x == u) is in
       let here : u ≡ x = sym (eqb-true x u both.1) in
       let there : is_edt_face ((parts_of s past).face x) ≡ true = sym (edt_told (made s past x) (link_calls past x) (block_calls s past x) (event_calls s past x) (scope_calls past x)) ∙ subst (λ (n : ℕ). is_edt_made (made s past n) ≡ true) here is_made in
       let slot_is = dependence_slot s past t home from x i m a w both.0 legal there in

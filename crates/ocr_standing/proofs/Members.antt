@@ -41,10 +41,10 @@ use Rattle.ocr_standing.specs.Members.{how_many, numbers, is_member_edt, is_memb
 use Rattle.ocr_quiet.proofs.Edts.{edts_law}
 use Rattle.ocr_quiet.proofs.Lasting.{above_law}
 use Rattle.ocr_quiet.proofs.Stages.{told_law}
-use Rattle.ocr_standing.proofs.Counting.{one, one_on, one_off, same_many, none_many, one_many}
+use Rattle.ocr_standing.proofs.Counting.{one, one_on, one_off, same_many, one_many, none_many}
 use Rattle.ocr_standing.proofs.Own.{running_mark}
 use Rattle.ocr_standing.proofs.Named.{carried, weight, weight_append}
-use Rattle.ocr_standing.proofs.Weighed.{waiting, undelivered, sent_more, going}
+use Rattle.ocr_standing.proofs.Weighed.{waiting, undelivered, going, sent_more}
 use Rattle.ocr_standing.proofs.Scopes.{scope_in, scope_at, members_in, is_inner, HasIn, sent_in, members_are, inner_is, has_in, sent_is, scope_made, none_scope, call_scopes, left, left_one, joined, new_apart, home_has, edt_scopes}
 
 -- MESSAGES THAT LEAVE a scope

@@ -2,7 +2,8 @@
 -- once the event that keeps the slot as a target reaches it.
 use Rattle.std.proofs.Common.{◌≡◌, ℕ, zero, suc, ◌+◌, ◌<◌, ◌≤◌, List, [], ◌∷◌, Bool, true, false, ◌==◌, ◌||◌, ◌&&◌, not, nat_lt, if◌then◌else◌, Option, Some, None, refl, sym, ◌∙◌, ap, subst, is_some, arith, length, Ok, Err}
 use Rattle.std.proofs.lemmas.Grind.{common_steps}
-use Rattle.std.proofs.lemmas.Bool.{eqb-true, ltb-true, ltb-false, le-ltb, ne_eqb}
+use Rattle.std.proofs.lemmas.Bool.{eqb-true, ltb-true, ltb-false, le-ltb, ne_eqb, and_parts}
+use Rattle.std.proofs.Math.Bool.{or-true}
 use mathlib.Core.Option.{some, some-injective, some-ne-none}
 use lib.ListN.{get_elem?}
 use Rattle.ocr_base.proofs.Booleans.{same, and_false}
@@ -40,13 +41,12 @@ use Rattle.ocr_parts.specs.Legal.{IsRun, IsLegal}
 use Rattle.ocr_parts.proofs.Within.{done_is, made_none, new_free}
 use Rattle.ocr_parts.proofs.After.{linkable, accepted}
 use Rattle.ocr_standing.specs.Lasting.{SetOnceLaw, DeliveredLaw, delivery_count}
-use Rattle.ocr_quiet.proofs.Choices.{both_true}
-use Rattle.ocr_parts.proofs.Choices.{or_right}
 use Rattle.ocr_parts.proofs.Fresh.{new_fresh, made_new}
 use Rattle.ocr_standing.proofs.Named.{one, tally_append, drop_less, named_once, named_other, at_of}
 use Rattle.ocr_standing.proofs.Weighed.{waiting, undelivered, sent_more, going}
 use Rattle.ocr_standing.proofs.Targets.{given, entry_links, kept_now, kept_opened, run_keeps}
 use Rattle.ocr_finish.specs.Scope.{ScopeCall}
+use Rattle.ocr_parts.proofs.Starts.{none_more}
 
 -- THE MESSAGES that set a slot, whether it is set, and whether it is there and linked
 abbrev bit : Bool → ℕ
@@ -227,10 +227,10 @@ edt_links : (t x k : ℕ) (done beside : Bool) (ds : List ℕ) (new other old : 
     ≤ slot_num (depc_in (if beside || (done && (x == t)) then (if x == t then new else other) else old)) (if beside || (done && (x == t)) then (if done && (x == t) then dep_links 0 ds [] else []) else links) k
 edt_links t x k true beside ds new other old links free fits = elim (x == t) as (λ b. (x == t) ≡ b → ((beside || b) ≡ true → old ≡ None) → slot_num (depc_in old) links k + given (to_slot t k) x 0 ds ≤ slot_num (depc_in (if beside || b then (if b then new else other) else old)) (if beside || b then (if b then dep_links 0 ds [] else []) else links) k) [
   | true ↦ λ is free.
-      let z = no_slot old links k (free (or_right beside)) in
+      let z = no_slot old links k (free (or-true beside)) in
       let same : given (to_slot t k) x 0 ds ≡ given (to_slot t k) t 0 ds = ap (λ (n : ℕ). given (to_slot t k) n 0 ds) (eqb-true x t is) in
       let g = given_slots t k (depc_in new) ds (fits refl) in
-      rw (or_right beside) (omega (arith, z, same, g))
+      rw (or-true beside) (omega (arith, z, same, g))
   | false ↦ λ off free.
       let z = given_other t x k 0 ds off in
       elim beside as (λ b. ((b || false) ≡ true → old ≡ None) → slot_num (depc_in old) links k + given (to_slot t k) x 0 ds ≤ slot_num (depc_in (if b || false then other else old)) (if b || false then [] else links) k) [
@@ -334,7 +334,7 @@ set_once_law s past m c t k p run legal is =
     let w : sets_at t k m.what ≡ 1 = ap (sets_at t k) is ∙ own_slot t k in
     let there : (nat_lt k (depc_of s past t) && slot.is_linked (link_calls past t) k) ≡ true = some_bit (nat_lt k (depc_of s past t) && slot.is_linked (link_calls past t) k) (omega (arith, before, gone, w)) in
     let l = bit_most (nat_lt k (depc_of s past t) && slot.is_linked (link_calls past t) k) in
-    let both = both_true (nat_lt k (depc_of s past t)) (slot.is_linked (link_calls past t) k) there in
+    let both = and_parts (nat_lt k (depc_of s past t)) (slot.is_linked (link_calls past t) k) there in
     record { exists = ltb-true k (depc_of s past t) both.0; linked = both.1; unset = set_is (slot.payload_of (set_calls past t) k) (omega (arith, before, gone, w, l)) }
 
 -- what is set is linked
@@ -342,7 +342,7 @@ pub set_linked : (s : Setting) (past : History) (t k : ℕ) → IsRun s past →
 set_linked s past t k run set =
     let before = is_once s past t k run in
     let one : set_num (set_calls past t) k ≡ 1 = ap bit set in
-    (both_true (nat_lt k (depc_of s past t)) (slot.is_linked (link_calls past t) k) (some_bit (nat_lt k (depc_of s past t) && slot.is_linked (link_calls past t) k) (omega (arith, before, one)))).1
+    (and_parts (nat_lt k (depc_of s past t)) (slot.is_linked (link_calls past t) k) (some_bit (nat_lt k (depc_of s past t) && slot.is_linked (link_calls past t) k) (omega (arith, before, one)))).1
 
 -- A MESSAGE IS DELIVERED ONCE
 drop_name : (n i : ℕ) (w : What) (xs : List (ℕ × ℕ × What)) (k : ℕ) → get_elem? xs k ≡ some (n, i, w) → tally (one (n, i)) (drop_one (n, i) xs) + 1 ≤ tally (one (n, i)) xs
@@ -395,7 +395,7 @@ taken_once : (s : Setting) (past : History) (m : Message) (c : Code) (name : ℕ
 taken_once s past m c name legal = elim ((m.place == name.0) && (m.index == name.1)) as (λ b. ((m.place == name.0) && (m.index == name.1)) ≡ b
     → tally (one name) (drop_one (m.place, m.index) (pending s past)) + (if b then 1 else 0) ≤ outstanding s past name) [
       | true ↦ λ is.
-          let both = both_true (m.place == name.0) (m.index == name.1) is in
+          let both = and_parts (m.place == name.0) (m.index == name.1) is in
           let here = legal.said in
           let at = at_of (pending s past) here.0 (m.place, m.index, m.what) (m.place, m.index, m.what) here.1 here.2 in
           subst (λ (n : ℕ). tally (one (n, name.1)) (drop_one (m.place, m.index) (pending s past)) + 1 ≤ tally (one (n, name.1)) (pending s past)) (eqb-true m.place name.0 both.0)
@@ -404,13 +404,10 @@ taken_once s past m c name legal = elim ((m.place == name.0) && (m.index == name
       | false ↦ λ _. let l = drop_less (one name) (m.place, m.index) (pending s past) in omega (arith, l)
     ] refl
 
-nothing_more : (n : ℕ) → n ≡ 0 + n
-nothing_more n = omega arith
-
 named_law : (s : Setting) (past : History) (name : ℕ × ℕ) → IsRun s past → IsNamedOnce s past name
 named_law s [] name run = record { most = omega arith; later = λ _. refl }
 named_law s (Deliver m c ∷ past) name run = sent_once s past (Deliver m c) name _ refl (taken_once s past m c name run.1) (named_law s past name run.0)
-named_law s (other ∷ past) name run = sent_once s past other name 0 (nothing_more (delivery_count past name)) (omega arith) (named_law s past name run.0)
+named_law s (other ∷ past) name run = sent_once s past other name 0 (none_more (delivery_count past name)) (omega arith) (named_law s past name run.0)
 
 pub delivered_law : DeliveredLaw
 delivered_law s past name run = let most = (named_law s past name run).most in omega (arith, most)

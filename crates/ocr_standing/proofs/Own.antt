@@ -1,7 +1,8 @@
 -- The own entries of an EDT come from its start on, and its body stays.
 use Rattle.std.proofs.Common.{◌≡◌, ℕ, nat_lt, List, [], ◌∷◌, Bool, true, false, Option, Some, None, ◌==◌, ◌||◌, if◌then◌else◌, refl, sym, ◌∙◌, ap, subst, is_some, arith}
-use Rattle.std.proofs.lemmas.Bool.{eqb-true}
+use Rattle.std.proofs.lemmas.Bool.{eqb-true, or_parts, false_from_ne_true}
 use Rattle.std.proofs.lemmas.Grind.{common_steps}
+use Rattle.std.proofs.Math.Bool.{or-true}
 use Rattle.ocr_edt.specs.declared.Edt.{Edt}
 use Rattle.ocr_edt.specs.declared.Edt.TheVariants as phase
 use Rattle.ocr_edt.specs.Edt as edt
@@ -23,7 +24,6 @@ use Rattle.ocr_parts.specs.Bodies.{first_holds, body_with, holds_on}
 use Rattle.ocr_parts.specs.Progress.{ready_at, next_on}
 use Rattle.ocr_parts.specs.Legal.{IsRun, IsLegal}
 use Rattle.ocr_quiet.specs.Marks.{stage_in, mark_in, mark}
-use Rattle.ocr_quiet.proofs.Choices.{off_from, or_right}
 use Rattle.ocr_quiet.proofs.Stages.{told_law, ready_told}
 use Rattle.ocr_quiet.proofs.Edts.{edts_law}
 use Rattle.ocr_standing.specs.Lasting.{is_own, has_own, NoOwnLaw, FreshLaw, BodyLaw}
@@ -57,26 +57,21 @@ not_started s past t run legal =
     let y : Part = (ready_at t (plan_of s past t) (parts_of s past)).core t in
     (ready_told s past t t (plan_of s past t) legal.on_facts (told_law s past run t)).has_started ∙ acquiring_mark y legal.on_parts.acquiring
 
--- OWN ENTRIES
-or_true : (b : Bool) → (b || true) ≡ true
-or_true true = refl
-or_true false = refl
-
-still_started : (past : History) (e : Entry) (t : ℕ) → is_started past t ≡ true → is_started (e ∷ past) t ≡ true
-still_started past (Start u) t is = ap (λ (b : Bool). (u == t) || b) is ∙ or_true (u == t)
+pub still_started : (past : History) (e : Entry) (t : ℕ) → is_started past t ≡ true → is_started (e ∷ past) t ≡ true
+still_started past (Start u) t is = ap (λ (b : Bool). (u == t) || b) is ∙ or-true (u == t)
 still_started past other t is = is
 
-at_own : (s : Setting) (past : History) (u t : ℕ) → IsRun s past → is_running ((parts_of s past).core u) ≡ true → (u == t) ≡ true → is_started past t ≡ true
+pub at_own : (s : Setting) (past : History) (u t : ℕ) → IsRun s past → is_running ((parts_of s past).core u) ≡ true → (u == t) ≡ true → is_started past t ≡ true
 at_own s past u t run running is = subst (λ (n : ℕ). is_started past n ≡ true) (eqb-true u t is) (started_by s past u run running)
 
-own_started : (s : Setting) (past : History) (e : Entry) (t : ℕ) → IsRun s past → IsLegal s past e → is_own e t ≡ true → is_started (e ∷ past) t ≡ true
+pub own_started : (s : Setting) (past : History) (e : Entry) (t : ℕ) → IsRun s past → IsLegal s past e → is_own e t ≡ true → is_started (e ∷ past) t ≡ true
 own_started s past (Call u home c a w) t run legal is = at_own s past u t run legal.on_parts.running is
 own_started s past (Start u) t run legal is = ap (λ (b : Bool). b || is_started past t) is
 own_started s past (Free u d w) t run legal is = at_own s past u t run legal.on_parts.running is
 own_started s past (End u g) t run legal is = at_own s past u t run legal.on_parts.running is
 own_started s past other t run legal is = cc is
 
-has_started : (s : Setting) (past : History) (t : ℕ) → IsRun s past → has_own past t ≡ true → is_started past t ≡ true
+pub has_started : (s : Setting) (past : History) (t : ℕ) → IsRun s past → has_own past t ≡ true → is_started past t ≡ true
 has_started s [] t run is = cc is
 has_started s (e ∷ past) t run is = elim (is_own e t) as (λ b. is_own e t ≡ b → (b || has_own past t) ≡ true → is_started (e ∷ past) t ≡ true) [
   | true ↦ λ own _. own_started s past e t run.0 run.1 own
@@ -84,7 +79,7 @@ has_started s (e ∷ past) t run is = elim (is_own e t) as (λ b. is_own e t ≡
 ] refl is
 
 pub no_own_law : NoOwnLaw
-no_own_law s past t run legal = off_from (has_own past t) (λ own.
+no_own_law s past t run legal = false_from_ne_true (has_own past t) (λ own.
     let on : is_started past t ≡ true = has_started s past t run own in
     let off : is_started past t ≡ false = not_started s past t run legal in
     cc (on, off))
@@ -99,7 +94,7 @@ call_if s past u t one run running off none = elim (u == t) as (λ b. (u == t) �
 pub fresh_law : FreshLaw
 fresh_law s [] t run off = refl
 fresh_law s (Call u home c a w ∷ past) t run off = call_if s past u t _ run.0 run.1.on_parts.running off (fresh_law s past t run.0 off)
-fresh_law s (Start u ∷ past) t run off = fresh_law s past t run.0 (or_right (u == t) (is_started past t) off)
+fresh_law s (Start u ∷ past) t run off = fresh_law s past t run.0 (or_parts (u == t) (is_started past t) off).1
 fresh_law s (other ∷ past) t run off = fresh_law s past t run.0 off
 
 -- THE BODY

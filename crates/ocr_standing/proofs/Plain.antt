@@ -1,5 +1,5 @@
 -- When an EDT goes on, in plain words.
-use Rattle.std.proofs.Common.{◌≡◌, inl, inr, ℕ, nat_lt, List, [], ◌∷◌, ◌++◌, Bool, true, false, ◌&&◌, not, Option, Some, None, refl, sym, ◌∙◌, ap, subst, is_some}
+use Rattle.std.proofs.Common.{◌≡◌, inl, inr, ℕ, nat_lt, List, [], ◌∷◌, Bool, true, false, ◌&&◌, not, Option, Some, None, refl, sym, ◌∙◌, ap, subst, is_some}
 use Rattle.ocr_acquire.specs.declared.Mode.{Mode}
 use Rattle.ocr_acquire.specs.Mode.{is_null, mode_in}
 use Rattle.ocr_acquire.proofs.Laws.{given_law}
@@ -29,7 +29,7 @@ use Rattle.ocr_parts.proofs.Allowed.{free_law}
 use Rattle.ocr_parts.proofs.Awaited.{awaited_law}
 use Rattle.ocr_quiet.specs.Waits.{standing, is_gone_on, held_on, rest_on, AreStanding, AreBlocks, awaits_in, awaits}
 use Rattle.ocr_quiet.specs.Marks.{mark_in, mark, IsTold}
-use Rattle.ocr_quiet.proofs.Standing.{in_front, in_back, none_back}
+use Rattle.ocr_quiet.proofs.Standing.{in_front}
 use Rattle.ocr_quiet.proofs.Waiting.{ready_standing}
 use Rattle.ocr_quiet.proofs.Passing.{gone_is}
 use Rattle.ocr_quiet.proofs.Stages.{standing_law, told_law, ready_told}
@@ -42,6 +42,7 @@ use Rattle.ocr_standing.proofs.Planned.{planned_law, ready_is}
 use Rattle.std.specs.List.{filter}
 use Rattle.ocr_guid.specs.Target.{EventCall}
 use Rattle.ocr_finish.specs.Scope.{ScopeCall}
+use Rattle.ocr_datablock.proofs.Lines.{mode_skips, none_first, none_second}
 
 -- WHAT COMES NEXT, by the calls of the EDT and by its core
 phase_rest : (i : Identity) (one : edt.EdtCall) (rest : List edt.EdtCall) (p : Progress) → progress_in (edt.edt_of i (one ∷ rest)) ≡ Some p → p.rest ≡ edt.undone_of (one ∷ rest)
@@ -99,7 +100,7 @@ pub next_law : NextLaw
 next_law s past t run is_one off = (awake s past t run is_one off).next ∙ member_planned s past t run is_one
 
 -- A BLOCK that is available can be taken, and one that is not refuses
-some_mode : (o : Option Mode) → is_some o ≡ true → (k : Mode) × (o ≡ Some k)
+pub some_mode : (o : Option Mode) → is_some o ≡ true → (k : Mode) × (o ≡ Some k)
 some_mode None is = cc is
 some_mode (Some k) is = (k, refl)
 
@@ -128,15 +129,9 @@ available (Some (MadeBlock n c)) links blocks events scopes t m used free awaite
 ] refl
 available other links blocks events scopes t m used free awaited own avail = elim avail [ inl is ↦ cc is | inr is ↦ cc is ]
 
-none_front : (t : ℕ) (xs ys : List (ℕ × Mode)) → mode_in t (xs ++ ys) ≡ None → mode_in t xs ≡ None
-none_front t xs ys is = elim (mode_in t xs) as (λ o. mode_in t xs ≡ o → o ≡ None) [
-  | None ↦ λ _. refl
-  | Some k ↦ λ there. absurd (let some = in_front t xs ys k there in cc (some, is))
-] refl
-
 refuses : (x : Part) (t : ℕ) (m : Mode) → is_block x ≡ true → is_null m ≡ false → IsUnavailable x t m → IsBlock x (IsRefused t m)
 refuses (part.Block st) t m is used un = record {
-  newcomer = record { no_holder = none_front t st.holders st.queue un.not_there; not_waiting = none_back t st.holders st.queue un.not_there; some_mode = used };
+  newcomer = record { no_holder = none_first t st.holders st.queue un.not_there; not_waiting = none_second t st.holders st.queue un.not_there; some_mode = used };
   not_grantable = un.not_grantable;
   not_gone = un.not_gone;
 }
@@ -197,11 +192,11 @@ now_next s past t d m run set next =
     let off : is_started past t ≡ false = goes_on s past t _ run set next in
     now_by s past t d m run is_one off (sym (awake s past t run is_one off).next ∙ next)
 
-acquiring_idle_edt : (e : Edt) → is_acquiring_edt e ≡ true → awaits_in e ≡ None
+pub acquiring_idle_edt : (e : Edt) → is_acquiring_edt e ≡ true → awaits_in e ≡ None
 acquiring_idle_edt (phase.Acquiring p) is = refl
 acquiring_idle_edt other is = cc is
 
-acquiring_idle : (x : Part) → is_acquiring x ≡ true → awaits x ≡ None
+pub acquiring_idle : (x : Part) → is_acquiring x ≡ true → awaits x ≡ None
 acquiring_idle (part.Core c) is = acquiring_idle_edt c.edt is
 acquiring_idle other is = cc is
 
@@ -301,7 +296,7 @@ taken_available other t m taken = absurd taken
 
 pub refused_unavailable : (x : Part) (t : ℕ) (m : Mode) → IsBlock x (IsRefused t m) → IsUnavailable x t m
 refused_unavailable (part.Block st) t m refused = record {
-  not_there = in_back t st.holders st.queue refused.newcomer.no_holder ∙ refused.newcomer.not_waiting;
+  not_there = mode_skips t st.holders st.queue refused.newcomer.no_holder ∙ refused.newcomer.not_waiting;
   not_grantable = refused.not_grantable;
   not_gone = refused.not_gone;
 }

@@ -1,6 +1,6 @@
 -- The plan that an EDT was given is its plan now.
 use Rattle.std.proofs.Common.{◌≡◌, ℕ, nat_lt, List, [], ◌∷◌, Bool, true, false, Option, Some, ◌==◌, ◌&&◌, if◌then◌else◌, refl, sym, ◌∙◌, ap, subst}
-use Rattle.std.proofs.lemmas.Bool.{eqb-true}
+use Rattle.std.proofs.lemmas.Bool.{eqb-true, and_parts}
 use Rattle.ocr_acquire.specs.declared.Mode.{Mode}
 use Rattle.ocr_acquire.specs.Plan as plan
 use Rattle.ocr_slots.specs.declared.Slot.{Slot}
@@ -61,25 +61,17 @@ bare_core : (m : Option Made) (i : Identity) (loans : List (ℕ × Kept)) → is
 bare_core (Some (MadeEdt f ps n)) i loans = refl
 bare_core other i loans = refl
 
-first_on : (a b : Bool) → (a && b) ≡ true → a ≡ true
-first_on true b is = refl
-first_on false b is = is
-
-second_on : (a b : Bool) → (a && b) ≡ true → b ≡ true
-second_on true b is = is
-second_on false b is = cc is
-
 step_empty : (by : ℕ) (c : body.Call) (a : Answer) (t : ℕ) (members : List (ℕ × Mode)) → ((by == t) ≡ true → ⊥) → IsGivenPlan members (edt_step by c a t [])
 step_empty by (call.DbCreate n fl) a t members apart = elim (is_done a.code && ((by == t) && (fl == 0))) as (λ b. (is_done a.code && ((by == t) && (fl == 0))) ≡ b → IsGivenPlan members (if b then edt.Hold a.value ∷ [] else [])) [
-  | true ↦ λ is. absurd (apart (first_on (by == t) (fl == 0) (second_on (is_done a.code) _ is)))
+  | true ↦ λ is. absurd (apart (and_parts (by == t) (fl == 0) (and_parts (is_done a.code) _ is).1).0)
   | false ↦ λ _. tt
 ] refl
 step_empty by (call.DbRelease d) a t members apart = elim (is_done a.code && (by == t)) as (λ b. (is_done a.code && (by == t)) ≡ b → IsGivenPlan members (if b then edt.DropHold d ∷ [] else [])) [
-  | true ↦ λ is. absurd (apart (second_on (is_done a.code) _ is))
+  | true ↦ λ is. absurd (apart (and_parts (is_done a.code) _ is).1)
   | false ↦ λ _. tt
 ] refl
 step_empty by (call.DbDestroy d) a t members apart = elim (is_done a.code && (by == t)) as (λ b. (is_done a.code && (by == t)) ≡ b → IsGivenPlan members (if b then edt.DropHold d ∷ [] else [])) [
-  | true ↦ λ is. absurd (apart (second_on (is_done a.code) _ is))
+  | true ↦ λ is. absurd (apart (and_parts (is_done a.code) _ is).1)
   | false ↦ λ _. tt
 ] refl
 step_empty by other a t members apart = tt

@@ -1,6 +1,7 @@
 -- A scope has room for one member more as long as a number is left: each creation that brings a
 -- member takes a number.
 use Rattle.std.proofs.Common.{◌≡◌, ℕ, suc, ◌+◌, ◌<◌, ◌≤◌, List, [], ◌∷◌, Bool, true, false, not, ◌&&◌, ◌||◌, ◌==◌, if◌then◌else◌, Option, Some, None, refl, sym, ◌∙◌, ap, arith}
+use Rattle.std.proofs.lemmas.Bool.{and_parts}
 use Rattle.ocr_base.proofs.Booleans.{same, and_false}
 use Rattle.ocr_edt.specs.declared.Identity.{Identity}
 use Rattle.ocr_finish.specs.declared.TheConstants.{MOST_MEMBERS}
@@ -23,7 +24,7 @@ use Rattle.ocr_parts.specs.Parts.{identity_of, parts_of}
 use Rattle.ocr_parts.specs.Kinds.{home_on}
 use Rattle.ocr_parts.specs.LegalOn.{IsJoinable, IsCallOn}
 use Rattle.ocr_parts.specs.Legal.{IsRun, IsLegal}
-use Rattle.ocr_parts.proofs.Fresh.{both_of, new_fresh, made_old}
+use Rattle.ocr_parts.proofs.Fresh.{new_fresh, made_old}
 use Rattle.ocr_parts.proofs.Within.{made_none}
 use Rattle.ocr_standing.specs.Members.{how_many, numbers, is_member_edt, members_on, JoiningLaw}
 use Rattle.ocr_quiet.proofs.Edts.{edts_law}
@@ -81,7 +82,7 @@ members_most s past other x legal = omega arith
 still_free : (s : Setting) (past : History) (u home : ℕ) (c : body.Call) (a : Answer) (w : List (ℕ × ℕ)) (g : ℕ) → IsCallOn s.limit (parts_of s past) u home c a w → is_free s (Call u home c a w ∷ past) g ≡ true → is_free s past g ≡ true
 still_free s past u home c a w g legal is = elim (is_new c a g) as (λ b. is_new c a g ≡ b → is_free s past g ≡ true) [
   | true ↦ λ new.
-      let some : not (g == 0) ≡ true = (both_of (not (g == 0)) (is_nothing (made s (Call u home c a w ∷ past) g)) is).0 in
+      let some : not (g == 0) ≡ true = (and_parts (not (g == 0)) (is_nothing (made s (Call u home c a w ∷ past) g)) is).0 in
       let none = made_none s past g (new_fresh s.limit (parts_of s past) u home c a w g legal new).vacant in
       rw (some, none) refl
   | false ↦ λ old. ap (λ (m : Option Made). not (g == 0) && is_nothing m) (sym (made_old s past u home c a w g old)) ∙ is

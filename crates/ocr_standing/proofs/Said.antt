@@ -1,6 +1,6 @@
 -- What a body holds is what the core of its EDT holds; so it stores, as an entry, only where it holds the block in RW.
 use Rattle.std.proofs.Common.{◌≡◌, ℕ, ◌/◌, nat_lt, List, [], ◌∷◌, Bool, true, false, Option, Some, None, ◌==◌, ◌||◌, ◌&&◌, if◌then◌else◌, refl, sym, ◌∙◌, ap, subst}
-use Rattle.std.proofs.lemmas.Bool.{eqb-true, and_right}
+use Rattle.std.proofs.lemmas.Bool.{eqb-true, and_right, or_parts, false_from_ne_true, cond-false}
 use Rattle.ocr_acquire.specs.declared.Mode.{Mode}
 use Rattle.ocr_acquire.specs.declared.Mode.TheVariants as mode
 use Rattle.ocr_edt.specs.Edt as edt
@@ -27,48 +27,43 @@ use Rattle.ocr_parts.specs.Legal.{IsRun, IsLegal}
 use Rattle.ocr_parts.specs.Loans.{with_kept, without_kept, kept_created}
 use Rattle.ocr_parts.specs.Parts.{Parts, identity_of, core, parts_of}
 use Rattle.ocr_parts.proofs.After.{after_law}
-use Rattle.ocr_parts.proofs.Choices.{same, or_rest}
 use Rattle.ocr_parts.proofs.Held.{holds_law}
 use Rattle.ocr_quiet.specs.Marks.{mark}
-use Rattle.ocr_quiet.proofs.Choices.{off_from}
 use Rattle.ocr_quiet.proofs.Edts.{edts_law}
 use Rattle.ocr_quiet.proofs.Stages.{told_law}
 use Rattle.ocr_standing.proofs.Lasting.{edt_not_new}
 use Rattle.ocr_parts.proofs.Fresh.{made_old}
 use Rattle.ocr_standing.proofs.Own.{started_by, not_started, not_going, goes_on, fresh_law, body_law}
 use Rattle.ocr_edt.specs.declared.Identity.{Identity}
-
--- THE CORE of another EDT stays
-if_off : {A : Type 0} (b : Bool) (x y : A) → b ≡ false → (if b then x else y) ≡ y
-if_off b x y off = rw off refl
+use Rattle.ocr_base.proofs.Booleans.{same}
 
 -- the EDT of a call is another one
 holding_off : (by fl : ℕ) (a : Answer) (t : ℕ) → (by == t) ≡ false → is_holding by fl a t ≡ false
 holding_off by fl a t off = and_right (is_done a.code) ((by == t) && (fl == 0)) (rw off refl)
 
 edt_other : (by : ℕ) (c : body.Call) (a : Answer) (t : ℕ) (calls : List edt.EdtCall) → (by == t) ≡ false → edt_step by c a t calls ≡ calls
-edt_other by (call.DbCreate n fl) a t calls off = if_off _ (edt.Hold a.value ∷ calls) calls (holding_off by fl a t off)
-edt_other by (call.DbRelease d) a t calls off = if_off _ (edt.DropHold d ∷ calls) calls (and_right (is_done a.code) (by == t) off)
-edt_other by (call.DbDestroy d) a t calls off = if_off _ (edt.DropHold d ∷ calls) calls (and_right (is_done a.code) (by == t) off)
+edt_other by (call.DbCreate n fl) a t calls off = cond-false _ (edt.Hold a.value ∷ calls) calls (holding_off by fl a t off)
+edt_other by (call.DbRelease d) a t calls off = cond-false _ (edt.DropHold d ∷ calls) calls (and_right (is_done a.code) (by == t) off)
+edt_other by (call.DbDestroy d) a t calls off = cond-false _ (edt.DropHold d ∷ calls) calls (and_right (is_done a.code) (by == t) off)
 edt_other by other a t calls off = refl
 
 loan_other : (by : ℕ) (c : body.Call) (a : Answer) (t : ℕ) (loans : List (ℕ × Kept)) → (by == t) ≡ false → loan_step by c a t loans ≡ loans
-loan_other by (call.DbCreate n fl) a t loans off = if_off _ (with_kept a.value (kept_created (n / 8)) loans) loans (holding_off by fl a t off)
-loan_other by (call.DbRelease d) a t loans off = if_off _ (without_kept d loans) loans (and_right (is_done a.code) (by == t) off)
-loan_other by (call.DbDestroy d) a t loans off = if_off _ (without_kept d loans) loans (and_right (is_done a.code) (by == t) off)
+loan_other by (call.DbCreate n fl) a t loans off = cond-false _ (with_kept a.value (kept_created (n / 8)) loans) loans (holding_off by fl a t off)
+loan_other by (call.DbRelease d) a t loans off = cond-false _ (without_kept d loans) loans (and_right (is_done a.code) (by == t) off)
+loan_other by (call.DbDestroy d) a t loans off = cond-false _ (without_kept d loans) loans (and_right (is_done a.code) (by == t) off)
 loan_other by other a t loans off = refl
 
 -- who is not made anew is who it was
 identity_old : (past : History) (by home : ℕ) (c : body.Call) (a : Answer) (w : List (ℕ × ℕ)) (t : ℕ) → is_new c a t ≡ false → identity_of (Call by home c a w ∷ past) t ≡ identity_of past t
-identity_old past by home (call.EdtCreate from pc ps dc ds fl o) a w t off = if_off (makes a t) _ (identity_of past t) (or_rest _ (makes a t) off)
+identity_old past by home (call.EdtCreate from pc ps dc ds fl o) a w t off = cond-false (makes a t) _ (identity_of past t) (or_parts _ (makes a t) off).1
 identity_old past by home other a w t off = refl
 
 other_call : (s : Setting) (past : History) (by home : ℕ) (c : body.Call) (a : Answer) (w : List (ℕ × ℕ)) (t : ℕ) → IsLegal s past (Call by home c a w) → is_edt_made (made s past t) ≡ true → (by == t) ≡ false
     → (parts_of s (Call by home c a w ∷ past)).core t ≡ (parts_of s past).core t
 other_call s past by home c a w t legal is_made off =
     let old : is_new c a t ≡ false = edt_not_new s past by home c a w t legal.on_parts is_made in
-    let calls : edt_calls s (Call by home c a w ∷ past) t ≡ edt_calls s past t = if_off (is_new c a t) [] _ old ∙ edt_other by c a t (edt_calls s past t) off in
-    let loans : loans_of s (Call by home c a w ∷ past) t ≡ loans_of s past t = if_off (is_new c a t) [] _ old ∙ loan_other by c a t (loans_of s past t) off in
+    let calls : edt_calls s (Call by home c a w ∷ past) t ≡ edt_calls s past t = cond-false (is_new c a t) [] _ old ∙ edt_other by c a t (edt_calls s past t) off in
+    let loans : loans_of s (Call by home c a w ∷ past) t ≡ loans_of s past t = cond-false (is_new c a t) [] _ old ∙ loan_other by c a t (loans_of s past t) off in
     let named : identity_of (Call by home c a w ∷ past) t ≡ identity_of past t = identity_old past by home c a w t old in
     λ i. core (made_old s past by home c a w t old i) (named i) (calls i) (loans i)
 
@@ -113,12 +108,12 @@ own_call s past t home c a w run legal bodies tied =
     (asked_tied (body_of s past t) (own past t) (holds_on (parts_of s past) t) c a next tied)
 
 -- THROUGH EACH ENTRY
-started_made : (m : Option Made) (i : Identity) (calls : List edt.EdtCall) (loans : List (ℕ × Kept)) → nat_lt 1 (mark (core m i calls loans)).0 ≡ true → is_edt_made m ≡ true
+pub started_made : (m : Option Made) (i : Identity) (calls : List edt.EdtCall) (loans : List (ℕ × Kept)) → nat_lt 1 (mark (core m i calls loans)).0 ≡ true → is_edt_made m ≡ true
 started_made (Some (MadeEdt f ps n)) i calls loans is = refl
 started_made other i calls loans is = cc is
 
-apart : (past : History) (u t : ℕ) → is_started past t ≡ true → is_started past u ≡ false → (u == t) ≡ false
-apart past u t on off = off_from (u == t) (not_going past u t on off)
+pub apart : (past : History) (u t : ℕ) → is_started past t ≡ true → is_started past u ≡ false → (u == t) ≡ false
+apart past u t on off = false_from_ne_true (u == t) (not_going past u t on off)
 
 goes : (s : Setting) (past : History) (e : Entry) (t : ℕ) → IsRun s past → IsLegal s past e → is_started past t ≡ true → is_edt_made (made s past t) ≡ true → body_of s (e ∷ past) t ≡ body_of s past t → TiedAt s past t → TiedAt s (e ∷ past) t
 goes s past (Call u home c a w) t run legal on is_made bodies tied = elim (u == t) as (λ b. (u == t) ≡ b → TiedAt s (Call u home c a w ∷ past) t) [

@@ -1,6 +1,6 @@
 -- The scopes of a run: how each entry changes them.
 use Rattle.std.proofs.Common.{◌≡◌, ℕ, ◌-◌, ◌<◌, List, [], ◌∷◌, Bool, true, false, not, ◌&&◌, ◌||◌, ◌==◌, if◌then◌else◌, Option, Some, None, refl, sym, ◌∙◌, ap, subst, arith}
-use Rattle.std.proofs.lemmas.Bool.{eqb-true, false_from_ne_true}
+use Rattle.std.proofs.lemmas.Bool.{eqb-true, false_from_ne_true, and_parts}
 use Rattle.ocr_guid.specs.Target.{EventCall}
 use Rattle.ocr_slots.specs.Slots as slot
 use Rattle.ocr_datablock.specs.Block as block
@@ -21,9 +21,9 @@ use Rattle.ocr_parts.specs.Parts.{face, parts_of}
 use Rattle.ocr_parts.specs.Messages.{sent_if_done, sent_by_leave}
 use Rattle.ocr_parts.specs.Footprint.{makes_core}
 use Rattle.ocr_parts.specs.LegalOn.{IsJoinable, HasMember, IsCallOn}
-use Rattle.ocr_parts.proofs.After.{home_apart}
+use Rattle.ocr_parts.proofs.After.{home_apart, has_member}
 use Rattle.ocr_parts.proofs.Beside.{beside_is}
-use Rattle.ocr_parts.proofs.Fresh.{both_of, some_named, number_named, new_fresh}
+use Rattle.ocr_parts.proofs.Fresh.{some_named, number_named, new_fresh}
 use Rattle.ocr_parts.proofs.Within.{new_free, made_none}
 use Rattle.ocr_standing.specs.Members.{is_member_scope, members_on}
 
@@ -111,11 +111,8 @@ abbrev pub left : Option State → Option State
 left None = None
 left (Some st) = Some (after_leave st)
 
-fewer : (a d : ℕ) → 0 < a - d → d < a
-fewer a d some = omega (arith, some)
-
 pub left_one : (m : Option Made) (calls : List ScopeCall) → HasIn (scope_in m calls) → scope_in m (Parting ∷ calls) ≡ left (scope_in m calls)
-left_one (Some (MadeScope outer event)) calls has = ap (λ (st : State). Some st) (leave_law outer event calls (fewer (scope.arrivals calls) (scope.departures calls) has)).0
+left_one (Some (MadeScope outer event)) calls has = ap (λ (st : State). Some st) (leave_law outer event calls (has_member (scope.arrivals calls) (scope.departures calls) has)).0
 left_one other calls has = absurd has
 
 -- ONE JOINS
@@ -124,14 +121,14 @@ joined None = None
 joined (Some st) = Some (after_join st)
 
 joined_one : (m : Option Made) (calls : List ScopeCall) → HasIn (scope_in m calls) → scope_in m (Joining ∷ calls) ≡ joined (scope_in m calls)
-joined_one (Some (MadeScope outer event)) calls has = ap (λ (st : State). Some st) (join_law outer event calls (fewer (scope.arrivals calls) (scope.departures calls) has))
+joined_one (Some (MadeScope outer event)) calls has = ap (λ (st : State). Some st) (join_law outer event calls (has_member (scope.arrivals calls) (scope.departures calls) has))
 joined_one other calls has = absurd has
 
 unjoined : (join : Bool) (m : Option Made) (calls : List ScopeCall) → (join ≡ false) × (scope_in m calls ≡ None) → None ≡ (if join then joined (scope_in m calls) else scope_in m calls)
 unjoined true m calls free = cc free.0
 unjoined false m calls free = sym free.1
 
-new_done : (done beside here : Bool) → ((done && beside) || (done && here)) ≡ true → done ≡ true
+pub new_done : (done beside here : Bool) → ((done && beside) || (done && here)) ≡ true → done ≡ true
 new_done true beside here is = refl
 new_done false beside here is = cc is
 
@@ -162,7 +159,7 @@ module _ (s : Setting) (past : History) (t home from pc dc fl : ℕ) (ps ds : Li
   own_apart : (g : ℕ) → makes a g ≡ true → names_new a.scope g ≡ false
   own_apart g is = false_from_ne_true (names_new a.scope g) (λ own.
       let above : a.value < a.scope = (beside_is (is_done a.code && (fl == 1)) s.limit (parts_of s past) a.value a.scope legal.scope (some_named a.scope g own)).1 in
-      let here : a.value ≡ g = eqb-true a.value g (both_of (is_done a.code) (a.value == g) is).1 in
+      let here : a.value ≡ g = eqb-true a.value g (and_parts (is_done a.code) (a.value == g) is).1 in
       let there : a.scope ≡ g = number_named a.scope g own in
       omega (arith, above, here, there))
 
@@ -182,4 +179,4 @@ module _ (s : Setting) (past : History) (t home from pc dc fl : ℕ) (ps ds : Li
       (from_none (made s past from) ps dc)
       (λ is. new_apart (new_done (is_done a.code) (names_new a.scope g || names_new a.output g) (a.value == g) is) g is)
       (own_apart g)
-      (λ is. let both = both_of (is_done a.code) (names_new home g) is in joined_one (made s past g) (scope_calls past g) (home_has both.0 g both.1))
+      (λ is. let both = and_parts (is_done a.code) (names_new home g) is in joined_one (made s past g) (scope_calls past g) (home_has both.0 g both.1))

@@ -1,7 +1,8 @@
 -- How often all events keep a target: an entry takes what it sends from what is kept, or from a
 -- link that it makes.
 use Rattle.std.proofs.Common.{◌≡◌, ℕ, zero, suc, ◌+◌, ◌<◌, ◌≤◌, nat_lt, List, [], ◌∷◌, ◌++◌, map, Bool, true, false, ◌==◌, ◌||◌, ◌&&◌, not, if◌then◌else◌, Option, Some, None, refl, sym, ◌∙◌, ap, subst, arith, length}
-use Rattle.std.proofs.lemmas.Bool.{eqb-true, eqb-false, ltb-true, ltb-false, ne_eqb}
+use Rattle.std.proofs.lemmas.Bool.{eqb-true, eqb-false, ltb-true, ltb-false, ne_eqb, or_parts}
+use Rattle.std.proofs.Math.Bool.{or-true}
 use Rattle.ocr_guid.specs.declared.target.Target.{Target}
 use Rattle.ocr_guid.specs.declared.target.Satisfied.{Satisfied}
 use Rattle.ocr_guid.specs.declared.target.Satisfied.TheVariants as answer
@@ -40,7 +41,6 @@ use Rattle.ocr_parts.specs.Legal.{IsRun, IsLegal, IsOnParts}
 use Rattle.ocr_parts.specs.Codes.{ATemplate, wanted_sources, is_missing, is_any}
 use Rattle.ocr_parts.proofs.After.{after_law, done_is, not_missing, named_dep, unnamed_there, old_part}
 use Rattle.ocr_parts.proofs.Beside.{named_keeps, beside_is}
-use Rattle.ocr_parts.proofs.Choices.{same, or_right, or_rest}
 use Rattle.ocr_parts.proofs.Fresh.{new_fresh}
 use Rattle.ocr_edt.specs.declared.Identity.{Identity}
 use Rattle.ocr_finish.specs.Scope as scope
@@ -48,6 +48,7 @@ use Rattle.ocr_finish.specs.declared.Leaving.{Leaving}
 use Rattle.ocr_finish.specs.declared.Leaving.TheVariants as leaving
 use Rattle.ocr_quiet.proofs.Lasting.{above_law}
 use Rattle.ocr_standing.proofs.Named.{weight, weight_append}
+use Rattle.ocr_base.proofs.Booleans.{same}
 
 -- PARTS THAT ARE EVENTS
 abbrev pub event_on : Part → Option AnyEvent
@@ -130,7 +131,7 @@ named_same : (limit t home from pc dc fl : ℕ) (ps ds : List ℕ) (o : Bool) (a
     → (with_face (with_beside h (home_on (h.core t)) a) a.value y).face i ≡ h.face i
 named_same limit t home from pc dc fl ps ds o a w h on legal y i is =
     let c : body.Call = call.EdtCreate from pc ps dc ds fl o in
-    let there : is_any is_missing h.face (wanted_sources ds) ≡ false = or_rest (is_missing ATemplate (h.face from)) _ (not_missing t h.face c (sym legal.code ∙ done_is a.code on)) in
+    let there : is_any is_missing h.face (wanted_sources ds) ≡ false = (or_parts (is_missing ATemplate (h.face from)) _ (not_missing t h.face c (sym legal.code ∙ done_is a.code on))).1 in
     let old : is_new c a i ≡ false = elim (is_new c a i) as (λ b. is_new c a i ≡ b → b ≡ false) [
       | true ↦ λ new. let off : named_dep i ds ≡ false = unnamed_there h.face ds i there (new_fresh limit h t home c a w i legal new).vacant in absurd (cc (off, is))
       | false ↦ λ _. refl
@@ -290,7 +291,7 @@ module _ (f : What → ℕ) (g : Target → ℕ) (blind : (p : ℕ) (t : Target)
       let goal : Target = slot_target t k in
       let here : is_object d ≡ true → event_on (a.face d) ≡ event_on (h.face d) = λ is. alike d (rw (is, same d) refl) in
       let one = dep_keeps (is_given d) (not (d == 0)) d goal a h n below here in
-      let r = deps_keep t (k + 1) ds (linked_if (is_object d) d goal a) (linked_if (is_object d) d goal h) n (linked_below (is_object d) d goal n h below) (λ i is. linked_alike (is_object d) d goal a h i here (alike i (rw is (or_right (is_object d && (d == i)))))) in
+      let r = deps_keep t (k + 1) ds (linked_if (is_object d) d goal a) (linked_if (is_object d) d goal h) n (linked_below (is_object d) d goal n h below) (λ i is. linked_alike (is_object d) d goal a h i here (alike i (rw is (or-true (is_object d && (d == i)))))) in
       let s = weight_append f (if is_given d then linked_by (is_object d) d goal a else []) (dep_sends t (k + 1) ds (linked_if (is_object d) d goal a)) in
       omega (arith, one, r, s)
 

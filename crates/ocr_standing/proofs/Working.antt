@@ -1,6 +1,6 @@
 -- What a running EDT may do with blocks, in plain words.
 use Rattle.std.proofs.Common.{◌≡◌, ◌⊎◌, inl, inr, ℕ, ◌<◌, nat_lt, List, [], ◌∷◌, Bool, true, false, Option, Some, None, ◌==◌, if◌then◌else◌, refl, sym, ◌∙◌, ap, subst, is_some}
-use Rattle.std.proofs.lemmas.Bool.{eq-eqb, ltb-true}
+use Rattle.std.proofs.lemmas.Bool.{eq-eqb, ltb-true, false_from_ne_true}
 use Rattle.ocr_guid.specs.Target.{EventCall}
 use Rattle.ocr_base.proofs.Booleans.{same}
 use Rattle.ocr_acquire.specs.declared.Mode.{Mode}
@@ -27,7 +27,6 @@ use Rattle.ocr_parts.specs.Legal.{IsRun}
 use Rattle.ocr_parts.proofs.Allowed.{allowed_law, free_law}
 use Rattle.ocr_parts.proofs.Blocks.{borrower_is}
 use Rattle.ocr_quiet.specs.Waits.{held_on}
-use Rattle.ocr_quiet.proofs.Choices.{off_from}
 use Rattle.ocr_standing.specs.Held.{IsKeptWith, IsHeldSo}
 use Rattle.ocr_standing.specs.Plain.{FreeingLaw, DoomingLaw, IsEntered, SharingLaw}
 use Rattle.ocr_standing.proofs.Entries.{exclusive_isolated}
@@ -83,7 +82,7 @@ alone_holds : (t : ℕ) → is_some (mode_in t ((t, mode.Ew) ∷ [])) ≡ true
 alone_holds t = rw (same t) refl
 
 not_lent_to : (n c : ℕ) (blocks : List block.BlockCall) (t : ℕ) → AreAllowed n c blocks → is_some (mode_in t (block.holders_of c blocks)) ≡ false → is_number t (block.borrower_of blocks) ≡ false
-not_lent_to n c blocks t allowed off = off_from (is_number t (block.borrower_of blocks)) (λ on.
+not_lent_to n c blocks t allowed off = false_from_ne_true (is_number t (block.borrower_of blocks)) (λ on.
     let alone = (loan_law n c blocks t allowed (borrower_is t (block.borrower_of blocks) on)).0 in
     let held : is_some (mode_in t (block.holders_of c blocks)) ≡ true = ap (λ (h : List (ℕ × Mode)). is_some (mode_in t h)) alone ∙ alone_holds t in
     cc (held, off))

@@ -1,20 +1,19 @@
 -- The functions of EDTs are functions of the program.
-use Rattle.std.proofs.Common.{◌≡◌, ℕ, ◌+◌, ◌<◌, ◌≤◌, ◌==◌, ◌&&◌, Bool, true, false, if◌then◌else◌, List, [], ◌∷◌, length, reverse, Option, Some, None, refl, subst, arith}
-use Rattle.std.specs.Prelude.{bytes_eq, codes}
+use Rattle.std.proofs.Common.{◌≡◌, ℕ, ◌+◌, ◌<◌, ◌≤◌, ◌==◌, ◌&&◌, Bool, true, false, if◌then◌else◌, List, [], ◌∷◌, length, reverse, Option, Some, None, refl, subst}
+use Rattle.std.specs.Prelude.{codes}
 use Rattle.ocr_code.specs.Checked.{checked_tree}
 use Rattle.ocr_code.specs.declared.checked.Checked.{Checked}
 use Rattle.ocr_edt.specs.Edt as edt
 use Rattle.ocr_edt.specs.declared.Identity.{Identity}
-use Rattle.ocr_tree.specs.Functions.{number_named, number_of_main}
+use Rattle.ocr_tree.specs.Functions.{number_of_main}
 use Rattle.ocr_tree.specs.Runnable.{IsRunnable}
-use Rattle.ocr_tree.specs.Tree.{FunctionTree}
 use Rattle.ocr_meaning.specs.Body.{Body}
 use Rattle.ocr_meaning.specs.Holds.{is_done}
 use Rattle.ocr_meaning.specs.Laws.{IsServed}
 use Rattle.ocr_meaning.specs.declared.call.Answer.{Answer}
 use Rattle.ocr_meaning.specs.declared.call.Call as body
 use Rattle.ocr_meaning.specs.declared.call.Call.TheVariants as call
-use Rattle.ocr_meaning.proofs.Makes.{served_law}
+use Rattle.ocr_meaning.proofs.Makes.{served_law, number_positive}
 use Rattle.ocr_history.specs.declared.entry.Entry.TheVariants.{Call}
 use Rattle.ocr_history.specs.declared.objects.TheConstants.{OUTPUT_FLAGS, OUTPUT_KIND}
 use Rattle.ocr_history.specs.History.{History, Setting, own}
@@ -35,9 +34,9 @@ use Rattle.ocr_running.specs.Running.{Runs}
 use Rattle.ocr_running.proofs.Asked.{once_in}
 use Rattle.ocr_running.proofs.Begun.{core_made}
 use Rattle.ocr_running.proofs.Called.{hand_is, runnable_in}
-use Rattle.ocr_running.proofs.Calls.{next_of}
 use Rattle.ocr_running.proofs.Cores.{first_has, first_look}
 use Rattle.ocr_running.proofs.Parts.{core_of, is_run}
+use Rattle.ocr_facts.proofs.Lawful.{asked_call}
 
 -- an EDT, or a template, of one of so many functions
 abbrev IsThere : ℕ → ℕ → Type 0
@@ -68,13 +67,9 @@ beside_of functions a home g before is =
     one_or functions (is_done a.code && names_new a.scope g) (Some (MadeScope home a.output)) (if is_done a.code && names_new a.output g then Some (MadeEvent OUTPUT_KIND OUTPUT_FLAGS 0) else before) tt
     (one_or functions (is_done a.code && names_new a.output g) (Some (MadeEvent OUTPUT_KIND OUTPUT_FLAGS 0)) before tt is)
 
-some_number : (name : List ℕ) (program : List FunctionTree) → 0 < number_named name program
-some_number name [] = omega arith
-some_number name (f ∷ rest) = elim (bytes_eq f.name name) as (λ b. 0 < (if b then 1 else number_named name rest + 1)) [ true ↦ omega arith | false ↦ omega arith ]
-
 opened_of : (s : Setting) (functions : ℕ) → number_of_main s.program ≤ functions → (n : ℕ) → IsOfProgram functions (opened s n)
 opened_of s functions main n = one_or functions (n == 1) (Some (MadeBlock (length s.args + 1) 0)) (if n == 2 then Some (MadeEdt (number_of_main s.program) [] 1) else None) tt
-    (one_or functions (n == 2) (Some (MadeEdt (number_of_main s.program) [] 1)) None (some_number (codes "mainEdt") s.program, main) tt)
+    (one_or functions (n == 2) (Some (MadeEdt (number_of_main s.program) [] 1)) None (number_positive (codes "mainEdt") s.program, main) tt)
 
 -- WHAT IS MADE in a run
 module _ (s : Setting) (past : History) (t home : ℕ) (a : Answer) (w : List (ℕ × ℕ)) (runnable : IsRunnable s.program) (before : (g : ℕ) → IsOfProgram (length s.program) (made s past g)) where
@@ -83,7 +78,7 @@ module _ (s : Setting) (past : History) (t home : ℕ) (a : Answer) (w : List (�
   made_more (call.TemplateCreate f pc dc) g legal =
       let said = legal.said in
       one_or (length s.program) (makes a g) (Some (MadeTemplate f pc dc)) (made s past g)
-      (next_of (IsServed (length s.program)) _ (call.TemplateCreate f pc dc) said.0 (served_law (body_of s past t) (own past t) runnable.named runnable.short) said.1)
+      (asked_call (IsServed (length s.program)) _ (call.TemplateCreate f pc dc) said.0 (served_law (body_of s past t) (own past t) runnable.named runnable.short) said.1)
       (before g)
   made_more (call.EdtCreate from pc ps dc ds fl o) g legal = one_or (length s.program) (makes a g) (edt_from (made s past from) ps dc) (made_beside a home g (made s past g)) (from_of (length s.program) (made s past from) ps dc (before from)) (beside_of (length s.program) a home g (made s past g) (before g))
   made_more (call.EventCreate k fl) g legal = one_or (length s.program) (makes a g) (Some (MadeEvent k fl 0)) (made s past g) tt (before g)

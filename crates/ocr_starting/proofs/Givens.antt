@@ -1,9 +1,7 @@
 -- What the body of an EDT is given is what the Start told.
-use Rattle.std.proofs.Common.{◌≡◌, ℕ, ◌+◌, ◌<◌, ◌≤◌, ◌==◌, Bool, true, false, List, [], ◌∷◌, length, Option, Some, refl, ap, sym, ◌∙◌, subst, arith}
-use Rattle.std.proofs.lemmas.Grind.{common_steps}
+use Rattle.std.proofs.Common.{◌≡◌, ℕ, ◌+◌, ◌<◌, ◌≤◌, Bool, true, List, [], ◌∷◌, length, Option, Some, refl, ap, sym, ◌∙◌, subst}
 use Rattle.ocr_base.proofs.Booleans.{same as number_same}
 use Rattle.ocr_acquire.specs.declared.Mode.{Mode}
-use Rattle.ocr_acquire.specs.Mode.{mode_in}
 use Rattle.ocr_code.specs.Checked.{checked_tree}
 use Rattle.ocr_code.specs.declared.checked.Checked.{Checked}
 use Rattle.ocr_edt.specs.declared.Edt.{Edt}
@@ -17,7 +15,7 @@ use Rattle.ocr_parts.specs.Bodies.{body_with, hold_of}
 use Rattle.ocr_parts.specs.Calls.{depv_in}
 use Rattle.ocr_parts.specs.Effects.{settled_core, started_edt}
 use Rattle.ocr_parts.specs.Progress.{made_ready, with_phase}
-use Rattle.ocr_parts.specs.Kinds.{core_progress, holds_of, is_acquiring_edt, is_running, progress_in, work_in}
+use Rattle.ocr_parts.specs.Kinds.{core_progress, is_acquiring_edt, is_running, progress_in, work_in}
 use Rattle.ocr_parts.specs.Loans.{kept_in, settled_loans}
 use Rattle.ocr_standing.specs.Kept.{filled, plan_from}
 use Rattle.ocr_rule.specs.Sums.{find}
@@ -33,14 +31,12 @@ use Rattle.ocr_starting.specs.Starting.{HasCore, IsGiven, IsRead, StepsCore}
 use Rattle.ocr_starting.proofs.Functions.{runs_function}
 use Rattle.ocr_starting.proofs.Stepped.{core_same, core_settled, stepped_runs, stepped_work}
 use Rattle.ocr_starting.proofs.Values.{used_length, values_are}
-
--- THE FACE at hand before the Start
-core_else : (limit edt : ℕ) → 2 ≤ limit → (edt == (limit + edt)) ≡ false
-core_else limit edt enough = grind (arith, common_steps)
+use Rattle.ocr_running.proofs.Begun.{started_mode}
+use Rattle.ocr_running.proofs.Started.{face_else}
 
 pub face_found : (table : OcrTable) (program : Checked) (edt place : ℕ) (payloads : List ℕ) (c : OcrKnown) → AtWork table program c → (can : CanRun table.1 edt payloads c) → place ≡ edt → find place c.parts ≡ Some (Some (part.Edt can.slots))
 face_found table program edt place payloads c work can is =
-    ap (λ (n : ℕ). find n c.parts) is ∙ (ap (find edt) can.hand ∙ rw (core_else table.1.limit edt work.limits.0, number_same edt) refl)
+    ap (λ (n : ℕ). find n c.parts) is ∙ (ap (find edt) can.hand ∙ rw (face_else table.1.limit edt work.limits.0, number_same edt) refl)
 
 abbrev slots_or : List Slot → Option (Option Part) → List Slot
 slots_or none (Some (Some (part.Edt slots))) = slots
@@ -54,11 +50,6 @@ started_stale : (e : Edt) (ms : List (ℕ × Mode)) → is_acquiring_edt (made_r
 started_stale (phase.Filling i) ms is = refl
 started_stale (phase.Acquiring p) ms is = refl
 started_stale other ms is = cc is
-
-started_mode : (e : Edt) (ms : List (ℕ × Mode)) (d : ℕ) → is_acquiring_edt (made_ready ms e) ≡ true → mode_in d (holds_of (work_in (started_edt (made_ready ms e)))) ≡ mode_in d (holds_of (work_in (started_edt e)))
-started_mode (phase.Filling i) ms d is = refl
-started_mode (phase.Acquiring p) ms d is = refl
-started_mode other ms d is = cc is
 
 abbrev core_or : Core → Part → Core
 core_or none (part.Core c) = c

@@ -2,6 +2,7 @@
 use Rattle.std.proofs.Common.{◌≡◌, ◌⊎◌, inl, inr, ◌<◌, ◌≤◌, ◌-◌, ℕ, zero, suc, nat_le, List, Bool, true, false, ◌&&◌, ◌||◌, Option, Some, None, arith, refl, sym, ◌∙◌, ap, subst}
 use Rattle.std.proofs.lemmas.Grind.{common_steps}
 use Rattle.std.specs.List.{Contains}
+use Rattle.std.proofs.lemmas.Bool.{and_parts}
 use Rattle.ocr_meaning.specs.declared.call.BodyStop.{BodyStop}
 use Rattle.ocr_meaning.specs.declared.call.BodyStop.TheVariants as stop
 use Rattle.ocr_history.specs.declared.entry.Entry.TheVariants.{Call, Deliver, Acquire, Wait, StaleAcquire, Start, Free, End, Stop}
@@ -22,13 +23,13 @@ use Rattle.ocr_parts.specs.Taken.{is_within}
 use Rattle.ocr_parts.proofs.Lent.{ready_core}
 use Rattle.ocr_table.specs.Table.{state_in, IsOf}
 use Rattle.ocr_table.specs.declared.table.Table.{Table}
-use Rattle.ocr_quiet.proofs.Choices.{both_true}
 use Rattle.ocr_legality.specs.Tests.{Whether, MayGoOn, MayEnter, IsDeliverable}
 use Rattle.ocr_judge.specs.Mailing.{left_from, message_at}
 use Rattle.ocr_judge.specs.declared.judging.Verdict.{Verdict}
 use Rattle.ocr_judge.proofs.Letters.{waits, waiting}
 use Rattle.ocr_stopping.specs.Stopping.{IsFront, IsStopping, Creates, RunsWeighed, CouldWeigh, SomeCreates, SomeCould, AnyWeighed, Delivers, MailDelivers}
 use Rattle.ocr_stopping.proofs.Stops.{two, no_core, running_within, running_on}
+use Rattle.ocr_legality.proofs.Numbers.{same_or_above}
 
 -- TESTS
 pub either_so : (a b r : Bool) (A B : Type 0) → Whether a A → Whether b B → r ≡ (a || b) → Whether r (A ⊎ B)
@@ -51,7 +52,7 @@ could_by s past t weight one wakes goes runs r is_one may is_goes weighed is =
     either_so runs goes r (RunsWeighed s past t weight) ((weight ≡ 1) × MayGoOn s past t) weighed (both_so one wakes goes (weight ≡ 1) (MayGoOn s past t) is_one may is_goes) is
 
 pub within_le : (limit t : ℕ) → is_within limit t ≡ true → t ≤ limit
-within_le limit t is = (let small : nat_le t limit ≡ true = (both_true (nat_le 1 t) (nat_le t limit) is).1 in grind (arith, common_steps))
+within_le limit t is = (let small : nat_le t limit ≡ true = (and_parts (nat_le 1 t) (nat_le t limit) is).1 in grind (arith, common_steps))
 
 vacant_goes : (s : Setting) (past : History) (t : ℕ) → (parts_of s past).core t ≡ part.Vacant → MayGoOn s past t → ⊥
 vacant_goes s past t vacant (Acquire u d, is, may) =
@@ -108,18 +109,8 @@ some_come s past rows table vs weight last front none tested = record {
   no = λ off some. below some.0 table.limit (λ t. CouldWeigh s past t weight) none (tested.no off) (could_le s past rows table vs some.0 weight front some.1) some.1;
 }
 
--- and one step of the search
-eq_or : (n k : ℕ) → n ≤ k → (k ≡ n) ⊎ (n < k)
-eq_or zero zero le = inl refl
-eq_or zero (suc k) le = inr (omega arith)
-eq_or (suc n) zero le = absurd (omega (arith, le))
-eq_or (suc n) (suc k) le = elim (eq_or n k (omega arith)) [
-  | inl same ↦ inl (ap (λ (m : ℕ). suc m) same)
-  | inr more ↦ inr (omega arith)
-]
-
 pub one_less : (n limit : ℕ) (P : ℕ → Type 0) → ((k : ℕ) → n < k → k ≤ limit → P k → ⊥) → (P n → ⊥) → (k : ℕ) → n - 1 < k → k ≤ limit → P k → ⊥
-one_less n limit P all none k above le p = elim (eq_or n k (omega arith)) [
+one_less n limit P all none k above le p = elim (same_or_above n k (omega arith)) [
   | inl same ↦ none (subst P same p)
   | inr more ↦ all k more le p
 ]

@@ -1,6 +1,7 @@
 -- What is told of EDTs tells of Stops.
 use Rattle.std.proofs.Common.{◌≡◌, ◌<◌, ◌≤◌, ℕ, ◌+◌, nat_lt, List, [], ◌∷◌, length, slice_index_or, Bool, true, false, ◌&&◌, if◌then◌else◌, nat_le, Option, Some, None, arith, refl, sym, ◌∙◌, ap, subst}
 use Rattle.std.proofs.lemmas.Grind.{common_steps}
+use Rattle.std.proofs.lemmas.Bool.{and_parts}
 use Rattle.ocr_edt.specs.declared.Edt.{Edt}
 use Rattle.ocr_edt.specs.declared.Edt.TheVariants as phase
 use Rattle.ocr_edt.specs.Phases.{least_of}
@@ -31,7 +32,6 @@ use Rattle.ocr_table.specs.Table.{face_on, core_on, IsOf}
 use Rattle.ocr_table.specs.declared.table.Table.{Table}
 use Rattle.ocr_quiet.specs.Marks.{mark, mark_in}
 use Rattle.ocr_quiet.proofs.Stages.{told_law}
-use Rattle.ocr_quiet.proofs.Choices.{both_true}
 use Rattle.ocr_standing.proofs.Working.{freeing_law}
 use Rattle.ocr_legality.specs.Tests.{Whether}
 use Rattle.ocr_legality.specs.Asked.{CanWeigh, weight_with}
@@ -42,15 +42,12 @@ use Rattle.ocr_judge.specs.declared.judging.Told.{Told}
 use Rattle.ocr_judge.specs.declared.judging.Told.TheVariants as told
 use Rattle.ocr_judge.specs.declared.judging.Verdict.{Verdict}
 use Rattle.ocr_stopping.specs.Stopping.{IsFront, IsStopping, CreatesBy, Creates, count_of, WeighsBy, IsBodyOf, RunsWeighed}
-
--- A TEST that is so by two others
-sure : (b : Bool) (P : Type 0) → Whether b P → P → b ≡ true
-sure true P is p = refl
-sure false P is p = absurd (is.no refl p)
+use Rattle.ocr_judge.proofs.Steps.{next_same}
+use Rattle.ocr_legality.proofs.Asks.{sure}
 
 pub two : (a b r : Bool) (A B P : Type 0) → r ≡ (a && b) → Whether a A → (A → Whether b B) → (A → B → P) → (P → A × B) → Whether r P
 two a b r A B P is one other to back = turned r (a && b) P is (record {
-  yes = λ on. (let both = both_true a b on in let here = one.yes both.0 in to here ((other here).yes both.1));
+  yes = λ on. (let both = and_parts a b on in let here = one.yes both.0 in to here ((other here).yes both.1));
   no = λ off p. (let parts = back p in not_both a b off (sure a A one parts.0) (sure b B (other parts.0) parts.1));
 })
 
@@ -110,7 +107,7 @@ outside limit length t long past within = grind (arith, common_steps)
 not_running : (s : Setting) (past : History) (rows : _) (table : Table) (vs : List Verdict) (t : ℕ) → IsFront s past table rows vs → length vs ≤ t → IsRunning past t → ⊥
 not_running s past rows table vs t front out runs =
     let within = running_within s past rows table vs t front runs in
-    let small : nat_le t s.limit ≡ true = subst (λ (n : ℕ). nat_le t n ≡ true) front.of.limit (both_true (nat_le 1 t) (nat_le t table.limit) within).1 in
+    let small : nat_le t s.limit ≡ true = subst (λ (n : ℕ). nat_le t n ≡ true) front.of.limit (and_parts (nat_le 1 t) (nat_le t table.limit) within).1 in
     outside s.limit (length vs) t front.long out small
 
 -- BODIES' STOPS
@@ -226,11 +223,6 @@ weigh_yes s past t weight (told.Asks c count) run runs is can = (
 )
 weigh_yes s past t weight (told.Stopped why) run runs is can = absurd can
 
--- and what could come is told
-same_call : (b : Behaviour) (c d : body.Call) (p q : List (ℕ × ℕ)) → IsNextWith c p b → IsNextWith d q b → (c ≡ d) × (p ≡ q)
-same_call (Asks made writes go) c d p q one other = (sym one.0 ∙ other.0, sym one.1 ∙ other.1)
-same_call other c d p q one two = absurd one
-
 holds_same : (g h : ℕ) (one other : Holds) → Ends g one ≡ Ends h other → one ≡ other
 holds_same g h one other is = ap holds_in is
   where
@@ -243,7 +235,7 @@ call_told : (s : Setting) (past : History) (t home weight : ℕ) (c : body.Call)
 call_told s past t home weight c a w (told.Ended counts) is on private next carries weighs = absurd (subst (IsNextWith c private) is.2 next)
 call_told s past t home weight c a w (told.Stopped why) is on private next carries weighs = absurd (subst (IsNextWith c private) is next)
 call_told s past t home weight c a w (told.Asks d count) is on private next carries weighs =
-    let same = same_call (says_next s past t) c d private is.0 next is.1 in
+    let same = next_same (says_next s past t) c d private is.0 next is.1 in
     let here : CanWeigh s.limit (parts_of s past) t c count weight = (
       home,
       a,

@@ -34,17 +34,14 @@ pub leads_output : (c : CallName) (done : Arguments) (e : Expression) → LeadsT
     → LeadsToOutput c (with done (value e empty))
 leads_output c done e w x = ap (fits (shape c)) (with_more done (value e empty) (named x empty)) ∙ w e (named x empty) refl
 
-fold_fits : (l : ℕ) (k : m.Stack) (e : Expression) → IsFitting k → IsFitting (m.fold_of l k e).pending
-fold_fits l (m.Bottom p) e w = w
-fold_fits l (m.Left a op k) e w = cond_both (nat_le l (level op)) _ _ (λ (held : m.Held). IsFitting held.pending)
-    (λ _. fold_fits l k (tree.Binary op a e) w)
-    (λ _. w)
-fold_fits l (m.Prefix op k) e w = fold_fits l k (tree.Unary op e) w
-fold_fits l (m.Round k) e w = w
-fold_fits l (m.Index i k) e w = w
-fold_fits l (m.Argument c done ss k) e w = w
-fold_fits l (m.Member c done es ss k) e w = w
-fold_fits l (m.FlagsArgument c done k) e w = w
-
 pub folded_fits : (l : ℕ) (k : m.Stack) (e : Expression) → IsFitting k → IsFitting (m.fold_of l k e).pending
-folded_fits l k e w = fold_fits l k e w
+folded_fits l (m.Bottom p) e w = w
+folded_fits l (m.Left a op k) e w = cond_both (nat_le l (level op)) _ _ (λ (held : m.Held). IsFitting held.pending)
+    (λ _. folded_fits l k (tree.Binary op a e) w)
+    (λ _. w)
+folded_fits l (m.Prefix op k) e w = folded_fits l k (tree.Unary op e) w
+folded_fits l (m.Round k) e w = w
+folded_fits l (m.Index i k) e w = w
+folded_fits l (m.Argument c done ss k) e w = w
+folded_fits l (m.Member c done es ss k) e w = w
+folded_fits l (m.FlagsArgument c done k) e w = w

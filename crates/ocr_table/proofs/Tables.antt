@@ -31,21 +31,18 @@ use Rattle.ocr_parts.specs.LegalOn.{IsLegalOn}
 use Rattle.ocr_parts.specs.Messages.{sends, resumes}
 use Rattle.ocr_edt.specs.declared.Identity.{Identity}
 use Rattle.ocr_parts.specs.Parts.{Parts, parts_of, face, core, identity_of}
-use Rattle.ocr_parts.specs.Taken.{look, has, as_face, as_core, is_within, parts_in, place_of, ArePlaced}
-use Rattle.ocr_parts.proofs.Choices.{same}
+use Rattle.ocr_parts.specs.Taken.{look, has, as_core, is_within, parts_in, place_of, ArePlaced}
 use Rattle.ocr_table.specs.Sets.{filled, are_set, payloads_in, slots_in, is_filling, is_filling_on, stale_on, set_after}
 use Rattle.ocr_codes.specs.Lookup.{part_at}
 use Rattle.ocr_hand.specs.All.{core_at, all_parts, AreAllPlaced}
 use Rattle.ocr_table.specs.Table.{state_in, face_on, core_on, sets_in, slots_on, plan_on, IsWhole, IsOf, IsBefore}
 use Rattle.ocr_table.specs.declared.table.Table.{Table}
-use Rattle.ocr_hand.proofs.Places.{parts_by, place_is, AreKept, kept_as, kept_set, core_set}
+use Rattle.ocr_hand.proofs.Places.{place_is, AreKept, kept_as, kept_set, core_set}
 use Rattle.ocr_finish.specs.Scope.{ScopeCall}
+use Rattle.ocr_base.proofs.Booleans.{same}
+use Rattle.ocr_hand.proofs.Numbered.{same_parts}
 
 -- THE SAME PARTS at all numbers
-same_parts : (limit : ℕ) (at other : ℕ → Part) → ((n : ℕ) → at n ≡ other n) → parts_by limit at ≡ parts_by limit other
-same_parts limit at other is = λ i. record {
-  face = λ g. ap (λ (x : Part). if is_within limit g then as_face x else part.Vacant) (is g) i;
-  core = λ t. ap (λ (x : Part). if is_within limit t then as_core x else part.Vacant) (is (limit + t)) i;
 }
 
 same_kept : (limit : ℕ) (at other : ℕ → Part) → ((n : ℕ) → at n ≡ other n) → AreKept limit other → AreKept limit at

@@ -2,14 +2,11 @@
 use Rattle.std.proofs.Common.{◌≡◌, ℕ, zero, suc, ◌<◌, ◌≤◌, List, [], ◌∷◌, ◌++◌, length, slice_index_or, slice_set, Bool, true, false, ◌==◌, ◌||◌, if◌then◌else◌, arith, refl, ◌∙◌, ap, subst}
 use Rattle.std.proofs.lemmas.Grind.{common_steps}
 use Rattle.std.specs.List.{All}
+use Rattle.std.proofs.Math.Bool.{or-false}
 use Rattle.ocr_parts.specs.declared.part.Part.{Part}
 use Rattle.ocr_parts.specs.declared.part.Part.TheVariants as part
 use Rattle.ocr_parts.specs.Taken.{look, has, keys}
 use Rattle.ocr_codes.specs.Lookup.{part_at}
-
-or_false : (b : Bool) → (b || false) ≡ b
-or_false true = refl
-or_false false = refl
 
 or_assoc : (a b c : Bool) → (a || (b || c)) ≡ ((a || b) || c)
 or_assoc true b c = refl
@@ -40,7 +37,7 @@ look_last (p ∷ rest) m n x = elim (p.0 == n) as (λ b. (if b then p.1 else loo
 ]
 
 pub has_last : (ps : List (ℕ × Part)) (m n : ℕ) (x : Part) → has (ps ++ (m, x) ∷ []) n ≡ (has ps n || (m == n))
-has_last [] m n x = or_false (m == n)
+has_last [] m n x = or-false (m == n)
 has_last (p ∷ rest) m n x = ap (λ (b : Bool). (p.0 == n) || b) (has_last rest m n x) ∙ or_assoc (p.0 == n) (has rest n) (m == n)
 
 -- what stands at a number once these parts are put back

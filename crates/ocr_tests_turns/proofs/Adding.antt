@@ -1,8 +1,9 @@
 -- A clerk that keeps a place may add to its counter.
-use Rattle.std.proofs.Common.{◌≡◌, ℕ, zero, suc, ◌+◌, ◌*◌, ◌<◌, ◌≤◌, ◌==◌, Bool, true, false, if◌then◌else◌, List, [], ◌∷◌, ◌++◌, length, reverse, slice_index_or, ap, sym, ◌∙◌, subst, refl, arith}
+use Rattle.std.proofs.Common.{◌≡◌, ℕ, zero, suc, ◌+◌, ◌*◌, ◌<◌, ◌≤◌, ◌==◌, if◌then◌else◌, List, [], ◌∷◌, ◌++◌, length, reverse, slice_index_or, ap, sym, ◌∙◌, subst, refl, arith}
 use Rattle.std.proofs.lemmas.Grind.{common_steps}
 use Rattle.std.specs.Prelude.{Option, Some, None}
 use Rattle.std.proofs.lemmas.List.{reverse-append}
+use Rattle.std.proofs.lemmas.Bool.{cond-true}
 use mathlib.Core.Option.{some, some-injective, some-ne-none}
 use lib.ListN.{get_elem?}
 use Rattle.ocr_mail.specs.Mail.{Has}
@@ -14,17 +15,11 @@ use Rattle.ocr_rule.specs.Sums.{weigh, one_at}
 use Rattle.ocr_tests_turns.specs.declared.toy.Entry.{Entry}
 use Rattle.ocr_tests_turns.specs.declared.toy.Entry.TheVariants.{Add, Stop}
 use Rattle.ocr_tests_turns.specs.Toy.{counter_at, legal, part, meaning}
+use Rattle.ocr_base.proofs.Booleans.{same}
 
 pub first_has : (xs owed : List (ℕ × ℕ × ℕ)) → xs ≡ owed → 0 < length xs → Has (Some ((slice_index_or xs 0 (0, 0, 0)).0, (slice_index_or xs 0 (0, 0, 0)).1)) owed
 first_has [] owed same filled = absurd (omega (arith, filled))
 first_has (x ∷ xs) owed same filled = (0, x.2, ap (λ l. get_elem? l 0) (sym same))
-
-same_is : (p : ℕ) → (p == p) ≡ true
-same_is p = grind arith
-
-when : {A : Type 0} (b : Bool) (x y : A) → b ≡ true → (if b then x else y) ≡ x
-when true x y is = refl
-when false x y is = absurd (cc is)
 
 one_part : (y x k p q : ℕ) → get_elem? {A = ℕ × ℕ} ((q, y) ∷ []) k ≡ some (p, x) → ◌≡◌ {A = ℕ × ℕ} (q, y) (p, x)
 one_part y x zero p q at = some-injective (q, y) (p, x) at
@@ -35,7 +30,7 @@ legal_add : (t : Terms ℕ) (v : View ℕ Entry ℕ ℕ ℕ) (p found n : ℕ) (
 unfolding part legal
 legal_add t v p found n d least most are J goes fits =
     let was : part t.setting.value t.limit J p ≡ found = fits.parts 0 p found (ap (λ ps. get_elem? ps 0) are) in
-    let now : part t.setting.value t.limit (J ++ Add p found n d ∷ []) p ≡ found + n = ap (λ l. counter_at l p) (reverse-append J (Add p found n d ∷ [])) ∙ (when (p == p) (counter_at (reverse J) p + n) (counter_at (reverse J) p) (same_is p) ∙ ap (λ x. x + n) was) in
+    let now : part t.setting.value t.limit (J ++ Add p found n d ∷ []) p ≡ found + n = ap (λ l. counter_at l p) (reverse-append J (Add p found n d ∷ [])) ∙ (cond-true (p == p) (counter_at (reverse J) p + n) (counter_at (reverse J) p) (same p) ∙ ap (λ x. x + n) was) in
     record {
       legal = (least, most, was);
       parts = λ k q x at. let same = one_part (found + n) x k q p at in ap (λ (z : ℕ × ℕ). part t.setting.value t.limit (J ++ Add p found n d ∷ []) z.0) (sym same) ∙ (now ∙ ap (λ (z : ℕ × ℕ). z.1) same);
@@ -74,7 +69,7 @@ may_add t v p found n after d ps ms least most are light has changed sum sent =
 
 -- the part that was taken is the one at hand
 pub taken_part : (p x found : ℕ) → (if p == p then Some (Some x) else None) ≡ Some (Some found) → x ≡ found
-taken_part p x found at = grind (arith, common_steps, at, same_is p)
+taken_part p x found at = grind (arith, common_steps, at, same p)
 
 pub may_stop : (t : Terms ℕ) (v : View ℕ Entry ℕ ℕ ℕ) → MayClose meaning t v Stop []
 unfolding legal

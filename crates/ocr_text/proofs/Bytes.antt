@@ -1,27 +1,12 @@
 -- Which kind a first byte tells.
-use Rattle.std.proofs.Common.{◌≡◌, ◌≤◌, ℕ, List, [], ◌∷◌, Bool, true, false, ◌||◌, ◌&&◌, ◌==◌, nat_le, nat_lt, cond, refl, sym, ap, subst, ◌∙◌, Option, Some, None, arith, inl, inr, ◌⊎◌}
+use Rattle.std.proofs.Common.{◌≡◌, ◌≤◌, ℕ, List, [], ◌∷◌, Bool, true, false, ◌||◌, ◌&&◌, ◌==◌, nat_le, nat_lt, cond, refl, sym, ap, subst, ◌∙◌, Option, Some, None, arith, inl, inr}
 use Rattle.std.proofs.lemmas.Grind.{common_steps}
 use Rattle.std.specs.List.{list_any, list_all}
+use Rattle.std.proofs.lemmas.Bool.{and_parts, or_cases}
 use Rattle.ocr_text.specs.declared.token.TokenKind.{TokenKind}
 use Rattle.ocr_text.specs.declared.token.TokenKind.TheVariants as kind
 use Rattle.ocr_text.specs.Forms.{blanks, singles, is_blank, is_digit, is_letter, is_single, is_double, is_symbol, is_form}
 use Rattle.ocr_text.specs.Scan.{kind_at}
-
-pub and_left : (a b : Bool) → (a && b) ≡ true → a ≡ true
-and_left true b is = refl
-and_left false b is = cc
-
-pub and_right : (a b : Bool) → (a && b) ≡ true → b ≡ true
-and_right true b is = is
-and_right false b is = cc
-
-pub and_both : (a b : Bool) → a ≡ true → b ≡ true → (a && b) ≡ true
-and_both true b first second = second
-and_both false b first second = cc
-
-or_cases : (a b : Bool) → (a || b) ≡ true → (a ≡ true) ⊎ (b ≡ true)
-or_cases true b is = inl refl
-or_cases false b is = inr is
 
 pub equal_from : (a b : ℕ) → (a == b) ≡ true → a ≡ b
 equal_from a b is = grind (arith, common_steps)
@@ -37,8 +22,8 @@ pub each_listed : (test : ℕ → Bool) (bytes : List ℕ) (b : ℕ) → list_al
 each_listed test [] b all any = cc
 each_listed test (c ∷ cs) b all any =
     elim (or_cases (c == b) _ any) [
-      | inl here ↦ subst (λ (x : ℕ). test x ≡ true) (equal_from c b here) (and_left _ _ all)
-      | inr there ↦ each_listed test cs b (and_right (test c) _ all) there
+      | inl here ↦ subst (λ (x : ℕ). test x ≡ true) (equal_from c b here) (and_parts _ _ all).0
+      | inr there ↦ each_listed test cs b (and_parts (test c) _ all).1 there
     ]
 
 outside : (c low high b : ℕ) → low ≤ b → b ≤ high → (nat_lt c low || nat_lt high c) ≡ true → (c == b) ≡ false
@@ -48,11 +33,11 @@ outside c low high b from to is = grind (arith, common_steps)
 not_listed : (low high b : ℕ) (bytes : List ℕ) → low ≤ b → b ≤ high → list_all (λ c. nat_lt c low || nat_lt high c) bytes ≡ true → list_any (λ c. c == b) bytes ≡ false
 not_listed low high b [] from to all = refl
 not_listed low high b (c ∷ cs) from to all =
-    let other : (c == b) ≡ false = outside c low high b from to (and_left _ _ all) in
-    ap (λ (x : Bool). x || list_any (λ d. d == b) cs) other ∙ not_listed low high b cs from to (and_right (nat_lt c low || nat_lt high c) _ all)
+    let other : (c == b) ≡ false = outside c low high b from to (and_parts _ _ all).0 in
+    ap (λ (x : Bool). x || list_any (λ d. d == b) cs) other ∙ not_listed low high b cs from to (and_parts (nat_lt c low || nat_lt high c) _ all).1
 
 digit_range : (b : ℕ) → is_digit b ≡ true → (48 ≤ b) × (b ≤ 57)
-digit_range b is = (le_from 48 b (and_left _ _ is), le_from b 57 (and_right (nat_le 48 b) _ is))
+digit_range b is = (le_from 48 b (and_parts _ _ is).0, le_from b 57 (and_parts (nat_le 48 b) _ is).1)
 
 abbrev chain : Bool → Bool → Bool → Bool → Bool → Option TokenKind
 chain x1 x2 x3 x4 x5 = cond x1 (Some kind.Blank) (cond x2 (Some kind.Comment) (cond x3 (Some kind.Number) (cond x4 (Some kind.Name) (cond x5 (Some kind.Symbol) None))))
@@ -66,7 +51,7 @@ begins kind.Name b = is_letter b
 begins kind.Symbol b = is_single b
 
 -- the kind of a form is told by its first byte
-kind_blank : (b : ℕ) → is_blank b ≡ true → kind_at b ≡ Some kind.Blank
+pub kind_blank : (b : ℕ) → is_blank b ≡ true → kind_at b ≡ Some kind.Blank
 kind_blank b is = ap (λ (x : Bool). chain x (b == 35) (is_digit b) (is_letter b) (is_single b)) is
 
 kind_comment : (b : ℕ) → (b == 35) ≡ true → kind_at b ≡ Some kind.Comment
@@ -117,8 +102,8 @@ kind_single b is = symbol_kind (kind_at b) (each_listed (λ c. is_symbol_kind (k
 single_first : (a b : ℕ) → is_double a b ≡ true → is_single a ≡ true
 single_first a b is =
     elim (or_cases (list_any (λ c. c == a) (33 ∷ 60 ∷ 61 ∷ 62 ∷ []) && (b == 61)) _ is) [
-      | inl equals ↦ each_listed is_single (33 ∷ 60 ∷ 61 ∷ 62 ∷ []) a refl (and_left _ _ equals)
-      | inr shift ↦ each_listed is_single (60 ∷ 62 ∷ []) a refl (and_left _ _ shift)
+      | inl equals ↦ each_listed is_single (33 ∷ 60 ∷ 61 ∷ 62 ∷ []) a refl (and_parts _ _ equals).0
+      | inr shift ↦ each_listed is_single (60 ∷ 62 ∷ []) a refl (and_parts _ _ shift).0
     ]
 
 symbol_first : (b : ℕ) (bs : List ℕ) → is_symbol (b ∷ bs) ≡ true → is_single b ≡ true
@@ -127,10 +112,10 @@ symbol_first b (c ∷ []) is = single_first b c is
 symbol_first b (c ∷ d ∷ rest) is = cc
 
 pub first_byte : (k : TokenKind) (b : ℕ) (bs : List ℕ) → is_form k (b ∷ bs) ≡ true → kind_at b ≡ Some k
-first_byte kind.Blank b bs is = kind_blank b (and_left _ _ is)
-first_byte kind.Comment b bs is = kind_comment b (and_left _ _ is)
-first_byte kind.Number b bs is = kind_number b (and_left _ _ is)
-first_byte kind.Name b bs is = kind_name b (and_left _ _ is)
+first_byte kind.Blank b bs is = kind_blank b (and_parts _ _ is).0
+first_byte kind.Comment b bs is = kind_comment b (and_parts _ _ is).0
+first_byte kind.Number b bs is = kind_number b (and_parts _ _ is).0
+first_byte kind.Name b bs is = kind_name b (and_parts _ _ is).0
 first_byte kind.Symbol b bs is = kind_single b (symbol_first b bs is)
 
 abbrev test_of : TokenKind → Bool → Bool → Bool → Bool → Bool → Bool
@@ -140,7 +125,7 @@ test_of kind.Number x1 x2 x3 x4 x5 = x3
 test_of kind.Name x1 x2 x3 x4 x5 = x4
 test_of kind.Symbol x1 x2 x3 x4 x5 = x5
 
-some_is : (a b : TokenKind) → Some a ≡ Some b → a ≡ b
+pub some_is : (a b : TokenKind) → Some a ≡ Some b → a ≡ b
 some_is a b is = cc
 
 chain_test : (x1 x2 x3 x4 x5 : Bool) (k : TokenKind) → chain x1 x2 x3 x4 x5 ≡ Some k → test_of k x1 x2 x3 x4 x5 ≡ true

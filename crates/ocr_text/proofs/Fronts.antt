@@ -1,10 +1,11 @@
 -- The token at the front of some bytes.
 use Rattle.std.proofs.Common.{◌≡◌, ◌≤◌, ◌<◌, ◌+◌, ℕ, zero, suc, List, [], ◌∷◌, Bool, true, false, ◌==◌, cond, refl, sym, subst, ◌∙◌, Some, arith, length, take}
+use Rattle.std.proofs.lemmas.Bool.{and_parts, and_from}
 use Rattle.ocr_text.specs.declared.token.TokenKind.{TokenKind}
 use Rattle.ocr_text.specs.declared.token.TokenKind.TheVariants as kind
 use Rattle.ocr_text.specs.Forms.{is_form, is_double, is_symbol}
 use Rattle.ocr_text.specs.Scan.{kind_at, goes_on, second_of, rest_of}
-use Rattle.ocr_text.proofs.Bytes.{first_byte, begins_is, and_both, and_right}
+use Rattle.ocr_text.proofs.Bytes.{first_byte, begins_is, some_is}
 use Rattle.ocr_text.proofs.Runs.{run_all, run_within, run_most}
 
 -- the first n bytes are the longest match of any kind, and it is of this kind
@@ -13,9 +14,6 @@ pub record IsFront (bytes : List ℕ) (k : TokenKind) (n : ℕ) : Type 0 where
   pub within : n ≤ length bytes
   pub form : is_form k (take n bytes) ≡ true
   pub longest : (other : TokenKind) (m : ℕ) → m ≤ length bytes → is_form other (take m bytes) ≡ true → m ≤ n
-
-some_is : (a b : TokenKind) → Some a ≡ Some b → a ≡ b
-some_is a b is = cc
 
 bound : (x : Bool) (bs : List ℕ) → cond x 1 0 ≤ suc (length bs)
 bound true bs = omega arith
@@ -41,10 +39,10 @@ symbol_form a [] single = single
 symbol_form a (b ∷ bs) single = symbol_one a b bs (is_double a b) refl single
 
 rest_form : (k : TokenKind) (b : ℕ) (bs : List ℕ) → kind_at b ≡ Some k → is_form k (b ∷ take (rest_of k b bs) bs) ≡ true
-rest_form kind.Blank b bs is = and_both _ _ (begins_is b kind.Blank is) (run_all (goes_on kind.Blank) bs)
-rest_form kind.Comment b bs is = and_both _ _ (begins_is b kind.Comment is) (run_all (goes_on kind.Comment) bs)
-rest_form kind.Number b bs is = and_both _ _ (begins_is b kind.Number is) (run_all (goes_on kind.Number) bs)
-rest_form kind.Name b bs is = and_both _ _ (begins_is b kind.Name is) (run_all (goes_on kind.Name) bs)
+rest_form kind.Blank b bs is = and_from _ _ (begins_is b kind.Blank is) (run_all (goes_on kind.Blank) bs)
+rest_form kind.Comment b bs is = and_from _ _ (begins_is b kind.Comment is) (run_all (goes_on kind.Comment) bs)
+rest_form kind.Number b bs is = and_from _ _ (begins_is b kind.Number is) (run_all (goes_on kind.Number) bs)
+rest_form kind.Name b bs is = and_from _ _ (begins_is b kind.Name is) (run_all (goes_on kind.Name) bs)
 rest_form kind.Symbol b bs is = symbol_form b bs (begins_is b kind.Symbol is)
 
 second_most : (a : ℕ) (bs : List ℕ) (m : ℕ) → m ≤ length bs → is_symbol (a ∷ take m bs) ≡ true → m ≤ second_of a bs
@@ -55,10 +53,10 @@ second_most a (b ∷ []) (suc (suc m)) within form = absurd (omega (arith, withi
 second_most a (b ∷ c ∷ bs) (suc (suc m)) within form = cc
 
 rest_most : (k : TokenKind) (b : ℕ) (bs : List ℕ) (m : ℕ) → m ≤ length bs → is_form k (b ∷ take m bs) ≡ true → m ≤ rest_of k b bs
-rest_most kind.Blank b bs m within form = run_most (goes_on kind.Blank) bs m within (and_right _ _ form)
-rest_most kind.Comment b bs m within form = run_most (goes_on kind.Comment) bs m within (and_right (b == 35) _ form)
-rest_most kind.Number b bs m within form = run_most (goes_on kind.Number) bs m within (and_right _ _ form)
-rest_most kind.Name b bs m within form = run_most (goes_on kind.Name) bs m within (and_right _ _ form)
+rest_most kind.Blank b bs m within form = run_most (goes_on kind.Blank) bs m within (and_parts _ _ form).1
+rest_most kind.Comment b bs m within form = run_most (goes_on kind.Comment) bs m within (and_parts (b == 35) _ form).1
+rest_most kind.Number b bs m within form = run_most (goes_on kind.Number) bs m within (and_parts _ _ form).1
+rest_most kind.Name b bs m within form = run_most (goes_on kind.Name) bs m within (and_parts _ _ form).1
 rest_most kind.Symbol b bs m within form = second_most b bs m within form
 
 pub no_form : (k : TokenKind) → is_form k [] ≡ true → ⊥

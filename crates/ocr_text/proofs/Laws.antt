@@ -13,10 +13,10 @@ use Rattle.ocr_text.proofs.Fronts.{IsFront, front_of, no_form}
 
 -- ---- the front of some bytes
 
-pair_is : (a b : TokenKind × ℕ) → Some a ≡ Some b → a ≡ b
+pub pair_is : (a b : TokenKind × ℕ) → Some a ≡ Some b → a ≡ b
 pair_is a b is = cc
 
-none_some : {x : TokenKind × ℕ} → None ≡ Some x → ⊥
+pub none_some : {x : TokenKind × ℕ} → None ≡ Some x → ⊥
 none_some is = cc
 
 as_front : (o : Option TokenKind) (b : ℕ) (bs : List ℕ) (k : TokenKind) (n : ℕ) → kind_at b ≡ o → found_as o b bs ≡ Some (k, n) → IsFront (b ∷ bs) k n

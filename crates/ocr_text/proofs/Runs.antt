@@ -1,13 +1,13 @@
 -- Runs of bytes that pass a test.
 use Rattle.std.proofs.Common.{◌≡◌, ◌≤◌, ◌+◌, ℕ, zero, suc, List, [], ◌∷◌, Bool, true, false, cond, refl, sym, ap, subst, arith, length, take}
 use Rattle.std.specs.List.{list_all}
+use Rattle.std.proofs.lemmas.Bool.{and_parts, and_from}
 use Rattle.ocr_text.specs.Scan.{run_of}
-use Rattle.ocr_text.proofs.Bytes.{and_left, and_right, and_both}
 
 all_of_one : (test : ℕ → Bool) (b : ℕ) (bs : List ℕ) (x : Bool) → test b ≡ x → list_all test (take (run_of test bs) bs) ≡ true → list_all test (take (cond x (run_of test bs + 1) 0) (b ∷ bs)) ≡ true
 all_of_one test b bs true is rest =
     let more : suc (run_of test bs) ≡ run_of test bs + 1 = omega arith in
-    subst (λ (n : ℕ). list_all test (take n (b ∷ bs)) ≡ true) more (and_both (test b) _ is rest)
+    subst (λ (n : ℕ). list_all test (take n (b ∷ bs)) ≡ true) more (and_from (test b) _ is rest)
 all_of_one test b bs false is rest = refl
 
 -- the bytes of a run pass
@@ -28,6 +28,6 @@ pub run_most : (test : ℕ → Bool) (bs : List ℕ) (m : ℕ) → m ≤ length 
 run_most test bs zero within all = omega arith
 run_most test [] (suc m) within all = absurd (omega (arith, within))
 run_most test (b ∷ bs) (suc m) within all =
-    let rest : m ≤ run_of test bs = run_most test bs m (omega arith) (and_right (test b) _ all) in
-    let one : cond (test b) (run_of test bs + 1) 0 ≡ run_of test bs + 1 = ap (λ (x : Bool). cond x (run_of test bs + 1) 0) (and_left _ _ all) in
+    let rest : m ≤ run_of test bs = run_most test bs m (omega arith) (and_parts (test b) _ all).1 in
+    let one : cond (test b) (run_of test bs + 1) 0 ≡ run_of test bs + 1 = ap (λ (x : Bool). cond x (run_of test bs + 1) 0) (and_parts _ _ all).0 in
     subst (λ (n : ℕ). suc m ≤ n) (sym one) (omega (arith, rest))

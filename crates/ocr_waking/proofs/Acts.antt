@@ -1,9 +1,9 @@
 -- An EDT may go on, by what a clerk keeps of it and of the block that it acquires next.
-use Rattle.std.proofs.Common.{◌≡◌, ◌⊎◌, inl, inr, ⊎_elim, ℕ, ◌+◌, ◌-◌, ◌≤◌, ◌==◌, ◌||◌, ◌&&◌, Bool, true, false, if◌then◌else◌, List, [], length, reverse, Some, refl, ap, sym, ◌∙◌, subst, arith}
+use Rattle.std.proofs.Common.{◌≡◌, ◌⊎◌, ⊎_elim, ℕ, ◌+◌, ◌-◌, ◌≤◌, ◌==◌, ◌||◌, ◌&&◌, Bool, true, false, if◌then◌else◌, List, [], length, reverse, Some, refl, ap, sym, ◌∙◌, subst, arith}
 use Rattle.std.specs.Prelude.{slice_index_or}
-use Rattle.std.proofs.lemmas.Bool.{eqb-true}
+use Rattle.std.proofs.lemmas.Bool.{eqb-true, or_cases}
 use Rattle.std.proofs.lemmas.Grind.{common_steps}
-use mathlib.Core.Option.{some, some-ne-none}
+use mathlib.Core.Option.{some}
 use lib.ListN.{get_elem?}
 use Rattle.ocr_base.proofs.Booleans.{same as number_same}
 use Rattle.ocr_acquire.specs.declared.Mode.{Mode}
@@ -27,11 +27,11 @@ use Rattle.ocr_standing.specs.Kept.{IsFilled, plan_from}
 use Rattle.ocr_standing.proofs.Filled.{filled_law}
 use Rattle.ocr_facts.specs.Clerks.{AreAtHand, MayEnter, OcrTerms, OcrView, of_terms}
 use Rattle.ocr_facts.specs.Ocr.{meaning, stands}
-use Rattle.ocr_facts.specs.declared.fact.Fact.{Fact}
 use Rattle.ocr_facts.specs.declared.fact.Fact.TheVariants.{IsSet}
-use Rattle.ocr_rule.specs.Rule.{FactsOf, Fits}
+use Rattle.ocr_rule.specs.Rule.{Fits}
 use Rattle.ocr_clerks.specs.Work.{KnowsPayloads, ready_with}
 use Rattle.ocr_clerks.proofs.Seen.{face_is}
+use Rattle.ocr_facts.proofs.Owed.{no_facts}
 
 -- THE SLOTS are set, whatever the history is, and this is the plan
 pub filled_known : (t : OcrTerms) (v : OcrView) (edt k : ℕ) (slots : List Slot) (payloads : List ℕ) → is_within t.limit edt ≡ true → get_elem? v.parts k ≡ some (edt, part.Edt slots) → length payloads ≡ length slots → KnowsPayloads v edt payloads
@@ -40,14 +40,6 @@ unfolding stands
 filled_known t v edt k slots payloads within kept count knows J fits =
     filled_law (of_terms t) (reverse J) edt slots payloads (face_is t J v k edt (part.Edt slots) fits within kept) count
     (λ i lt. let at = knows i lt in (fits.facts at.0 (IsSet edt i (slice_index_or payloads i 0)) at.1).payload)
-
-no_facts : (P : Fact → Type 0) → FactsOf P []
-no_facts P k f at = absurd (some-ne-none f (sym at))
-
--- what an entry names that takes an EDT to a block
-either : (a b : Bool) → (a || b) ≡ true → (a ≡ true) ⊎ (b ≡ true)
-either true b is = inl refl
-either false b is = inr is
 
 back_place : (limit n u : ℕ) → is_within limit (n - limit) ≡ true → u ≡ n - limit → n ≡ limit + u
 back_place limit n u on is = let low : 1 ≤ n - limit = grind (arith, on, common_steps) in omega (arith, low, is)
@@ -86,7 +78,7 @@ module _ (t : OcrTerms) (v : OcrView) (edt d k : ℕ) (slots : List Slot) (paylo
     | true ↦ λ _ named. ⊎_elim
         (λ is. subst (λ (q : ℕ). has hand q ≡ true) (eqb-true edt n is) has_face)
         (λ is. subst (λ (q : ℕ). has hand q ≡ true) (eqb-true d n is) has_block)
-        (either (edt == n) (d == n) (sym (faces n) ∙ named))
+        (or_cases (edt == n) (d == n) (sym (faces n) ∙ named))
     | false ↦ λ _ named.
         let r = both (is_within t.limit (n - t.limit)) (on_core_of e (n - t.limit)) named in
         let same : edt ≡ n - t.limit = eqb-true edt (n - t.limit) (sym (cores (n - t.limit)) ∙ r.1) in

@@ -1,6 +1,6 @@
 -- What a claim tells of an EDT, by the parts that are kept.
-use Rattle.std.proofs.Common.{◌≡◌, ⊎_elim, ℕ, suc, ◌+◌, ◌≤◌, ◌==◌, ◌||◌, Bool, true, false, if◌then◌else◌, nat_lt, List, [], ◌∷◌, reverse, Option, Some, None, is_some, refl, ap, sym, ◌∙◌, subst, arith}
-use Rattle.std.proofs.lemmas.Bool.{eqb-true}
+use Rattle.std.proofs.Common.{◌≡◌, ⊎_elim, ℕ, suc, ◌+◌, ◌≤◌, ◌==◌, Bool, true, false, if◌then◌else◌, nat_lt, List, [], ◌∷◌, reverse, Option, Some, None, is_some, refl, ap, sym, ◌∙◌, subst, arith}
+use Rattle.std.proofs.lemmas.Bool.{eqb-true, or_parts, false_from_ne_true, true_from_ne_false}
 use Rattle.std.proofs.lemmas.List.{reverse-append, reverse-reverse}
 use mathlib.Core.Option.{some}
 use lib.ListN.{get_elem?}
@@ -26,7 +26,6 @@ use Rattle.ocr_parts.specs.Taken.{as_core, as_face, is_within, place_of, seen}
 use Rattle.ocr_parts.proofs.Within.{within_law}
 use Rattle.ocr_quiet.specs.Marks.{mark, mark_in}
 use Rattle.ocr_quiet.specs.Waits.{AreBlocks, queue_on, rest_in, rest_on}
-use Rattle.ocr_quiet.proofs.Choices.{off_from, on_from, or_left, or_right}
 use Rattle.ocr_quiet.proofs.Given.{wanted_law}
 use Rattle.ocr_quiet.proofs.Stages.{told_law}
 use Rattle.ocr_standing.specs.Lasting.{is_own}
@@ -42,11 +41,12 @@ use Rattle.ocr_rule.specs.Words.{Knows, SeesReady}
 use Rattle.ocr_rule.proofs.Totals.{log_none, picked_append}
 use Rattle.ocr_clerks.proofs.Seen.{core_place, face_is}
 use Rattle.ocr_waking.specs.Meeting.{IsOtherObject, IsUnbegun}
+use Rattle.ocr_parking.proofs.Unstarted.{not_among}
 
 -- LISTS
 no_start : (es : List Entry) (edt : ℕ) → is_among (λ e. is_own e edt) es ≡ false → is_among (λ e. starts e edt) es ≡ false
 no_start [] edt none = refl
-no_start (e ∷ es) edt none = rw (unbegun e (or_left (is_own e edt) (is_among (λ x. is_own x edt) es) none)) (no_start es edt (or_right (is_own e edt) (is_among (λ x. is_own x edt) es) none))
+no_start (e ∷ es) edt none = rw (unbegun e (or_parts (is_own e edt) (is_among (λ x. is_own x edt) es) none).0) (no_start es edt (or_parts (is_own e edt) (is_among (λ x. is_own x edt) es) none).1)
   where
     unbegun : (e : Entry) → is_own e edt ≡ false → starts e edt ≡ false
     unbegun (Start u) is = is
@@ -59,24 +59,17 @@ there p (y ∷ ps) some_of = elim (p == y.0) as (λ b. (p == y.0) ≡ b → 1 �
   | false ↦ λ _ least. let r = there p ps (omega (arith, least)) in (suc r.0, r.1, r.2)
 ] refl some_of
 
-none_among : (test : Entry → Bool) (xs : List Entry) → picked test xs ≡ [] → is_among test xs ≡ false
-none_among test [] none = refl
-none_among test (x ∷ xs) none = elim (test x) as (λ b. (if b then x ∷ picked test xs else picked test xs) ≡ [] → (b || is_among test xs) ≡ false) [
-  | true ↦ λ wrong. cc wrong
-  | false ↦ λ rest. none_among test xs rest
-] none
-
 unpicked : (test : Entry → Bool) (past : List Entry) → is_among test past ≡ false → picked test (reverse past) ≡ []
 unpicked test [] none = refl
 unpicked test (e ∷ past) none =
-    let off = or_left (test e) (is_among test past) none in let rest = or_right (test e) (is_among test past) none in
+    let off = (or_parts (test e) (is_among test past) none).0 in let rest = (or_parts (test e) (is_among test past) none).1 in
     ap (picked test) (reverse-append (e ∷ []) past) ∙ (picked_append test (reverse past) (e ∷ []) ∙ rw (unpicked test past rest, off) refl)
 
 -- NO LOG has the start of an EDT that has not started
 unstarted_in : (t : OcrTerms) (J : List Entry) (log : List (ℕ × Entry)) (edt : ℕ) → LogOf J log → is_started meaning t (reverse J) edt ≡ false → is_among (λ e. starts e edt) (entries log) ≡ false
 unstarted_in t J log edt logged off =
     let none : picked (λ e. starts e edt) J ≡ [] = subst (λ (K : List Entry). picked (λ e. starts e edt) K ≡ []) (reverse-reverse J) (unpicked (λ e. starts e edt) (reverse J) off) in
-    none_among (λ e. starts e edt) (entries log) (log_none (λ e. starts e edt) J log logged none)
+    not_among (λ e. starts e edt) (entries log) (log_none (λ e. starts e edt) J log logged none)
 
 pub none_begun : (t : OcrTerms) (J : List Entry) (v : OcrView) (edt : ℕ) → Fits meaning t J v → is_started meaning t (reverse J) edt ≡ false → (is_among (λ e. starts e edt) (entries v.log) ≡ false) × IsUnbegun v edt
 none_begun t J v edt fits off = (unstarted_in t J v.log edt fits.log off, λ j l at. unstarted_in t J l edt (fits.joined j l at) off)
@@ -86,7 +79,7 @@ none_own log edt none = no_start (entries log) edt none
 
 -- A claimed EDT whose start stands in no log of the view has not started
 pub unstarted_is : (t : OcrTerms) (J : List Entry) (v : OcrView) (edt : ℕ) → Claimed meaning t J v edt → is_among (λ e. starts e edt) (entries v.log) ≡ false → IsUnbegun v edt → is_started meaning t (reverse J) edt ≡ false
-unstarted_is t J v edt claimed here joined = off_from (is_started meaning t (reverse J) edt) (λ on. ⊎_elim (λ a. cc (a, here)) (λ b. let none = joined b.0 b.1 b.2 in let some_of = b.3 in cc (some_of, none)) (claimed.begun on))
+unstarted_is t J v edt claimed here joined = false_from_ne_true (is_started meaning t (reverse J) edt) (λ on. ⊎_elim (λ a. cc (a, here)) (λ b. let none = joined b.0 b.1 b.2 in let some_of = b.3 in cc (some_of, none)) (claimed.begun on))
 
 -- NO PART that the view keeps has the EDT in its queue
 abbrev pub IsUnqueued : OcrTerms → OcrView → ℕ → Type 0
@@ -109,7 +102,7 @@ awake_by t J v edt fits claimed off unqueued = by_case (awaited meaning t (rever
         let s = of_terms t in let past = reverse J in
         let run = run_is t.setting.value t.limit J fits.run in
         let queued : is_some (mode_in edt (queue_on ((parts_of s past).face p))) ≡ true = (waits_is t past edt fits.limits run).told p is in
-        let within : is_within t.limit p ≡ true = on_from (is_within t.limit p) (λ outside. let none : is_some (mode_in edt (queue_on ((parts_of s past).face p))) ≡ false = ap (λ (x : Part). is_some (mode_in edt (queue_on x))) ((within_law s past fits.limits run).faces p outside) in cc (queued, none)) in
+        let within : is_within t.limit p ≡ true = true_from_ne_false (is_within t.limit p) (λ outside. let none : is_some (mode_in edt (queue_on ((parts_of s past).face p))) ≡ false = ap (λ (x : Part). is_some (mode_in edt (queue_on x))) ((within_law s past fits.limits run).faces p outside) in cc (queued, none)) in
         let at = there p v.parts (claimed.tied p (tied_awaited t past edt p off is)) in
         let none : is_some (mode_in edt (queue_on (as_face at.1))) ≡ false = unqueued at.0 p at.1 within at.2 in
         let same : is_some (mode_in edt (queue_on (as_face at.1))) ≡ true = ap (λ (x : Part). is_some (mode_in edt (queue_on x))) (sym (face_is t J v at.0 p at.1 fits within at.2)) ∙ queued in
@@ -117,7 +110,7 @@ awake_by t J v edt fits claimed off unqueued = by_case (awaited meaning t (rever
 
 -- and the other way
 pub unqueued_by : (t : OcrTerms) (J : List Entry) (v : OcrView) (edt : ℕ) → Fits meaning t J v → awaited meaning t (reverse J) edt ≡ None → IsUnqueued t v edt
-unqueued_by t J v edt fits awake k g x within at = off_from (is_some (mode_in edt (queue_on (as_face x)))) (λ on.
+unqueued_by t J v edt fits awake k g x within at = false_from_ne_true (is_some (mode_in edt (queue_on (as_face x)))) (λ on.
     let s = of_terms t in let past = reverse J in
     let run = run_is t.setting.value t.limit J fits.run in
     let queued : is_some (mode_in edt (queue_on ((parts_of s past).face g))) ≡ true = ap (λ (y : Part). is_some (mode_in edt (queue_on y))) (face_is t J v k g x fits within at) ∙ on in
@@ -169,7 +162,7 @@ module _ (t : OcrTerms) (J : List Entry) (v : OcrView) (edt : ℕ) (fits : Fits 
   -- a block is no EDT
   pub other_object : (d : ℕ) → is_block ((parts_of (of_terms t) past).face d) ≡ true → IsOtherObject t edt d
   other_object d is = (
-    on_from (is_within t.limit d) (λ outside. let none : is_block ((parts_of (of_terms t) past).face d) ≡ false = ap is_block ((within_law (of_terms t) past fits.limits run).faces d outside) in cc (is, none)),
+    true_from_ne_false (is_within t.limit d) (λ outside. let none : is_block ((parts_of (of_terms t) past).face d) ≡ false = ap is_block ((within_law (of_terms t) past fits.limits run).faces d outside) in cc (is, none)),
     λ same. let none : is_block ((parts_of (of_terms t) past).face d) ≡ false = subst (λ (n : ℕ). is_block ((parts_of (of_terms t) past).face n) ≡ false) same (ap is_block face_slots.1) in cc (is, none),
   )
 

@@ -32,7 +32,7 @@ use Rattle.ocr_rule.specs.Words.{SeesReady}
 use Rattle.ocr_clerks.specs.Entering.{OcrKnown}
 use Rattle.ocr_clerks.specs.Work.{AtWork, HasTakenOn, KeepsFaces, OcrTable, Stays, Took}
 use Rattle.ocr_clerks.proofs.Hands.{took_more}
-use Rattle.ocr_clerks.proofs.Seen.{core_apart, within_bounds}
+use Rattle.ocr_clerks.proofs.Seen.{core_apart}
 use Rattle.ocr_parking.proofs.Parked.{has_claim}
 use Rattle.ocr_parking.proofs.Unstarted.{unstarted_log}
 use Rattle.ocr_waking.specs.Meeting.{HasThree, HoldsCore, IsUnbegun, WantsNext, WantsOther, pair_of}
@@ -40,6 +40,7 @@ use Rattle.ocr_waking.specs.Rounds.{GaveFaces, HasWaited, IsWanted, IsWantedIf, 
 use Rattle.ocr_waking.specs.Waking.{Learns}
 use Rattle.ocr_waking.proofs.Awake.{IsReadyIn, IsUnqueued, early, edt_core, next_other, none_begun, none_own, ready_in, sees_ready, unqueued_by}
 use Rattle.ocr_waking.proofs.Taking.{taken_on_still, took_two}
+use Rattle.ocr_facts.proofs.Places.{within_is}
 
 -- A HISTORY that fits the view, in which the slots of the EDT are set
 pub record Shown (t : OcrTerms) (v : OcrView) (edt : ℕ) : Type 0 where
@@ -203,7 +204,7 @@ holds_given t edt old new keeps shown gave = record {
 
 -- the places of two faces, behind the core
 pub face_other : (limit edt g : ℕ) → is_within limit edt ≡ true → is_within limit g ≡ true → (g ≢ limit + edt) × (g ≤ limit + limit)
-face_other limit edt g wt wg = (λ is. core_apart limit edt g wt wg (sym is), let b = (within_bounds limit g wg).1 in omega (arith, b))
+face_other limit edt g wt wg = (λ is. core_apart limit edt g wt wg (sym is), let b = (within_is limit g wg).1 in omega (arith, b))
 
 pub list_two : (n m p q : ℕ) → (p ≢ n) × (p ≤ m) → (q ≢ n) × (q ≤ m) → All (λ k. (k ≢ n) × (k ≤ m)) (p ∷ q ∷ [])
 list_two n m p q one two =

@@ -34,11 +34,11 @@ use Rattle.ocr_clerks.proofs.Seen.{core_is, core_place, face_is}
 use Rattle.ocr_waking.specs.Meeting.{KnowsThree, pair_of}
 use Rattle.ocr_waking.specs.Waking.{Learns}
 use Rattle.ocr_waking.proofs.Standing.{Ready, face_at, other_at, sees_ready}
-use Rattle.ocr_waking.proofs.Three.{apart_one}
+use Rattle.ocr_rule.proofs.Totals.{one_else}
 
 -- a place that is kept among three
 one_of : (p a b c : ℕ) → 1 ≤ one_at p a + (one_at p b + (one_at p c + 0)) → (p ≢ a) → (p ≢ b) → (p ≢ c) → ⊥
-one_of p a b c kept pa pb pc = let x = apart_one p a pa in let y = apart_one p b pb in let z = apart_one p c pc in absurd (omega (arith, kept, x, y, z))
+one_of p a b c kept pa pb pc = let x = one_else p a pa in let y = one_else p b pb in let z = one_else p c pc in absurd (omega (arith, kept, x, y, z))
 
 weighed : (b : Bool) (p a t d : ℕ) (x y z : Part) → 1 ≤ weigh (one_at p) ((a, x) ∷ pair_of b t d y z) → 1 ≤ one_at p a + (one_at p t + (one_at p d + 0))
 weighed true p a t d x y z kept = omega (arith, kept)

@@ -22,7 +22,6 @@ use Rattle.ocr_parts.specs.Kinds.{core_progress, next_in, with_block}
 use Rattle.ocr_parts.specs.LegalOn.{IsRefused}
 use Rattle.ocr_parts.specs.Parts.{Parts}
 use Rattle.ocr_parts.specs.Taken.{as_face, is_within, look, parts_in}
-use Rattle.ocr_quiet.proofs.Standing.{push_own}
 use Rattle.ocr_standing.specs.Kept.{plan_from}
 use Rattle.ocr_standing.specs.Lasting.{is_own}
 use Rattle.ocr_facts.specs.Clerks.{OcrTerms, OcrView}
@@ -35,7 +34,7 @@ use Rattle.ocr_rule.specs.Words.{SeesReady}
 use Rattle.ocr_clerks.specs.Work.{AtWork, EntersKept, HasTakenOn, KeepsFaces, OcrTable, RunsNone, RunsOnly, Stays, ready_with}
 use Rattle.ocr_clerks.proofs.Going.{stays_still}
 use Rattle.ocr_clerks.proofs.Hands.{apart_is}
-use Rattle.ocr_clerks.proofs.Seen.{core_apart, within_bounds}
+use Rattle.ocr_clerks.proofs.Seen.{core_apart}
 use Rattle.ocr_parking.specs.Parking.{IsLetWait}
 use Rattle.ocr_waking.specs.Meeting.{CanAct, CarriesOut, IsUnbegun, WantsOther, pair_of}
 use Rattle.ocr_waking.specs.Rounds.{GaveFaces, HasWaited, IsAfter, hand_of, lets_wait, places_of, slots_on, two_places}
@@ -50,6 +49,8 @@ use Rattle.ocr_waking.proofs.Carries.{meets_now}
 use Rattle.ocr_waking.proofs.Holding.{KeepsCore, Shown, other_core, other_faces, shown_ready, shown_taken, still_unbegun, two_others, waited_after}
 use Rattle.ocr_waking.proofs.Taking.{core_found, face_found, two_items}
 use Rattle.ocr_waking.proofs.Three.{block_there}
+use Rattle.ocr_facts.proofs.Places.{within_is}
+use Rattle.ocr_parts.proofs.Blocks.{mode_added}
 
 pub pair_places : (b : Bool) (t d : ℕ) → keys (pair_of b t d part.Vacant part.Vacant) ≡ two_places b t d
 pair_places true t d = refl
@@ -121,10 +122,10 @@ three_items n p q (a ∷ rest) is =
     (a.1, r.0, r.1, (λ i. (first i, a.1) ∷ r.2 i))
 
 face_low : (limit g : ℕ) → is_within limit g ≡ true → g ≤ limit + limit
-face_low limit g is = let b = (within_bounds limit g is).1 in omega (arith, b)
+face_low limit g is = let b = (within_is limit g is).1 in omega (arith, b)
 
 core_low : (limit g : ℕ) → is_within limit g ≡ true → limit + g ≤ limit + limit
-core_low limit g is = let b = (within_bounds limit g is).1 in omega (arith, b)
+core_low limit g is = let b = (within_is limit g is).1 in omega (arith, b)
 
 all_low : (m n p q : ℕ) → n ≤ m → p ≤ m → q ≤ m → All (λ k. k ≤ m) (n ∷ p ∷ q ∷ [])
 all_low m n p q a b c =
@@ -178,7 +179,7 @@ module _ (t : OcrTerms) (edt d : ℕ) (first : Bool) (payloads : List ℕ) (h : 
   queue_is =
       let refused : IsRefused edt its.mode its.state = its.lets in
       ap (λ (q : List (ℕ × Mode)). is_some (mode_in edt q)) (refused_queue edt its.mode its.state refused)
-      ∙ ap (λ (o : Option Mode). is_some o) (push_own edt its.mode its.state.queue refused.newcomer.not_waiting)
+      ∙ ap (λ (o : Option Mode). is_some o) (mode_added edt its.mode its.state.queue refused.newcomer.not_waiting)
 
   face_now : (parts_in t.limit enters.later).face d ≡ part.Block (block_steps.after_ask its.state edt its.mode)
   face_now = ap (λ (g : Parts). g.face d) state_now ∙ waited_face

@@ -48,6 +48,7 @@ use Rattle.ocr_waking.specs.declared.acting.Act.{Act}
 use Rattle.ocr_waking.specs.declared.acting.Act.TheVariants as act
 use Rattle.ocr_waking.proofs.Acts.{filled_known}
 use Rattle.ocr_finish.specs.Scope.{ScopeCall}
+use Rattle.ocr_parts.proofs.Local.{block_weaker}
 
 -- WHAT IT FINDS. The block lets the EDT with this core do something
 abbrev pub AbleOn : Act → Part → Type 0
@@ -70,11 +71,6 @@ pub record MayGo (s : Setting) (past : History) (t : ℕ) : Type 0 where
   pub all_set : open_slots s past t ≡ []
   pub never : (d : ℕ) → IsQueued (parts_of s past) t d → ⊥
 
--- BY A LEGAL ENTRY
-on_block : (x : Part) (P Q : block.State → Type 0) → ((st : block.State) → P st → Q st) → IsBlock x P → IsBlock x Q
-on_block (part.Block st) P Q more is = more st is
-on_block other P Q more is = absurd is
-
 member_same : (x y : ℕ × Mode) → Some x ≡ Some y → x ≡ y
 member_same x y is = cc is
 
@@ -82,19 +78,19 @@ acquire_finds : (f : Parts) (members : List (ℕ × Mode)) (t b : ℕ) → IsAcq
 acquire_finds f members t b on d m next =
     let r = ready_at t members f in
     let same = member_same (b, next_mode_on r t) (d, m) (sym on.next ∙ next) in
-    on_block (f.face d) (IsTaken t m) (Lets t m (r.core t)) (λ st is. (act.Acquire, is, tt)) (subst (λ (x : ℕ × Mode). IsBlock (f.face x.0) (IsTaken t x.1)) same on.taken)
+    block_weaker (f.face d) (IsTaken t m) (Lets t m (r.core t)) (λ st is. (act.Acquire, is, tt)) (subst (λ (x : ℕ × Mode). IsBlock (f.face x.0) (IsTaken t x.1)) same on.taken)
 
 wait_finds : (f : Parts) (members : List (ℕ × Mode)) (t b : ℕ) → IsWaitOn (ready_at t members f) t b → FindsOn f members t
 wait_finds f members t b on d m next =
     let r = ready_at t members f in
     let same = member_same (b, next_mode_on r t) (d, m) (sym on.next ∙ next) in
-    on_block (f.face d) (IsRefused t m) (Lets t m (r.core t)) (λ st is. (act.Wait, is, on.acquiring)) (subst (λ (x : ℕ × Mode). IsBlock (f.face x.0) (IsRefused t x.1)) same on.refused)
+    block_weaker (f.face d) (IsRefused t m) (Lets t m (r.core t)) (λ st is. (act.Wait, is, on.acquiring)) (subst (λ (x : ℕ × Mode). IsBlock (f.face x.0) (IsRefused t x.1)) same on.refused)
 
 pass_finds : (f : Parts) (members : List (ℕ × Mode)) (t b : ℕ) → IsStaleOn (ready_at t members f) t b → FindsOn f members t
 pass_finds f members t b on d m next =
     let r = ready_at t members f in
     let same = member_same (b, next_mode_on r t) (d, m) (sym on.next ∙ next) in
-    on_block (f.face d) (λ st. block.is_gone st ≡ true) (Lets t m (r.core t)) (λ st is. (act.Pass, is, tt)) (subst (λ (x : ℕ × Mode). IsBlock (f.face x.0) (λ st. block.is_gone st ≡ true)) same on.gone)
+    block_weaker (f.face d) (λ st. block.is_gone st ≡ true) (Lets t m (r.core t)) (λ st is. (act.Pass, is, tt)) (subst (λ (x : ℕ × Mode). IsBlock (f.face x.0) (λ st. block.is_gone st ≡ true)) same on.gone)
 
 by_entry : (s : Setting) (past : History) (t : ℕ) (e : Entry) → IsWakingOf t e → IsLegal s past e → Finds s past t
 by_entry s past t (Acquire u b) is legal = acquire_finds (parts_of s past) (plan_of s past t) t b (subst (λ (n : ℕ). IsLegal s past (Acquire n b)) is legal).on_parts

@@ -18,6 +18,7 @@ use Rattle.ocr_rule.specs.Sums.{one_at, sum_of, weigh}
 use Rattle.ocr_clerks.proofs.Hands.{apart_is}
 use Rattle.ocr_clerks.proofs.Seen.{core_apart}
 use Rattle.ocr_waking.specs.Waking.{two_faces}
+use Rattle.ocr_rule.proofs.Totals.{one_else}
 
 off_core : (limit t u : ℕ) → (t == u) ≡ false → (limit + t == limit + u) ≡ false
 off_core limit t u off = grind (arith, common_steps)
@@ -60,16 +61,13 @@ placed_new p n (m ∷ ns) none = elim (nat_lt n m) as (λ b. nat_lt n m ≡ b �
       rw off (omega (arith, r))
 ] refl
 
-pub apart_one : (n m : ℕ) → n ≢ m → one_at n m ≡ 0
-apart_one n m off = rw (apart_is n m off) refl
-
 pub footprint_sum : (limit t d p : ℕ) → is_within limit t ≡ true → is_within limit d ≡ true → t ≢ d
     → sum_of (one_at p) (and_face limit t (and_face limit d (and_core limit t []))) ≡ one_at p t + (one_at p d + (one_at p (limit + t) + 0))
 footprint_sum limit t d p wt wd off =
-    let a : sum_of (one_at d) ((limit + t) ∷ []) ≡ 0 = let z = apart_one d (limit + t) (λ is. core_apart limit t d wt wd (sym is)) in omega (arith, z) in
+    let a : sum_of (one_at d) ((limit + t) ∷ []) ≡ 0 = let z = one_else d (limit + t) (λ is. core_apart limit t d wt wd (sym is)) in omega (arith, z) in
     let one = placed_new p d ((limit + t) ∷ []) a in
     let two = placed_new t d ((limit + t) ∷ []) a in
-    let b : sum_of (one_at t) (placed d ((limit + t) ∷ [])) ≡ 0 = let x = apart_one t d off in let y = apart_one t (limit + t) (λ is. core_apart limit t t wt wt (sym is)) in omega (arith, two, x, y) in
+    let b : sum_of (one_at t) (placed d ((limit + t) ∷ [])) ≡ 0 = let x = one_else t d off in let y = one_else t (limit + t) (λ is. core_apart limit t t wt wt (sym is)) in omega (arith, two, x, y) in
     let three = placed_new p t (placed d ((limit + t) ∷ [])) b in
     rw (wt, wd) (omega (arith, one, three))
 

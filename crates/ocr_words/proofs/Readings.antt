@@ -22,6 +22,7 @@ use Rattle.ocr_words.proofs.Pieces.{some_of}
 use Rattle.ocr_words.proofs.Whole.{Shows, filled}
 use Rattle.ocr_words.proofs.Complete.{ArePlain}
 use Rattle.std.proofs.Common.{drop, inl, inr}
+use Rattle.std.proofs.lemmas.Bool.{or_left, or_right}
 use Rattle.clap.specs.Simple.{App, is_simple, matches_of}
 use Rattle.clap.specs.Faults.{fault_of, is_simple_and_free}
 use Rattle.clap.specs.Kinds.{HasKind}
@@ -64,9 +65,6 @@ all_some (x ∷ xs) = refl
 
 no_flag : (name : Text) → is_in name option_names ≡ true → is_in name flag_names ≡ false
 no_flag name e = each (λ n. is_in n flag_names ≡ false) option_names name (refl, (refl, (refl, tt))) e
-
-disjoint : (n : Text) → is_in n option_names ≡ true → is_in n flag_names ≡ false
-disjoint n e = no_flag n e
 
 abbrev is_given : List Text → Bool
 is_given [] = false
@@ -118,45 +116,37 @@ pub reads : (f : Found) (l : Line) → AreKnown l.pieces → Shows (rows_of f) (
 reads f l known shows = record {
   option = λ name e. first_value-rows f name ∙ first_seen name (rows_of f) ∙ ap (option_and_then (λ p. slice_get p.0 0)) (shows name)
       ∙ ap (λ b. option_and_then (λ p. slice_get p.0 0) (filled b (some_of (given name (said l))))) (no_flag name e) ∙ first_some (given name (said l))
-      ∙ ap first (given_option disjoint name (said l) e (known_said l known));
+      ∙ ap first (given_option no_flag name (said l) e (known_said l known));
   flag = λ name e. one_text-rows f name ∙ one_seen name (rows_of f) ∙ ap (option_and_then (λ p. option_map (read_as p.1) (slice_get p.0 0))) (shows name)
       ∙ ap (λ b. option_and_then (λ p. option_map (read_as p.1) (slice_get p.0 0)) (filled b (some_of (given name (said l))))) e
       ∙ one_true (given name (said l)) (flag_true name (said l) (known_said l known) e)
-      ∙ ap (λ b. Some (cond b (codes "true") (codes "false"))) (given_some (given name (said l)) ∙ ap (nat_lt 0) (given_flag disjoint name (said l) e (known_said l known)));
+      ∙ ap (λ b. Some (cond b (codes "true") (codes "false"))) (given_some (given name (said l)) ∙ ap (nat_lt 0) (given_flag no_flag name (said l) e (known_said l known)));
   numbers = raw_values-rows f numbers ∙ all_seen numbers (rows_of f) ∙ ap (option_map (λ p. p.0)) (shows numbers) ∙ all_some (given numbers (said l))
       ∙ ap some_texts (given_numbers (said l) (known_said l known));
 }
 
 -- ---- at most once
 
-or_left : (a b : Bool) → a ≡ true → (a || b) ≡ true
-or_left true b e = refl
-or_left false b e = absurd (true≢false (sym e))
-
-or_right : (a b : Bool) → b ≡ true → (a || b) ≡ true
-or_right true b e = refl
-or_right false b e = e
-
 pub line_of : (l : Line) (words : List Text) → words ≡ line_words l → AreKnown l.pieces → IsOnce (said l) → IsLineOf l words
 line_of l words spelled known once = record {
   spelled = spelled;
   known = known;
-  options_once = λ o e. subst (λ (xs : List Text). length xs ≤ 1) (given_option disjoint o (said l) e (known_said l known)) (once o (or_left _ _ e));
-  flags_once = λ f e. subst (λ n. n ≤ 1) (given_flag disjoint f (said l) e (known_said l known)) (once f (or_right _ _ e));
+  options_once = λ o e. subst (λ (xs : List Text). length xs ≤ 1) (given_option no_flag o (said l) e (known_said l known)) (once o (or_left _ _ e));
+  flags_once = λ f e. subst (λ n. n ≤ 1) (given_flag no_flag f (said l) e (known_said l known)) (once f (or_right _ _ e));
 }
 
 pub once_in : (l : Line) (words : List Text) → IsLineOf l words → IsOnce (said l)
 once_in l words line name e = go (is_in name option_names) refl e
   where
     go : (b : Bool) → is_in name option_names ≡ b → (is_in name option_names || is_in name flag_names) ≡ true → length (given name (said l)) ≤ 1
-    go true t e = subst (λ (xs : List Text). length xs ≤ 1) (sym (given_option disjoint name (said l) t (known_said l line.known))) (line.options_once name t)
+    go true t e = subst (λ (xs : List Text). length xs ≤ 1) (sym (given_option no_flag name (said l) t (known_said l line.known))) (line.options_once name t)
     go false t e =
         let flags : is_in name flag_names ≡ true = ap (λ b. b || is_in name flag_names) (sym t) ∙ e in
-        subst (λ n. n ≤ 1) (sym (given_flag disjoint name (said l) flags (known_said l line.known))) (line.flags_once name flags)
+        subst (λ n. n ≤ 1) (sym (given_flag no_flag name (said l) flags (known_said l line.known))) (line.flags_once name flags)
 
 -- what an option gives, and the numbers, in the words of the proofs
 pub option_given : (l : Line) (o : Text) → AreKnown l.pieces → is_in o option_names ≡ true → given o (said l) ≡ values_of o (said l)
-option_given l o known e = given_option disjoint o (said l) e (known_said l known)
+option_given l o known e = given_option no_flag o (said l) e (known_said l known)
 
 pub numbers_given : (l : Line) → AreKnown l.pieces → given numbers (said l) ≡ numbers_in (said l)
 numbers_given l known = given_numbers (said l) (known_said l known)

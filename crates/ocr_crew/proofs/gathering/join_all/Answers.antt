@@ -4,8 +4,9 @@ use Rattle.std.specs.Vec.Iter.{into_iter_items, into_iter_len}
 use Rattle.ocr_steal.specs.Pool.{hands_in}
 use Rattle.ocr_steal.proofs.Orders.{all_in_order}
 use Rattle.ocr_crew.specs.Seats.{IsGathering, together}
-use Rattle.ocr_crew.proofs.Seated.{IsNumbered, first_back, gathers, later_back, snoc_each}
+use Rattle.ocr_crew.proofs.Seated.{IsNumbered, first_back, gathers, later_back}
 use Rattle.ocr_crew.proofs.gathering.join_all.Goals as goal
+use Rattle.ocr_steal.proofs.Owners.{each_push}
 
 pub loop-back-preserved : goal.loop-back-preserved
 loop-back-preserved g c =
@@ -25,7 +26,7 @@ loop-back-preserved g c =
       long = (let a = steps.1 in let b = ap length steps.0 in let d = old.long in omega arith);
       many = (let m = old.many in omega (arith, m, len, fewer));
       rest = later_back table program pool (vec_len at.hands) (vec_len c.push.new.self) items rest c.in-Some.back steps.0 len old.rest;
-      hands = subst (λ (l : List Hand). (k : ℕ) (d : Hand) → k < length l → IsNumbered pool k (get_or l k d)) (sym new) (snoc_each (IsNumbered pool) at.hands.items taken.hand old.hands (back.hand, (let n = back.number_is in omega (arith, n, real))));
+      hands = subst (λ (l : List Hand). (k : ℕ) (d : Hand) → k < length l → IsNumbered pool k (get_or l k d)) (sym new) (each_push (IsNumbered pool) at.hands.items taken.hand old.hands (back.hand, (let n = back.number_is in omega (arith, n, real))));
     }
 
 pub returns-clause-hands : goal.returns-clause-hands

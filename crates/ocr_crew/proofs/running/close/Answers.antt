@@ -1,9 +1,9 @@
 use Rattle.std.proofs.Common.{◌≡◌, List, refl, subst, sym}
+use Rattle.std.proofs.lemmas.Result.{IfOk-weaker}
 use Rattle.ocr_history.specs.declared.entry.Entry.{Entry}
 use Rattle.ocr_facts.specs.Clerks.{of_terms}
 use Rattle.ocr_journal.specs.Merged.{IsHistoryOf}
 use Rattle.ocr_crew.specs.Ended.{IsWhole}
-use Rattle.ocr_crew.proofs.Seated.{if_ok}
 use Rattle.ocr_crew.proofs.Whole.{whole}
 use Rattle.ocr_crew.proofs.running.close.Goals as goal
 
@@ -17,6 +17,6 @@ returns c =
     let told = c.in_ok-closing.ensures in
     let t = c.args.turns.1 in let root = c.args.root.view in let workers = c.args.workers in
     let known = whole t root workers c.in_ok-closing.closing.0 told.0 c.requires.workers c.requires.root.logs c.requires.root.knows in
-    if_ok c.merge.result (λ m. (history : List Entry) → IsHistoryOf c.in_ok-closing.closing history → m ≡ history) (λ m. IsWhole (of_terms t) workers t.share m)
+    IfOk-weaker c.merge.result (λ m. (history : List Entry) → IsHistoryOf c.in_ok-closing.closing history → m ≡ history) (λ m. IsWhole (of_terms t) workers t.share m)
     (λ m is. subst (IsWhole (of_terms t) workers t.share) (sym (is told.0.history (record { terms = t; root = root; finished = told.0; whole = refl; count = told.1 }))) known)
     c.merge.ensures

@@ -4,8 +4,9 @@ use Rattle.crossbeam_utils.specs.Padded.{padded_value}
 use Rattle.crossbeam_utils.specs.declared.cache_padded.CachePadded.{CachePadded}
 use Rattle.ocr_crew.specs.declared.seats.Seat.{Seat}
 use Rattle.ocr_crew.specs.Seats.{IsHiring, IsSeat}
-use Rattle.ocr_crew.proofs.Seated.{first_hand, hired, hires, later_hands, snoc_each}
+use Rattle.ocr_crew.proofs.Seated.{first_hand, hired, hires, later_hands}
 use Rattle.ocr_crew.proofs.seats.hire.Goals as goal
+use Rattle.ocr_steal.proofs.Owners.{each_push}
 
 pub loop-hand-preserved : goal.loop-hand-preserved
 loop-hand-preserved g c =
@@ -35,5 +36,5 @@ loop-hand-preserved g c =
       many = (let m = old.many in omega (arith, m, len, fewer));
       rest = later_hands pool (vec_len at.seats) (vec_len c.push.new.self) items rest hand steps.0 len old.rest;
       seats = subst (λ (l : List (CachePadded Seat)). (k : ℕ) (d : CachePadded Seat) → k < length l → IsSeat table program pool k (padded_value (get_or l k d))) (sym new)
-          (snoc_each (λ k s. IsSeat table program pool k (padded_value s)) at.seats.items c.new.result old.seats seat);
+          (each_push (λ k s. IsSeat table program pool k (padded_value s)) at.seats.items c.new.result old.seats seat);
     }

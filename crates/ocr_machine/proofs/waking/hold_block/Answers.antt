@@ -1,8 +1,9 @@
 use Rattle.std.proofs.Common.{ap, ◌∙◌}
 use Rattle.ocr_acquire.specs.Mode.{mode_in}
 use Rattle.ocr_datablock.specs.Block.{State}
-use Rattle.ocr_hand.proofs.Steps.{asked_held, none_of}
+use Rattle.ocr_hand.proofs.Steps.{none_of}
 use Rattle.ocr_machine.proofs.waking.hold_block.Goals as goal
+use Rattle.ocr_parts.proofs.Blocks.{asked_held}
 
 pub returns-in_ok-ask-clause-held : goal.returns-in_ok-ask-clause-held
 returns-in_ok-ask-clause-held c =

@@ -3,8 +3,8 @@ use Rattle.ocr_facts.specs.Ocr.{setting_of}
 use Rattle.ocr_history.specs.History.{History, history_of}
 use Rattle.ocr_table.specs.Table.{IsOf}
 use Rattle.ocr_report.proofs.Entered.{may_enter, few_counted}
-use Rattle.ocr_report.proofs.Uses.{history_next}
 use Rattle.ocr_report.proofs.after.table_after.Goals as goal
+use Rattle.ocr_history.proofs.Fronts.{history_next}
 
 pub loop-entry-init : goal.loop-entry-init
 loop-entry-init c =

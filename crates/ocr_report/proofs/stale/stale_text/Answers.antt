@@ -8,8 +8,9 @@ use Rattle.ocr_report.specs.Stale.{stale_lines}
 use Rattle.ocr_report.specs.declared.tallies.Tally.{Tally}
 use Rattle.ocr_report.specs.Tallies.{IsCountable, tally_in}
 use Rattle.ocr_report.proofs.Tallied.{ended_law, few_counted}
-use Rattle.ocr_report.proofs.Uses.{history_next, lines_next}
+use Rattle.ocr_report.proofs.Uses.{lines_next}
 use Rattle.ocr_report.proofs.stale.stale_text.Goals as goal
+use Rattle.ocr_history.proofs.Fronts.{history_next}
 
 pub loop-entry-preserved : goal.loop-entry-preserved
 loop-entry-preserved c =

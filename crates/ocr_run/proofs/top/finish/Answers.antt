@@ -2,11 +2,12 @@ use Rattle.std.proofs.Common.{◌<◌, ◌∙◌, subst, refl, ℕ, List, codes,
 use Rattle.std.specs.Io.KnownBytes.{Appends}
 use Rattle.ocr_run.specs.Headline.{write_fault, whole, front, nothing}
 use Rattle.ocr_run.specs.Headline.{write_failed, out_of_memory}
-use Rattle.ocr_run.proofs.Told.{keeps_same, run_line, met_status}
+use Rattle.ocr_run.proofs.Told.{run_line, met_status}
 use Rattle.ocr_run.proofs.top.finish.Goals as goal
+use Rattle.ocr_io.proofs.KnownBytes.{keeps_all}
 
 pub returns-then-executed-eq9-clause-written : goal.returns-then-executed-eq9-clause-written
-returns-then-executed-eq9-clause-written g c = nothing c.if-executed-eq9.true (keeps_same _)
+returns-then-executed-eq9-clause-written g c = nothing c.if-executed-eq9.true (keeps_all _)
 
 pub returns-then-executed-eq9-clause-told : goal.returns-then-executed-eq9-clause-told
 returns-then-executed-eq9-clause-told g c =

@@ -1,5 +1,6 @@
 use Rattle.std.specs.Prelude.{OnOk}
 use Rattle.std.proofs.Common.{◌≡◌, ◌∙◌, is_some, ap, sym, subst, refl}
+use Rattle.std.proofs.lemmas.Result.{IfOk-weaker}
 use Rattle.ocr_base.specs.Count.{Rose}
 use Rattle.ocr_api.specs.Serving.{StoppedBy}
 use Rattle.ocr_meaning.specs.Behaviour.{Behaviour, Ends}
@@ -9,7 +10,7 @@ use Rattle.ocr_running.specs.Running.{holds_at}
 use Rattle.ocr_starting.specs.Given.{body_given}
 use Rattle.ocr_serving.specs.Serving.{EndsNow}
 use Rattle.ocr_serving.proofs.Returns.{ends_after}
-use Rattle.ocr_serving.proofs.Desks.{body_cause, err_then, holds_on, ok_then, on_ok_then, pushed_so, said_now, walked}
+use Rattle.ocr_serving.proofs.Desks.{body_cause, err_then, holds_on, on_ok_then, pushed_so, said_now, walked}
 use Rattle.ocr_serving.proofs.body.run_given.Goals as goal
 
 pub returns-in-Some-clause-hand : goal.returns-in-Some-clause-hand
@@ -32,7 +33,7 @@ end_body-requires g c κs within =
           (
             at.runs.serves,
             (
-              ok_then c.walk-ending.result _ _ (λ r ok. record { holds = holds_at d.clerk.now; runs = at.runs; ends = sym said ∙ (ok ∙ ap (Ends r) holds); left = λ h some. refl }) e.ok,
+              IfOk-weaker c.walk-ending.result _ _ (λ r ok. record { holds = holds_at d.clerk.now; runs = at.runs; ends = sym said ∙ (ok ∙ ap (Ends r) holds); left = λ h some. refl }) e.ok,
               err_then c.walk-ending.result _ _ (λ stop err. body_cause J.turns.now J.program.now c.args.edt g.b d.clerk.now 0 d.closings stop at refl (subst (λ (x : Behaviour). StoppedBy x (Rose 0 d.closings) stop) said err)) e.err,
             ),
           ),
