@@ -1,14 +1,13 @@
 -- What a run came to.
-use Rattle.std.proofs.Common.{◌≡◌, ◌∙◌, sym, subst, refl, ℕ, List, Result, Ok, Err}
+use Rattle.std.proofs.Common.{◌≡◌, ◌∙◌, sym, subst, ℕ, List, Result, Ok, Err}
 use Rattle.std.specs.Prelude.{IfOk}
 use Rattle.ocr_tree.specs.Tree.{FunctionTree}
 use Rattle.ocr_history.specs.declared.entry.Entry.{Entry}
-use Rattle.ocr_history.specs.History.{Setting, history_of}
+use Rattle.ocr_history.specs.History.{history_of}
 use Rattle.ocr_parts.proofs.Starts.{start_law, set_law}
 use Rattle.ocr_quiet.proofs.Sleeping.{quiet_law}
 use Rattle.ocr_crew.specs.Ended.{IsWhole, setting_of}
 use Rattle.ocr_words.specs.declared.wanted.Options.{Options}
-use Rattle.ocr_words.specs.declared.wanted.Reports.{Reports}
 use Rattle.ocr_execute.specs.declared.executed.Executed.{Executed}
 use Rattle.ocr_execute.specs.Ending.{end_of, end_status}
 use Rattle.ocr_execute.specs.Executed.{IsRunOf}
