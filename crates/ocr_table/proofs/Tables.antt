@@ -43,8 +43,6 @@ use Rattle.ocr_base.proofs.Booleans.{same}
 use Rattle.ocr_hand.proofs.Numbered.{same_parts}
 
 -- THE SAME PARTS at all numbers
-}
-
 same_kept : (limit : ℕ) (at other : ℕ → Part) → ((n : ℕ) → at n ≡ other n) → AreKept limit other → AreKept limit at
 same_kept limit at other is are n = is n ∙ are n ∙ ap (λ (f : Parts). place_of limit f n) (sym (same_parts limit at other is))
 
