@@ -23,7 +23,7 @@ use Rattle.ocr_clerks.specs.Work.{AtWork, EntersAs, EntersKept, OcrTable, Stays,
 use Rattle.ocr_clerks.proofs.Going.{stays_self}
 use Rattle.ocr_clerks.proofs.Whole.{entered_whole, lifted_work, stays_from}
 use Rattle.ocr_running.specs.Running.{StepsFirst, first_in}
-use Rattle.ocr_readying.proofs.Putting.{core_same}
+use Rattle.ocr_readying.proofs.Putting.{core_same as same_core}
 
 abbrev Hands : Type 0
 Hands = List (ℕ × Option Part)
@@ -67,7 +67,7 @@ first_steps place step old mid new core later rest is stepped lifted first put s
   view = second.1 ∙ first.1;
   room = (second.2.0 ∙ first.2.0, second.2.1 ∙ first.2.1, second.2.2 ∙ first.2.2);
   core = λ other more has.
-      let same : core ≡ other = core_same core other (ap (λ (l : Hands). first_in l) (sym is ∙ has)) in
+      let same : core ≡ other = same_core core other (ap (λ (l : Hands). first_in l) (sym is ∙ has)) in
       let others : rest ≡ more = ap rest_of (sym is ∙ has) in
       put ∙ (ap (replace place (Some (part.Core later))) (lifted_is place old.parts mid.parts core rest is lifted)
       ∙ (replaced_first place None (Some (part.Core later)) rest
