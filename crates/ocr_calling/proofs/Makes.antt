@@ -1,6 +1,6 @@
 -- A call of the body, from what it names to what its entry leaves.
 use Rattle.std.specs.Prelude.{OnOk}
-use Rattle.std.proofs.Common.{◌≡◌, ℕ, ◌+◌, ◌≤◌, Bool, true, false, ◌==◌, ◌||◌, if◌then◌else◌, List, [], ◌∷◌, ◌++◌, length, take, Option, Some, None, is_some, Result, Ok, Err, refl, ap, sym, ◌∙◌, subst, arith}
+use Rattle.std.proofs.Common.{◌≡◌, ℕ, ◌+◌, ◌≤◌, Bool, true, false, ◌==◌, ◌||◌, if◌then◌else◌, List, [], ◌∷◌, ◌++◌, length, take, Option, Some, None, is_some, Result, Ok, Err, refl, ap, sym, ◌∙◌, subst}
 use Rattle.std.proofs.lemmas.List.{append_assoc}
 use Rattle.ocr_base.specs.declared.limits.TheConstants.{MOST_PARAMETERS, MOST_DEPENDENCES}
 use Rattle.ocr_code.specs.Checked.{checked_tree}
@@ -24,7 +24,7 @@ use Rattle.ocr_history.specs.declared.entry.Entry.TheVariants.{Call}
 use Rattle.ocr_parts.specs.declared.part.Core.{Core}
 use Rattle.ocr_parts.specs.declared.part.Part.{Part}
 use Rattle.ocr_parts.specs.declared.part.Part.TheVariants as part
-use Rattle.ocr_parts.specs.Codes.{Sort, code_of, counted_code, creation_code, wanted}
+use Rattle.ocr_parts.specs.Codes.{code_of, counted_code, creation_code, wanted}
 use Rattle.ocr_parts.specs.Effects.{settled_core}
 use Rattle.ocr_parts.specs.Footprint.{Covers, makes_core}
 use Rattle.ocr_parts.specs.Kinds.{work_in}
@@ -43,10 +43,6 @@ use Rattle.ocr_running.specs.Serving.{holds_in, own_log}
 use Rattle.ocr_running.proofs.Asked.{blank}
 use Rattle.ocr_running.proofs.Called.{runnable_in}
 use Rattle.ocr_facts.proofs.Lawful.{wanted_few, asked_call}
-
-none_or_one : (b : Bool) (x : ℕ × Sort) → length (if b then [] else x ∷ []) ≤ 1
-none_or_one true x = omega arith
-none_or_one false x = omega arith
 
 pub call_few : (table : OcrTable) (program : Checked) (c : OcrKnown) (edt : ℕ) (b : Body) (made : body.Call) (private : List (ℕ × ℕ)) → AtWork table program c → Runs table.1 edt b c → IsNextWith made private (says b (own_log c.view.log edt)) → length (wanted made) ≤ 33
 call_few table program c edt b made private work runs next =

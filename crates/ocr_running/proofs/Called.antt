@@ -219,9 +219,6 @@ next_off : (b made : Bool) (v : OcrView) (other n : ℕ) → IsNextTo (b && made
 next_off true made v other n is off = cc off
 next_off false made v other n is off = is
 
-one_claim : (n edt : ℕ) → 1 ≤ times n (edt ∷ []) → n ≡ edt
-one_claim n edt some = grind (arith, common_steps)
-
 not_claimed : (n edt : ℕ) (rs : List ℕ) → times edt rs ≡ 0 → 1 ≤ times n rs → times n (edt ∷ []) ≡ 0
 not_claimed n edt rs none some = elim (n == edt) as (λ b. (n == edt) ≡ b → (if b then 1 else 0) + 0 ≡ 0) [
   | true ↦ λ same. let e = eqb-true n edt same in absurd (let z = subst (λ (k : ℕ). times k rs ≡ 0) (sym e) none in omega (arith, z, some))

@@ -53,12 +53,6 @@ or_none : (a b : Bool) → a ≡ false → (a || b) ≡ b
 or_none true b is = cc is
 or_none false b is = refl
 
-swap : (a b : Bool) → (a || b) ≡ (b || a)
-swap true true = refl
-swap true false = refl
-swap false true = refl
-swap false false = refl
-
 -- an EDT's end is its own
 ends_own : (e : Entry) (t : ℕ) → is_own e t ≡ false → ends e t ≡ false
 ends_own (End u g) t off = off

@@ -60,9 +60,6 @@ inside f limit edt d vacant legal = elim (is_within limit d) as (λ b. is_within
   | false ↦ λ off. absurd (subst (λ (x : Part). IsBlock x (IsHeld edt (mode_on (f.core edt) d) (loan_on (f.core edt) d))) (vacant d off) legal.held)
 ] refl
 
-settled_least : (c : Core) (x : Part) (d : ℕ) → x ≡ part.Core c → least_of (holds_of (work_in c.edt)) ≡ Some d → least_of (holds_of (work_of x)) ≡ Some d
-settled_least c x d is least = ap (λ (y : Part). least_of (holds_of (work_of y))) is ∙ least
-
 pub held_within : (table : OcrTable) (program : Checked) (edt d : ℕ) (b : Body) (c : OcrKnown) → AtWork table program c → Runs table.1 edt b c → least_of (held_at c) ≡ Some d → is_within table.1.limit d ≡ true
 held_within table program edt d b c work runs least =
     let t = table.1 in

@@ -1,9 +1,9 @@
-use Rattle.std.proofs.Common.{◌≡◌, ◌+◌, ◌∷◌, [], ℕ, List, length, Some, ap, sym, subst, arith}
+use Rattle.std.proofs.Common.{◌≡◌, ◌+◌, ◌∷◌, [], ℕ, List, length, ap, sym, subst, arith}
 use Rattle.ocr_history.specs.declared.entry.Entry.TheVariants.{Start}
 use Rattle.ocr_history.specs.declared.entry.What.{What}
 use Rattle.ocr_facts.specs.Clerks.{IsStep}
 use Rattle.ocr_parts.specs.declared.part.Part.TheVariants as part
-use Rattle.ocr_clerks.specs.Work.{KeepsFaces, in_hand, ready_with}
+use Rattle.ocr_clerks.specs.Work.{KeepsFaces, in_hand}
 use Rattle.ocr_running.proofs.Back.{has_taken, keeps_faces}
 use Rattle.ocr_running.proofs.Started.{begun, begun_leaves, can_put, face_within, started_at_hand, started_can, started_kept, started_step, started_work}
 use Rattle.ocr_running.proofs.beginning.start.Goals as goal
