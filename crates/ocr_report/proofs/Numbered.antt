@@ -1,7 +1,8 @@
 -- The blocks up to one number more.
 use Rattle.std.proofs.Common.{◌≡◌, ◌+◌, ℕ, suc, [], ◌∷◌, ◌++◌, if◌then◌else◌, refl, arith, subst}
 use Rattle.ocr_parts.specs.declared.part.Part.{Part}
-use Rattle.ocr_report.specs.Blocks.{blocks_to, is_block}
+use Rattle.ocr_parts.specs.Kinds.{is_block}
+use Rattle.ocr_report.specs.Blocks.{blocks_to}
 
 pub blocks_more : (face : ℕ → Part) (n : ℕ) → blocks_to face (n + 1)
     ≡ (if is_block (face (n + 1)) then blocks_to face n ++ (n + 1) ∷ [] else blocks_to face n)

@@ -7,6 +7,7 @@ use Rattle.ocr_history.specs.History.{History, Setting}
 use Rattle.ocr_journal.specs.Phrase.{Text, phrase}
 use Rattle.ocr_parts.specs.declared.part.Part.{Part}
 use Rattle.ocr_parts.specs.declared.part.Part.TheVariants as part
+use Rattle.ocr_parts.specs.Kinds.{is_block}
 use Rattle.ocr_parts.specs.Parts.{parts_of}
 use Rattle.ocr_report.specs.Headed.{headed}
 
@@ -22,11 +23,7 @@ block_line d st =
     ++ (phrase (codes " words") (st.size ∷ [])
     ++ (state_words st.destroyed (block.is_gone st) ++ 10 ∷ []))
 
--- what the face of an object tells of a block
-abbrev pub is_block : Part → Bool
-is_block (part.Block st) = true
-is_block other = false
-
+-- the line of an object, where it is a block
 abbrev pub line_of : ℕ → Part → Text
 line_of d (part.Block st) = block_line d st
 line_of d other = []

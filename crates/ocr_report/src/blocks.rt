@@ -3,6 +3,7 @@ ghost use Rattle.std.specs.Prelude.{◌≡◌, ◌++◌, ◌≤◌, length, OnOk
 ghost use Rattle.ocr_datablock.specs.Block.{is_gone};
 ghost use Rattle.ocr_facts.specs.Ocr.{setting_of};
 ghost use Rattle.ocr_history.specs.History.{history_of};
+ghost use Rattle.ocr_parts.specs.Kinds.{is_block};
 ghost use Rattle.ocr_parts.specs.Legal.{IsRun};
 ghost use Rattle.ocr_report.specs.Blocks as spec;
 ghost use Rattle.ocr_table.specs.Table.{face_on};
@@ -20,7 +21,7 @@ use std::alloc::Global;
 
 // Whether an object is a block.
 fn is_block(table: &Table, object: u64) -> bool
-    ensures { result ≡ spec.is_block (face_on table.now object) }
+    ensures { result ≡ is_block (face_on table.now object) }
 {
     matches!(table.face(object), Some(Part::Block(_)))
 }

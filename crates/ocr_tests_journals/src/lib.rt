@@ -6,7 +6,7 @@ mod lines;
 mod programs;
 mod tables;
 
-pub use lines::{BOTH, FINISH, Form, Line, Made, OUTPUT, PLAIN, Words, entry_of};
+pub use lines::{BOTH, FINISH, Form, Line, Made, OUTPUT, PLAIN, Words, entries_of};
 pub use programs::program_of;
 pub use tables::{Change, Row, Table, Wrong, wrong_in, wrong_of};
 

@@ -87,6 +87,17 @@ pub enum Line {
     Light,
 }
 
+/// The entries that lines stand for.
+pub fn entries_of(alloc: Global, lines: &[Line]) -> Result<Vec<Entry>, Fail> {
+    let mut entries = Vec::new(alloc);
+    for line in lines {
+        let entry = entry_of(alloc, *line)?;
+        entries.reserve(1)?;
+        entries.push_reserved(entry);
+    }
+    Ok(entries)
+}
+
 /// The entry that a line stands for.
 pub fn entry_of(alloc: Global, line: Line) -> Result<Entry, Fail> {
     match line {

@@ -1,5 +1,5 @@
 // Journals as tables of lines, and what replay says of them, as they are and changed.
-use crate::lines::{Line, entry_of};
+use crate::lines::{Line, entries_of};
 use crate::programs::program_of;
 use ocr_code::Checked;
 use ocr_replay::{ReplayStop, replay};
@@ -80,12 +80,7 @@ fn stop_of(
     if args.len() > 32 {
         return Err(Fail::new("at most 32 arguments"));
     }
-    let mut entries = Vec::new(alloc);
-    for line in lines {
-        let entry = entry_of(alloc, *line)?;
-        entries.reserve(1)?;
-        entries.push_reserved(entry);
-    }
+    let entries = entries_of(alloc, lines)?;
     Ok(replay(alloc, program, args, 4096, &entries).err())
 }
 

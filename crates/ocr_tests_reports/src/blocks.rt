@@ -8,7 +8,7 @@ use ocr_guid::Code::Done;
 use ocr_history::Journal;
 use ocr_replay::replay;
 use ocr_report::blocks_text;
-use ocr_tests_journals::{Line, Words, entry_of, program_of};
+use ocr_tests_journals::{Line, Words, entries_of, program_of};
 use std::alloc::Global;
 use std::test::Fail;
 
@@ -23,12 +23,7 @@ fn blocks_after(alloc: Global, text: &[u8], args: &[u64], lines: &[Line]) -> Res
     if args.len() > 32 {
         return Err(Fail::new("at most 32 arguments"));
     }
-    let mut entries = Vec::new(alloc);
-    for line in lines {
-        let entry = entry_of(alloc, *line)?;
-        entries.reserve(1)?;
-        entries.push_reserved(entry);
-    }
+    let entries = entries_of(alloc, lines)?;
     let setting = Setting {
         program: program_of(alloc, text)?,
         args: Vec::from_slice(alloc, args)?,
