@@ -1,4 +1,5 @@
-pub mod Ended
 pub mod Coming
+pub mod Ended
+pub mod Resting
 pub mod Rounds
 pub mod Still

@@ -1,9 +1,10 @@
 -- What stays over a worker's calls.
 use Rattle.std.proofs.Common.{◌≡◌, ℕ, refl, sym, ◌∙◌, subst, arith}
-use Rattle.ocr_advancing.specs.Working.{AdvanceTells, IsBetween}
+use Rattle.ocr_advancing.specs.Working.{AdvanceTells, IsBetween, PushesBy}
 use Rattle.ocr_advancing.specs.declared.advancing.Advanced.{Advanced}
 use Rattle.ocr_advancing.specs.declared.advancing.Advanced.TheVariants as advanced
 use Rattle.ocr_clerks.specs.Entering.{OcrKnown}
+use Rattle.ocr_clerks.specs.Pushing.{IsPushed, PushesReady}
 use Rattle.ocr_clerks.specs.Work.{OcrTable, Stays}
 use Rattle.ocr_code.specs.declared.checked.Checked.{Checked}
 use Rattle.ocr_steal.specs.declared.hand.Hand.{Hand}
@@ -18,6 +19,16 @@ same_both a b c p q = record {
   number = q.number ∙ p.number;
   pool = q.pool ∙ p.pool;
   room_kept = (let x = p.room_kept in let y = q.room_kept in omega (arith, x, y));
+}
+
+pub pushed_self : (h : Hand) → IsPushed h h
+pushed_self h = record { same = same_hand h; knows_same = refl; misses = refl }
+
+pub pushed_both : (a b c : Hand) → IsPushed a b → IsPushed b c → IsPushed a c
+pushed_both a b c p q = record {
+  same = same_both a b c p.same q.same;
+  knows_same = q.knows_same ∙ p.knows_same;
+  misses = q.misses ∙ p.misses;
 }
 
 -- the worker is between its calls, and its seat and its hand are the same
@@ -42,3 +53,10 @@ came_between table program worker edt (advanced.Lost word) old new open_run was 
 came_between table program worker edt advanced.Parked old new open_run was told = told.1.0
 came_between table program worker edt advanced.Ended old new open_run was told = told.1.0
 came_between table program worker edt (advanced.Closed word) old new open_run was told = absurd (open_run word refl)
+
+-- What a hand pushed meanwhile is what the clerk made ready, where it was not told so.
+pub pushed_by : (a : Advanced) (old new : OcrKnown) (before after : Hand) → ((word : ℕ) → a ≡ advanced.Closed word → ⊥) → PushesBy a old new before after → PushesReady old new before after
+pushed_by (advanced.Lost word) old new before after open_run by = by
+pushed_by advanced.Parked old new before after open_run by = by
+pushed_by advanced.Ended old new before after open_run by = by
+pushed_by (advanced.Closed word) old new before after open_run by = absurd (open_run word refl)

@@ -14,8 +14,8 @@ use Rattle.ocr_rule.specs.Words.{SeesReady, claiming}
 
 pub lone : (table : OcrTable) (program : Checked) (c : OcrKnown) → IsBetween table program c → IsAlone c → IsLone table.1 c.view
 lone table program c between alone = record {
-  terms = between.work.of_table.1;
-  unclosed = between.work.is_open;
+  terms = between.rests.of_table.1;
+  unclosed = between.rests.is_open;
   root = alone.root;
   nobody_out = alone.nobody_out;
 }

@@ -1,21 +1,25 @@
 -- What a worker is between its calls, and what its calls leave.
-use Rattle.std.specs.Prelude.{◌≡◌, ◌≢◌, ◌≤◌, ℕ, List, [], ◌∷◌, ◌++◌, Some}
+use Rattle.std.specs.Prelude.{◌≡◌, ◌≢◌, ◌≤◌, ℕ, List, [], ◌∷◌, ◌++◌, ◌⊎◌, Some}
 use Rattle.ocr_clerks.specs.Entering.{OcrKnown}
-use Rattle.ocr_clerks.specs.Work.{AtWork, HasLeft, IsIdle, OcrTable}
+use Rattle.ocr_clerks.specs.Pushing.{PushesReady}
+use Rattle.ocr_clerks.specs.Work.{HasLeft, IsIdle, IsResting, OcrTable}
 use Rattle.ocr_code.specs.declared.checked.Checked.{Checked}
 use Rattle.ocr_facts.specs.Ocr.{meaning}
 use Rattle.ocr_history.specs.declared.entry.Entry.{Entry}
 use Rattle.ocr_history.specs.declared.entry.Entry.TheVariants.{Wait, End}
+use Rattle.ocr_steal.specs.declared.hand.Hand.{Hand}
 use Rattle.ocr_rule.specs.Counting.{READY}
 use Rattle.ocr_rule.specs.Rule.{OPEN}
 use Rattle.ocr_rule.specs.Words.{SeesReady, SeesWord, claiming}
 use Rattle.ocr_advancing.specs.declared.advancing.Advanced.{Advanced}
 use Rattle.ocr_advancing.specs.declared.advancing.Advanced.TheVariants as advanced
 
--- BETWEEN its calls a worker's clerk is at work, with idle hands
+-- BETWEEN its calls a worker's clerk rests, with idle hands; where it owes a message it has a unit
+-- to spare, and so it is at work.
 pub record IsBetween (table : OcrTable) (program : Checked) (c : OcrKnown) : Type 0 where
-  pub work : AtWork table program c
+  pub rests : IsResting table program c
   pub idle : IsIdle c
+  pub stake : (c.view.owed ≡ []) ⊎ (1 ≤ c.view.spares)
 
 -- THE END of the run is known to the clerk by this commit word, which it read
 pub record IsClosed (table : OcrTable) (worker word : ℕ) (c : OcrKnown) : Type 0 where
@@ -50,6 +54,11 @@ HasCome table program advanced.Parked edt old new =
 HasCome table program advanced.Ended edt old new =
     IsBetween table program new × HasEntered old new (IsEndOf edt)
 HasCome table program other edt old new = ⊥
+
+-- what the hand pushed meanwhile, unless the run was found ended
+abbrev pub PushesBy : Advanced → (old new : OcrKnown) → (before after : Hand) → Type 0
+PushesBy (advanced.Closed word) old new before after = Unit {0}
+PushesBy other old new before after = PushesReady old new before after
 
 abbrev pub AdvanceTells : OcrTable → Checked → ℕ → Advanced → ℕ → OcrKnown → OcrKnown → Type 0
 AdvanceTells table program worker (advanced.Lost word) edt old new =

@@ -1,12 +1,12 @@
 // A worker takes an EDT on as far as it goes.
 ghost use Rattle.std.specs.Prelude.{◌≡◌, ℕ, [], IfOk, OnErr, OnOk};
+ghost use Rattle.ocr_clerks.specs.Pushing.{IsPushed, PushesReady};
 ghost use Rattle.ocr_clerks.specs.Work.{AtWork, HasTakenOn, IsGone, Stays};
 ghost use Rattle.ocr_facts.specs.Ocr.{meaning};
-ghost use Rattle.ocr_steal.specs.Hand.{IsSame, knows, misses_of};
 ghost use Rattle.ocr_rule.specs.Owing.{IsNumber};
 ghost use Rattle.ocr_rule.specs.Words.{SeesReady};
 ghost use Rattle.ocr_advancing.specs.Resting.{HasRested, IsAtRest};
-ghost use Rattle.ocr_advancing.specs.Working.{AdvanceTells, HasCome, IsBetween};
+ghost use Rattle.ocr_advancing.specs.Working.{AdvanceTells, HasCome, IsBetween, PushesBy};
 
 use crate::closing::closing_word;
 use ocr_clerks::{Gate, Job, Ocr, Over};
@@ -44,8 +44,8 @@ pub fn advance<R: Wait, G: Gate>(
     requires between { IsBetween job.now.turns.now job.now.program.now clerk.old }
     requires edt { IsNumber job.now.turns.now.1.limit edt }
     ensures stays { Stays clerk.old clerk.new }
-    ensures hand { IsSame hand.old hand.new × (knows hand.new ≡ knows hand.old)
-        × (misses_of hand.new ≡ misses_of hand.old) }
+    ensures hand { IsPushed hand.old hand.new }
+    ensures pushed { PushesBy result clerk.old clerk.new hand.old hand.new }
     ensures lost { (word : ℕ) → result ≡ Advanced.Lost word → hand.new ≡ hand.old }
     ensures told { AdvanceTells job.now.turns.now job.now.program.now worker result edt clerk.old
         clerk.new }
@@ -73,8 +73,8 @@ fn go_on<R: Wait, G: Gate>(
     requires bare { (clerk.old.view.parts ≡ []) × (clerk.old.parts ≡ []) }
     requires ready { SeesReady meaning clerk.old.view edt }
     ensures stays { Stays clerk.old clerk.new }
-    ensures hand { IsSame hand.old hand.new × (knows hand.new ≡ knows hand.old)
-        × (misses_of hand.new ≡ misses_of hand.old) }
+    ensures hand { IsPushed hand.old hand.new }
+    ensures pushed { OnOk result (PushesReady clerk.old clerk.new hand.old hand.new) }
     ensures came { IfOk result (λ a. HasCome job.now.turns.now job.now.program.now a edt clerk.old
         clerk.new) }
     ensures left { OnErr result (IsGone job.now.turns.now worker clerk.new) }
@@ -99,8 +99,10 @@ pub fn advance_found<R: Wait, G: Gate>(
 ) -> Result<(), Over>
     requires between { IsBetween job.now.turns.now job.now.program.now clerk.old }
     ensures stays { Stays clerk.old clerk.new }
-    ensures hand { IsSame hand.old hand.new × (knows hand.new ≡ knows hand.old)
-        × (misses_of hand.new ≡ misses_of hand.old) }
+    ensures hand { IsPushed hand.old hand.new }
+    ensures pushed { OnOk result (PushesReady clerk.old clerk.new hand.old hand.new) }
+    ensures told { OnOk result (IsNumber job.now.turns.now.1.limit edt → (a : Advanced)
+        × AdvanceTells job.now.turns.now job.now.program.now worker a edt clerk.old clerk.new) }
     ensures done { OnOk result (IsBetween job.now.turns.now job.now.program.now clerk.new) }
     ensures rests { IsAtRest job.now.turns.now clerk.old → HasRested result clerk.old clerk.new }
     ensures left { OnErr result (IsGone job.now.turns.now worker clerk.new) }

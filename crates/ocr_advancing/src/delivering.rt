@@ -1,7 +1,7 @@
 // A worker delivers what its clerk owes.
 ghost use Rattle.std.specs.Prelude.{◌≡◌, true, false, IfOk, OnErr, OnOk};
+ghost use Rattle.ocr_clerks.specs.Pushing.{IsPushed, PushesReady};
 ghost use Rattle.ocr_clerks.specs.Work.{IsGone, Stays};
-ghost use Rattle.ocr_steal.specs.Hand.{IsSame, knows, misses_of};
 ghost use Rattle.ocr_advancing.specs.Resting.{HasDelivered, HasRested};
 ghost use Rattle.ocr_advancing.specs.Working.{IsBetween};
 
@@ -24,8 +24,8 @@ pub fn deliver_all<R: Wait, G: Gate>(
 ) -> Result<bool, Over>
     requires between { IsBetween job.now.turns.now job.now.program.now clerk.old }
     ensures stays { Stays clerk.old clerk.new }
-    ensures hand { IsSame hand.old hand.new × (knows hand.new ≡ knows hand.old)
-        × (misses_of hand.new ≡ misses_of hand.old) }
+    ensures hand { IsPushed hand.old hand.new }
+    ensures pushed { OnOk result (PushesReady clerk.old clerk.new hand.old hand.new) }
     ensures done { OnOk result (IsBetween job.now.turns.now job.now.program.now clerk.new
         × HasDelivered clerk.new) }
     ensures some { IfOk result (λ any. any ≡ true → HasDelivered clerk.old → ⊥) }
@@ -34,7 +34,7 @@ pub fn deliver_all<R: Wait, G: Gate>(
     ensures rests { HasDelivered clerk.old → HasRested result clerk.old clerk.new }
     ensures left { OnErr result (IsGone job.now.turns.now worker clerk.new) }
 {
-    if clerk.owed().is_empty() {
+    if clerk.owed_len() == 0 {
         return Ok(false);
     }
     deliver_owing(alloc, job, worker, clerk, hand)?;
@@ -52,14 +52,14 @@ fn deliver_owing<R: Wait, G: Gate>(
 ) -> Result<(), Over>
     requires between { IsBetween job.now.turns.now job.now.program.now clerk.old }
     ensures stays { Stays clerk.old clerk.new }
-    ensures hand { IsSame hand.old hand.new × (knows hand.new ≡ knows hand.old)
-        × (misses_of hand.new ≡ misses_of hand.old) }
+    ensures hand { IsPushed hand.old hand.new }
+    ensures pushed { OnOk result (PushesReady clerk.old clerk.new hand.old hand.new) }
     ensures done { OnOk result (IsBetween job.now.turns.now job.now.program.now clerk.new
         × HasDelivered clerk.new) }
     ensures left { OnErr result (IsGone job.now.turns.now worker clerk.new) }
 {
     for _ in job.rt.forever() {
-        if clerk.owed().is_empty() {
+        if clerk.owed_len() == 0 {
             return Ok(());
         }
         deliver_owed(alloc, job, worker, clerk, hand)?;

@@ -78,6 +78,7 @@ module _ (table : OcrTable) (program : Checked) (edt : ℕ) (b : Body) (c : OcrK
       later = done.later;
       sent = done.sent;
       step = done.step;
+      paid = done.paid;
       view = done.view;
       hand = done.hand ∙ (replace_whole (as_some done.later) c.parts later_keys once ∙ sym (replace_whole (as_some done.later) (lifted c.parts) (later_keys ∙ sym (lifted_keys c.parts)) once));
       sees = done.sees;

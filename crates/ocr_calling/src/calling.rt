@@ -8,6 +8,7 @@ ghost use Rattle.ocr_parts.specs.Codes.{code_of};
 ghost use Rattle.ocr_parts.specs.Legal.{carried};
 ghost use Rattle.ocr_parts.specs.Taken.{face_in};
 ghost use Rattle.ocr_clerks.specs.Entering.{OcrKnown};
+ghost use Rattle.ocr_clerks.specs.Pushing.{ReadiesNone};
 ghost use Rattle.ocr_clerks.specs.Work.{AtWork, IsGone, Stays};
 ghost use Rattle.ocr_running.specs.Calls.{IsAnswer, IsCoded, drawn_for, faces_of};
 ghost use Rattle.ocr_running.specs.Running.{AreOthers, HasEntered, HasLifted, IsCalled, Runs, holds_at, home_at, made_by, places_made};
@@ -52,6 +53,7 @@ pub(crate) fn enter_call<R: Wait, G: Gate>(
         ≡ code_of edt (face_in job.now.turns.now.1.limit parts.items) call }
     requires writes { writes ≡ carried (is_done answer.code) (private_of call (holds_at s.1)) }
     ensures stays { Stays clerk.old clerk.new }
+    ensures readied { OnOk result (ReadiesNone clerk.old clerk.new) }
     ensures work { OnOk result (AtWork job.now.turns.now job.now.program.now clerk.new) }
     ensures entered { IfOk result (λ r. HasEntered job.now.turns.now.1 edt s.0 clerk.new
         (faces_of job.now.turns.now.1.limit home call

@@ -8,10 +8,11 @@ ghost use Rattle.ocr_parts.specs.Legal.{carried};
 ghost use Rattle.ocr_parts.specs.Taken.{face_in};
 ghost use Rattle.ocr_rule.specs.Sums.{as_some};
 ghost use Rattle.ocr_clerks.specs.Entering.{OcrKnown};
+ghost use Rattle.ocr_clerks.specs.Pushing.{IsPushed, PushesReady};
 ghost use Rattle.ocr_clerks.specs.Work.{AtWork, IsGone, Stays};
 ghost use Rattle.ocr_running.specs.Calls.{IsAnswer, IsCoded, drawn_for, faces_of};
 ghost use Rattle.ocr_calling.specs.Making.{HasCore, HasListed};
-ghost use Rattle.ocr_running.specs.Running.{HasLifted, IsCalled, IsPushed, Runs, first_in, holds_at, home_at, places_made};
+ghost use Rattle.ocr_running.specs.Running.{HasLifted, IsCalled, Runs, first_in, holds_at, home_at, places_made};
 ghost use Rattle.ocr_running.specs.Serving.{holds_in, own_log};
 
 use crate::answering::answer;
@@ -56,6 +57,7 @@ pub fn make_call<R: Wait, G: Gate>(
     ensures runs { OnOk result (Runs job.now.turns.now.1 edt b clerk.new) }
     ensures called { IfOk result (λ a. IsCalled edt call.now a clerk.old clerk.new) }
     ensures hand { IsPushed hand.old hand.new }
+    ensures pushed { OnOk result (PushesReady clerk.old clerk.new hand.old hand.new) }
     ensures gone { OnErr result (IsGone job.now.turns.now worker clerk.new) }
 {
     match call {
@@ -86,6 +88,7 @@ fn make_from<R: Wait, G: Gate>(
     ensures runs { OnOk result (Runs job.now.turns.now.1 edt s.0 clerk.new) }
     ensures called { IfOk result (λ a. IsCalled edt call.now a s.1 clerk.new) }
     ensures hand { IsPushed hand.old hand.new }
+    ensures pushed { OnOk result (PushesReady clerk.old clerk.new hand.old hand.new) }
     ensures gone { OnErr result (IsGone job.now.turns.now worker clerk.new) }
 {
     let mut asked = ask(alloc, job, worker, clerk, edt, call)?;
@@ -127,6 +130,7 @@ fn enter_asked<R: Wait, G: Gate>(
     ensures runs { OnOk result (Runs job.now.turns.now.1 edt s.0 clerk.new) }
     ensures called { OnOk result (IsCalled edt asked.call given.now s.1 clerk.new) }
     ensures hand { IsPushed hand.old hand.new }
+    ensures pushed { OnOk result (PushesReady clerk.old clerk.new hand.old hand.new) }
     ensures gone { OnErr result (IsGone job.now.turns.now worker clerk.new) }
 {
     let Asked {

@@ -4,6 +4,7 @@ ghost use Rattle.ocr_meaning.specs.Behaviour.{IsNextWith};
 ghost use Rattle.ocr_meaning.specs.Body.{Body, says};
 ghost use Rattle.ocr_meaning.specs.Holds.{private_of};
 ghost use Rattle.ocr_meaning.specs.declared.call.Call.TheVariants as call;
+ghost use Rattle.ocr_clerks.specs.Pushing.{ReadiesNone};
 ghost use Rattle.ocr_clerks.specs.Work.{AtWork, IsGone, Stays};
 ghost use Rattle.ocr_calling.specs.Making.{print_answer, print_entry};
 ghost use Rattle.ocr_running.specs.Running.{IsCalled, Runs, holds_at};
@@ -36,6 +37,7 @@ pub(crate) fn print<R: Wait, G: Gate>(
         (private_of (call.Print value) (holds_at clerk.old))
         (says b (own_log clerk.old.view.log edt)) }
     ensures stays { Stays clerk.old clerk.new }
+    ensures readied { OnOk result (ReadiesNone clerk.old clerk.new) }
     ensures work { OnOk result (AtWork job.now.turns.now job.now.program.now clerk.new) }
     ensures runs { OnOk result (Runs job.now.turns.now.1 edt b clerk.new) }
     ensures called { IfOk result (λ a. IsCalled edt (call.Print value) a clerk.old clerk.new) }

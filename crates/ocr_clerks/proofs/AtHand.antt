@@ -8,14 +8,17 @@ use Rattle.ocr_facts.specs.Clerks.{IsStep, OcrTerms}
 use Rattle.ocr_facts.specs.Ocr.{meaning}
 use Rattle.ocr_rule.specs.Contract.{MayCommit}
 use Rattle.ocr_rule.specs.Sums.{as_some, keys, one_at, replace_all, weigh}
+use Rattle.ocr_rule.specs.Living.{raising}
+use Rattle.ocr_rule.specs.Steps.{deed}
 use Rattle.ocr_rule.proofs.Numbered.{weigh_keys}
 use Rattle.ocr_turns.specs.Hand.{at_hand}
 use Rattle.ocr_clerks.specs.Entering.{CanMake, Hand, OcrKnown}
 use Rattle.ocr_clerks.specs.Work.{in_hand}
 use Rattle.ocr_clerks.proofs.Entries.{may_commit, turns_keys}
+use Rattle.ocr_clerks.proofs.Affording.{Affords}
 use Rattle.ocr_clerks.proofs.Hands.{replace_whole, some_keys}
 
-module _ (t : OcrTerms) (old mid : OcrKnown) (e : Entry) (h : Hand) (sent : List What) (hand : old.parts ≡ as_some (in_hand old.parts)) (can : (was : List (ℕ × Part)) × CanMake t old.view e h was) (made : IsStep t.limit e h.members h.parts (in_hand old.parts) sent) (view : mid.view ≡ old.view) (parts : mid.parts ≡ old.parts) where
+module _ (t : OcrTerms) (old mid : OcrKnown) (e : Entry) (h : Hand) (sent : List What) (hand : old.parts ≡ as_some (in_hand old.parts)) (can : (was : List (ℕ × Part)) × CanMake t old.view e h was) (made : IsStep t.limit e h.members h.parts (in_hand old.parts) sent) (k : ℕ) (view : mid.view ≡ raising old.view k) (parts : mid.parts ≡ old.parts) where
   listed : at_hand mid.parts ≡ in_hand old.parts
   listed = ap (λ (ps : List (ℕ × Option Part)). in_hand ps) parts
 
@@ -35,5 +38,5 @@ module _ (t : OcrTerms) (old mid : OcrKnown) (e : Entry) (h : Hand) (sent : List
       ∙ (ap (λ (ps : List (ℕ × Option Part)). replace_all (as_some (in_hand old.parts)) ps) parts
       ∙ (replace_whole (as_some (in_hand old.parts)) old.parts (ap keys (sym hand)) once ∙ (sym hand ∙ sym parts)))
 
-  pub may_stay : old.view.weight + weight_of e ≤ t.share → MayCommit meaning t mid.view e (at_hand mid.parts) sent
-  may_stay light = may_commit t old.view mid.view e h can.0 (at_hand mid.parts) sent view can.1 light still_step
+  pub may_stay : Affords mid.view (deed meaning t.limit mid.view e (at_hand mid.parts) sent) → old.view.weight + weight_of e ≤ t.share → MayCommit meaning t mid.view e (at_hand mid.parts) sent
+  may_stay affords light = may_commit t old.view mid.view e h can.0 (at_hand mid.parts) sent k affords view can.1 light still_step

@@ -1,6 +1,6 @@
 -- A worker may end the run.
 use Rattle.std.specs.declared.snapshot.Snapshot.{Snapshot}
-use Rattle.std.proofs.Common.{◌≡◌, ◌⊎◌, ⊎_elim, inl, inr, ℕ, zero, suc, ◌==◌, Bool, ◌≤◌, ◌<◌, List, [], ◌∷◌, ◌++◌, length, reverse, Option, Some, None, is_some, true, false, refl, ap, sym, ◌∙◌, subst, arith}
+use Rattle.std.proofs.Common.{◌≡◌, ◌⊎◌, ⊎_elim, inl, inr, ℕ, zero, suc, ◌+◌, ◌==◌, Bool, ◌≤◌, ◌<◌, List, [], ◌∷◌, ◌++◌, length, reverse, Option, Some, None, is_some, true, false, refl, ap, sym, ◌∙◌, subst, arith}
 use Rattle.std.specs.Prelude.{MatchOption}
 use Rattle.std.proofs.lemmas.List.{append-nil, length-append}
 use mathlib.Core.Option.{some-injective, some-ne-none}
@@ -31,6 +31,7 @@ use Rattle.ocr_facts.proofs.Runs.{reverse_snoc, run_is}
 use Rattle.ocr_rule.specs.Contract.{DrawTells, MayClose, SameHand}
 use Rattle.ocr_rule.specs.Rule.{FactsOf, Fits}
 use Rattle.ocr_rule.specs.Steps.{filled_by, with_drawn}
+use Rattle.ocr_rule.specs.Units.{claim_count}
 use Rattle.ocr_rule.specs.Sums.{load_of}
 use Rattle.ocr_rule.specs.declared.answers.Drawn.TheVariants as drawn
 use Rattle.ocr_clerks.specs.Drawing.{object_count, one_if}
@@ -45,6 +46,7 @@ WillStand t v why fs = Knows t v (λ J. FactsOf (stands t.setting.value t.limit 
 pub may_close : (table : OcrTable) (p : Checked) (c : OcrKnown) (why : run.Stop) (fs : List Fact) → AtWork table p c → Knows table.1 c.view (λ J. MayStopSo (of_terms table.1) (reverse J) why) → WillStand table.1 c.view why fs → MayClose meaning table.1 c.view (an.Stop why) fs
 may_close table p c why fs work knows will = record {
   stops = refl;
+  unit = work.stake;
   legal = λ J open_run fits. let so = knows J open_run fits in record {
     legal = record {
       open_run = goes_on J open_run;
@@ -168,9 +170,9 @@ some_full (Some w) r on = on
 pub full_work : (table : OcrTable) (p : Checked) (limit : ℕ) (old new : OcrKnown) (n : ℕ) → AtWork table p old → DrawTells meaning limit (drawn.Full n) old new → AtWork table p new
 full_work table p limit old new n work tells =
     let on = full_reached old.view new.view n work.full tells.2 in
-    let both : (new.view.closed ≡ old.view.closed) × (new.view.log ≡ old.view.log) × (new.view.terms ≡ old.view.terms) × (new.view.weight ≡ old.view.weight) × (new.view.drawn ≡ old.view.drawn) = ⊎_elim
-    (λ is. (ap (λ (v : OcrView). v.closed) is, ap (λ (v : OcrView). v.log) is, ap (λ (v : OcrView). v.terms) is, ap (λ (v : OcrView). v.weight) is, ap (λ (v : OcrView). v.drawn) is))
-    (λ is. (ap (λ (v : OcrView). v.closed) is, ap (λ (v : OcrView). v.log) is, ap (λ (v : OcrView). v.terms) is, ap (λ (v : OcrView). v.weight) is, ap (λ (v : OcrView). v.drawn) is))
+    let both : (new.view.closed ≡ old.view.closed) × (new.view.log ≡ old.view.log) × (new.view.terms ≡ old.view.terms) × (new.view.weight ≡ old.view.weight) × (new.view.drawn ≡ old.view.drawn) × (new.view.spares + claim_count new.view ≡ old.view.spares + claim_count old.view) × (new.view.raised ≡ old.view.raised) × (new.view.ended ≡ old.view.ended) = ⊎_elim
+    (λ is. (ap (λ (v : OcrView). v.closed) is, ap (λ (v : OcrView). v.log) is, ap (λ (v : OcrView). v.terms) is, ap (λ (v : OcrView). v.weight) is, ap (λ (v : OcrView). v.drawn) is, ap (λ (v : OcrView). v.spares + claim_count v) is, ap (λ (v : OcrView). v.raised) is, ap (λ (v : OcrView). v.ended) is))
+    (λ is. (ap (λ (v : OcrView). v.closed) is, ap (λ (v : OcrView). v.log) is, ap (λ (v : OcrView). v.terms) is, ap (λ (v : OcrView). v.weight) is, ap (λ (v : OcrView). v.drawn) is, ap (λ (v : OcrView). v.spares + claim_count v) is, ap (λ (v : OcrView). v.raised) is, ap (λ (v : OcrView). v.ended) is))
     (full_told old new n limit old.view.full refl tells.2) in
     record {
       of_table = (tells.1.0 ∙ work.of_table.0, both.2 ∙ work.of_table.1);
@@ -185,6 +187,10 @@ full_work table p limit old new n work tells =
       light = let a = both.3 in let b = work.light in omega (arith, a, b);
       few = let a = ap (λ (ns : List ℕ). length ns) both.4 in let b = work.few in omega (arith, a, b);
       full = some_full new.view.full new.view.reached on;
+      loads = work.loads;
+      stake = let a = both.5 in let b = work.stake in omega (arith, a, b);
+      raised = let a = both.6 in let w = both.3 in let b = work.raised in omega (arith, a, b, w);
+      ended = both.7 ∙ work.ended;
     }
 
 -- A NUMBER was drawn
@@ -218,4 +224,8 @@ drawn_work table p old new n c work few hand is = record {
   light = let a = ap (λ (v : OcrView). v.weight) is in let b = work.light in omega (arith, a, b);
   few = let a = ap (λ (v : OcrView). length v.drawn) is ∙ length-append old.view.drawn (n ∷ []) in let m = count_most c in omega (arith, a, m, few);
   full = subst (λ (v : OcrView). MatchOption v.full (Unit {0}) (λ _. is_some v.reached ≡ true)) (sym is) work.full;
+  loads = work.loads;
+  stake = let a = ap (λ (v : OcrView). v.spares + claim_count v) is in let b = work.stake in omega (arith, a, b);
+  raised = let a = ap (λ (v : OcrView). v.raised) is in let w = ap (λ (v : OcrView). v.weight) is in let b = work.raised in omega (arith, a, b, w);
+  ended = ap (λ (v : OcrView). v.ended) is ∙ work.ended;
 }

@@ -23,10 +23,14 @@ use Rattle.ocr_parts.proofs.Local.{effect_law}
 use Rattle.ocr_acquire.specs.declared.Mode.{Mode}
 use Rattle.ocr_rule.proofs.Numbered.{weigh_keys}
 use Rattle.ocr_rule.specs.Contract.{CommitTells, MayCommit}
-use Rattle.ocr_rule.specs.Steps.{deed, logged}
-use Rattle.ocr_rule.specs.Sums.{as_some, one_at, replace_all}
+use Rattle.ocr_rule.specs.Living.{raising}
+use Rattle.ocr_rule.specs.Rule.{Fits}
+use Rattle.ocr_rule.specs.Steps.{deed, freed, logged, needed}
+use Rattle.ocr_rule.specs.Units.{units}
+use Rattle.ocr_rule.specs.Sums.{as_some, one_at, replace_all, sum_of, weigh}
 use Rattle.ocr_rule.specs.Sums as sums
 use Rattle.ocr_rule.specs.declared.answers.Committed.TheVariants as committed
+use Rattle.ocr_clerks.proofs.Affording.{Affords, enough_units, some_unit}
 use Rattle.ocr_clerks.specs.Entering.{CanMake, Hand, OcrKnown}
 use Rattle.ocr_clerks.specs.Work.{EntersAs}
 
@@ -56,9 +60,29 @@ step_is t limit v e h ps later sent lim can is keyed sends_are = record {
   sends_are = subst (λ (n : ℕ). sent ≡ sends e (parts_in n ps)) lim sends_are ∙ ap (sends e) can.ready;
 }
 
-pub may_commit : (t : OcrTerms) (v w : OcrView) (e : Entry) (h : Hand) (ps later : List (ℕ × Part)) (sent : List What) → w ≡ v → CanMake t v e h ps → v.weight + weight_of e ≤ t.share → IsStep t.limit e h.members h.parts later sent
+-- the same histories fit, whatever was raised
+unraised : (t : OcrTerms) (J : List Entry) (v : OcrView) (k : ℕ) → Fits meaning t J (raising v k) → Fits meaning t J v
+unraised t J v k fits = record {
+  limits = fits.limits;
+  run = fits.run;
+  few = fits.few;
+  log = fits.log;
+  joined = fits.joined;
+  distinct = fits.distinct;
+  unmade = fits.unmade;
+  own = fits.own;
+  owed = fits.owed;
+  sent = fits.sent;
+  parts = fits.parts;
+  facts = fits.facts;
+  claims = λ n has. let c = fits.claims n has in record { set = c.set; unended = c.unended; begun = c.begun; tied = c.tied };
+  sole = fits.sole;
+  alone = fits.alone;
+}
+
+pub may_commit : (t : OcrTerms) (v w : OcrView) (e : Entry) (h : Hand) (ps later : List (ℕ × Part)) (sent : List What) (k : ℕ) → Affords w (deed meaning t.limit w e later sent) → w ≡ raising v k → CanMake t v e h ps → v.weight + weight_of e ≤ t.share → IsStep t.limit e h.members h.parts later sent
     → MayCommit meaning t w e later sent
-may_commit t v w e h ps later sent same can light step =
+may_commit t v w e h ps later sent k affords same can light step =
     subst (λ (x : OcrView). MayCommit meaning t x e later sent) (sym same) (record {
       goes = can.goes;
       share = light;
@@ -66,12 +90,16 @@ may_commit t v w e h ps later sent same can light step =
       drawn = can.drawn;
       keeps = λ p. let w = weigh_keys (one_at p) later h.parts (turns_keys later h.parts step.same_keys) in let r = can.places p in let a = r.0 in let b = r.1 in (w ∙ a, omega (arith, w, b));
       claims = record { starts = can.claims.starts; waits = can.claims.waits; resumes = can.claims.resumes };
-      legal = entry_law t v e h.members h.parts later sent can.goes can.may step;
+      unit = subst (λ (x : OcrView). 1 ≤ units x) same (some_unit w (deed meaning t.limit w e later sent) affords);
+      spares = subst (λ (x : OcrView). needed (deed meaning t.limit x e later sent) ≤ x.spares + freed x (deed meaning t.limit x e later sent)) same (enough_units w (deed meaning t.limit w e later sent) affords);
+      legal = λ J open_run fits. let next = entry_law t v e h.members h.parts later sent can.goes can.may step J open_run (unraised t J v k fits) in
+          record { legal = next.legal; parts = next.parts; sends = next.sends; facts = next.facts; wakes = next.wakes; counts = next.counts };
     })
 
-pub enters_as : (t : OcrTerms) (n : ℕ) (old old1 new : OcrKnown) (e : Entry) (h : Hand) (later : List (ℕ × Part)) (sent : List What) → old1.view ≡ old.view → old1.parts ≡ old.parts
+pub enters_as : (t : OcrTerms) (n : ℕ) (old old1 new : OcrKnown) (e : Entry) (h : Hand) (later : List (ℕ × Part)) (sent : List What) (k : ℕ) → old1.view ≡ raising old.view k → old1.parts ≡ old.parts
     → IsStep t.limit e h.members h.parts later sent → CommitTells meaning (committed.At n) old1 new (deed meaning t.limit old1.view e later sent) → EntersAs t old new e h
-enters_as t n old old1 new e h later sent view parts step tells = record {
+enters_as t n old old1 new e h later sent k view parts step tells = record {
+  paid = k;
   number = n;
   later = later;
   sent = sent;

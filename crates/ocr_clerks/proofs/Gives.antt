@@ -92,7 +92,7 @@ pub record GaveFaces (t : OcrTerms) (edt : ℕ) (left : List ℕ) (old new : Ocr
   pub left_is : (q : ℕ) → weigh (one_at q) rest ≡ times q left
 
 parts_calm : (u : OcrView) (ps : List (ℕ × Part)) → Calm u (with_parts u ps)
-parts_calm u ps = record { terms = refl; root = refl; seat = refl; out = refl; joined = refl; log = refl; weight = refl; drawn = refl; full = refl; reached = refl; closed = refl }
+parts_calm u ps = record { terms = refl; root = refl; seat = refl; out = refl; joined = refl; log = refl; weight = refl; drawn = refl; full = refl; reached = refl; closed = refl; stake = omega arith; raised = refl; ended = refl }
 
 all_at : (P : ℕ → Type 0) (ns : List ℕ) (k : ℕ) → All P ns → k < length ns → P (get_or ns k 0)
 all_at P ns k all lt = all k 0 lt

@@ -1,5 +1,5 @@
 -- What stays of a clerk at work by each call on the table.
-use Rattle.std.proofs.Common.{◌≡◌, inl, inr, ℕ, ◌+◌, ◌≤◌, ◌==◌, true, false, if◌then◌else◌, List, [], ◌∷◌, ◌++◌, length, Option, Some, None, is_some, refl, ap, sym, ◌∙◌, subst, arith}
+use Rattle.std.proofs.Common.{◌≡◌, ◌⊎◌, inl, inr, ℕ, ◌+◌, ◌≤◌, ◌==◌, true, false, if◌then◌else◌, List, [], ◌∷◌, ◌++◌, length, Option, Some, None, is_some, refl, ap, sym, ◌∙◌, subst, arith}
 use Rattle.std.specs.Prelude.{MatchOption}
 use Rattle.std.proofs.lemmas.List.{append-nil, append_assoc}
 use lib.ListN.{get_elem?}
@@ -17,12 +17,16 @@ use Rattle.ocr_facts.specs.Clerks.{OcrTerms, OcrView}
 use Rattle.ocr_facts.specs.Ocr.{makes, meaning}
 use Rattle.ocr_facts.specs.declared.fact.Fact.{Fact}
 use Rattle.ocr_rule.specs.Contract.{ClosedBy, CommitTells, CloseTells}
+use Rattle.ocr_facts.proofs.Lawful.{lawful}
+use Rattle.ocr_rule.specs.Living.{raising}
 use Rattle.ocr_rule.specs.Steps.{SeesEnd, deed, ended_by, logged, shut_by}
+use Rattle.ocr_rule.specs.Units.{claim_count}
 use Rattle.ocr_rule.specs.Sums.{as_some, less_all, less_one, load_of, replace, replace_all}
 use Rattle.ocr_rule.specs.declared.answers.Committed.{Committed}
 use Rattle.ocr_rule.specs.declared.answers.Committed.TheVariants as committed
 use Rattle.ocr_clerks.specs.Entering.{OcrDeed, OcrKnown}
-use Rattle.ocr_clerks.specs.Work.{AtWork, HasLeft, IsGone, IsOwnStop, OcrTable, Stays, stop_in, stop_of, told}
+use Rattle.ocr_clerks.proofs.Affording.{Affords, still_staked}
+use Rattle.ocr_clerks.specs.Work.{RAISES, AtWork, HasLeft, IsGone, IsOwnStop, OcrTable, Stays, stop_in, stop_of, told}
 
 -- THE LOG
 pub stop_after : (log : List (ℕ × Entry)) (n : ℕ) (e : Entry) → stop_in log ≡ None → stop_in (log ++ (n, e) ∷ []) ≡ stop_of e
@@ -82,6 +86,9 @@ pub record Calm (u v : OcrView) : Type 0 where
   pub full : v.full ≡ u.full
   pub reached : v.reached ≡ u.reached
   pub closed : v.closed ≡ u.closed
+  pub stake : u.spares + claim_count u ≤ v.spares + claim_count v
+  pub raised : v.raised ≡ u.raised
+  pub ended : v.ended ≡ u.ended
 
 pub stays_by : (old new : OcrKnown) (v : OcrView) → new.table ≡ old.table → new.view ≡ v → v.terms ≡ old.view.terms → v.root ≡ old.view.root → v.seat ≡ old.view.seat → v.out ≡ old.view.out → v.joined ≡ old.view.joined
     → (more : List (ℕ × Entry)) × (v.log ≡ old.view.log ++ more) → Stays old new
@@ -126,6 +133,10 @@ work_still table p old new v work same is calm room spare = record {
   full = subst (λ (w : OcrView). MatchOption w.full (Unit {0}) (λ _. is_some w.reached ≡ true)) (sym is)
       (subst (λ (o : Option ℕ). MatchOption o (Unit {0}) (λ _. is_some v.reached ≡ true)) (sym calm.full)
       (subst (λ (o : Option ℕ). MatchOption old.view.full (Unit {0}) (λ _. is_some o ≡ true)) (sym calm.reached) work.full));
+  loads = work.loads;
+  stake = let a = work.stake in let b = calm.stake in let k = ap (λ (w : OcrView). w.spares + claim_count w) is in omega (arith, a, b, k);
+  raised = let a = work.raised in let b = calm.raised in let k = ap (λ (w : OcrView). w.raised) is in let w = ap (λ (w : OcrView). w.weight) is ∙ calm.weight in omega (arith, a, b, k, w);
+  ended = ap (λ (w : OcrView). w.ended) is ∙ (calm.ended ∙ work.ended);
 }
 
 -- THE RUN HAS ENDED, as a call found it
@@ -166,7 +177,7 @@ closed_stays table p n old new work tells =
     stays_by old new (shut_by old.view n) tells.1.0 is refl refl refl refl refl ([], sym (append-nil old.view.log))
 
 -- AN ENTRY
-module _ (table : OcrTable) (p : Checked) (old mid new : OcrKnown) (e : Entry) (later : List (ℕ × Part)) (sent : List What) (work : AtWork table p old) (table_is : mid.table ≡ old.table) (view_is : mid.view ≡ old.view) where
+module _ (table : OcrTable) (p : Checked) (old mid new : OcrKnown) (e : Entry) (later : List (ℕ × Part)) (sent : List What) (work : AtWork table p old) (table_is : mid.table ≡ old.table) (k : ℕ) (view_is : mid.view ≡ raising old.view k) where
   abbrev its : OcrDeed
   its = deed meaning table.1.limit mid.view e later sent
 
@@ -187,9 +198,9 @@ module _ (table : OcrTable) (p : Checked) (old mid new : OcrKnown) (e : Entry) (
       left_by table p worker old new work (tells.1.0 ∙ table_is) (ap (λ (w : OcrView). w.terms) is ∙ ap (λ (w : OcrView). w.terms) view_is) (ap (λ (w : OcrView). length w.drawn) is ∙ ap (λ (w : OcrView). length w.drawn) view_is)
       (ap (λ (w : OcrView). w.log) is ∙ ap (λ (w : OcrView). w.log) view_is) (ap (λ (w : OcrView). w.weight) is ∙ ap (λ (w : OcrView). w.weight) view_is) (ap (λ (w : OcrView). is_some w.closed) is)
 
-  pub commit_work : (n : ℕ) → is_stop e ≡ false → old.view.weight + weight_of e ≤ table.1.share → 2 ≤ mid.room → old.spare ≤ mid.spare → mid.parts ≡ old.parts
+  pub commit_work : (n : ℕ) → k ≤ RAISES → Affords mid.view its → is_stop e ≡ false → old.view.weight + weight_of e ≤ table.1.share → 2 ≤ mid.room → old.spare ≤ mid.spare → mid.parts ≡ old.parts
       → 40 ≤ old.spare + length old.parts → CommitTells meaning (committed.At n) mid new its → AtWork table p new
-  commit_work n goes light room spare hand enough tells =
+  commit_work n most affords goes light room spare hand enough tells =
       let view = tells.3 in record {
         of_table = (tells.2 ∙ (table_is ∙ work.of_table.0), ap (λ (w : OcrView). w.terms) view ∙ (ap (λ (w : OcrView). w.terms) view_is ∙ work.of_table.1));
         limits = work.limits;
@@ -204,6 +215,10 @@ module _ (table : OcrTable) (p : Checked) (old mid new : OcrKnown) (e : Entry) (
         few = let w = ap (λ (w : OcrView). length w.drawn) view in let l = less_all_few (makes e) mid.view.drawn in let o = ap (λ (w : OcrView). length w.drawn) view_is in let f = work.few in omega (arith, w, l, o, f);
         full = subst (λ (w : OcrView). MatchOption w.full (Unit {0}) (λ _. is_some w.reached ≡ true)) (sym view)
             (subst (λ (w : OcrView). MatchOption w.full (Unit {0}) (λ _. is_some w.reached ≡ true)) (sym view_is) work.full);
+        loads = work.loads;
+        stake = let s = ap (λ (w : OcrView). w.spares + claim_count w) view in let k = still_staked mid.view n its affords in omega (arith, s, k);
+        raised = let a = ap (λ (w : OcrView). w.raised) view in let b = ap (λ (w : OcrView). w.raised) view_is in let w = ap (λ (w : OcrView). w.weight) view in let o = ap (λ (w : OcrView). w.weight) view_is in let one = lawful.weighs e goes in let old = work.raised in omega (arith, a, b, w, o, one, old, most);
+        ended = ap (λ (w : OcrView). w.ended) view ∙ (ap (λ (w : OcrView). w.ended) view_is ∙ work.ended);
       }
 
 -- AN END
@@ -237,6 +252,11 @@ own_plain t worker v other own = tt
 pub close_stays : (table : OcrTable) (p : Checked) (why : run.Stop) (fs : List Fact) (r : Committed) (old new : OcrKnown) → AtWork table p old → CloseTells meaning r old new (an.Stop why) fs → Stays old new
 close_stays table p why fs (committed.At n) old new work tells = stays_by old new (ended_by old.view n (an.Stop why) fs) tells.2 tells.3 refl refl refl refl refl ((n, an.Stop why) ∷ [], refl)
 close_stays table p why fs (committed.Closed n) old new work tells = closed_stays table p n old new work tells
+
+-- the log has this end, or the run had ended before
+pub close_made : (table : OcrTable) (p : Checked) (why : run.Stop) (fs : List Fact) (r : Committed) (old new : OcrKnown) → AtWork table p old → CloseTells meaning r old new (an.Stop why) fs → (is_some new.view.closed ≡ true) ⊎ (stop_in new.view.log ≡ Some why)
+close_made table p why fs (committed.At n) old new work tells = inr (ap (λ (w : OcrView). stop_in w.log) tells.3 ∙ stop_after old.view.log n (an.Stop why) work.unstopped)
+close_made table p why fs (committed.Closed n) old new work tells = inl (ap (λ (w : OcrView). is_some w.closed) (shut_view old n new.view work.is_open tells.2))
 
 pub stays_self : (c : OcrKnown) → Stays c c
 stays_self c = record { table = refl; terms = refl; root = refl; seat = refl; out = refl; joined = refl; log = ([], sym (append-nil c.view.log)) }

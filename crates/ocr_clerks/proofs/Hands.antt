@@ -1,6 +1,5 @@
 -- The parts of a clerk, as they are taken, lifted, entered and given back.
 use Rattle.std.proofs.Common.{◌≡◌, ◌≢◌, ℕ, zero, suc, ◌+◌, ◌≤◌, ◌<◌, ◌==◌, Bool, true, false, List, [], ◌∷◌, ◌++◌, length, take, get_or, Option, Some, None, refl, ap, sym, ◌∙◌, subst, arith}
-use Rattle.std.proofs.lemmas.Grind.{common_steps}
 use Rattle.std.proofs.lemmas.Bool.{eqb-true}
 use Rattle.std.proofs.lemmas.List.{length-append, append_assoc, append-nil}
 use Rattle.ocr_base.proofs.Booleans.{same as number_same}
@@ -48,7 +47,7 @@ took_one old new place tells = record {
 }
 
 took_calm : (u : OcrView) (ps : List (ℕ × Part)) → Calm u (record u { parts = ps })
-took_calm u ps = record { terms = refl; root = refl; seat = refl; out = refl; joined = refl; log = refl; weight = refl; drawn = refl; full = refl; reached = refl; closed = refl }
+took_calm u ps = record { terms = refl; root = refl; seat = refl; out = refl; joined = refl; log = refl; weight = refl; drawn = refl; full = refl; reached = refl; closed = refl; stake = omega arith; raised = refl; ended = refl }
 
 pub took_stays : (old new : OcrKnown) (place : ℕ) → TakeTells meaning taken.Mine old new place → Stays old new
 took_stays old new place tells = stays_still old new (record old.view { parts = old.view.parts ++ (place, tells.0) ∷ [] }) tells.2 tells.3 (took_calm old.view _)

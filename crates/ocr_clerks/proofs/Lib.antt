@@ -1,3 +1,4 @@
+pub mod Affording
 pub mod AtHand
 pub mod Counters
 pub mod Ending
@@ -8,3 +9,5 @@ pub mod Going
 pub mod Hands
 pub mod Seen
 pub mod Whole
+pub mod Pushing
+pub mod Units

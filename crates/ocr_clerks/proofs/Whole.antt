@@ -13,6 +13,7 @@ use Rattle.ocr_rule.proofs.Numbered.{weigh_keys}
 use Rattle.ocr_clerks.specs.Entering.{CanMake, Hand, OcrKnown}
 use Rattle.ocr_clerks.specs.Work.{AtWork, EntersAs, EntersKept, HasAllAtHand, OcrTable, Stays, in_hand, lifted}
 use Rattle.ocr_clerks.proofs.Entries.{turns_keys}
+use Rattle.ocr_rule.specs.Living.{raising}
 use Rattle.ocr_clerks.proofs.Going.{Calm, work_still}
 use Rattle.ocr_clerks.proofs.Hands.{hand_keys, lifted_keys, replace_whole, some_keys}
 
@@ -26,6 +27,7 @@ entered_whole t c new e h hand_keyed kept_keyed differ enters =
       later = enters.later;
       sent = enters.sent;
       step = enters.step;
+      paid = enters.paid;
       view = enters.view;
       kept = ap (λ (v : OcrView). v.parts) enters.view ∙ replace_whole enters.later c.view.parts (later_keys ∙ sym kept_keyed) once;
       hand = enters.hand
@@ -54,7 +56,8 @@ module _ (t : OcrTerms) (c : OcrKnown) (e : Entry) (h : Hand) (places : List ℕ
         later = r.later;
         sent = r.sent;
         step = r.step;
-        view = r.view ∙ ap (λ (v : OcrView). logged v r.number (deed meaning t.limit v e r.later r.sent)) view;
+        paid = r.paid;
+        view = r.view ∙ ap (λ (v : OcrView). logged (raising v r.paid) r.number (deed meaning t.limit v e r.later r.sent)) view;
         kept = r.kept;
         hand = r.hand;
         sees = r.sees;
@@ -62,7 +65,7 @@ module _ (t : OcrTerms) (c : OcrKnown) (e : Entry) (h : Hand) (places : List ℕ
 
 -- THE CLERK whose parts were lifted, or not
 pub still : (v : OcrView) → Calm v v
-still v = record { terms = refl; root = refl; seat = refl; out = refl; joined = refl; log = refl; weight = refl; drawn = refl; full = refl; reached = refl; closed = refl }
+still v = record { terms = refl; root = refl; seat = refl; out = refl; joined = refl; log = refl; weight = refl; drawn = refl; full = refl; reached = refl; closed = refl; stake = omega arith; raised = refl; ended = refl }
 
 pub lifted_work : (table : OcrTable) (p : Checked) (old new : OcrKnown) → AtWork table p old → new.table ≡ old.table → new.view ≡ old.view → SameRoom old new → length new.parts ≡ length old.parts → AtWork table p new
 lifted_work table p old new work same view room long =

@@ -6,8 +6,10 @@ use Rattle.ocr_facts.specs.Ocr.{makes, meaning, touches}
 use Rattle.ocr_facts.specs.declared.fact.Fact.{Fact}
 use Rattle.ocr_facts.specs.declared.setting.Setting.{Setting}
 use Rattle.ocr_history.specs.declared.entry.Entry.{Entry}
+use Rattle.ocr_history.specs.declared.entry.Entry.TheVariants.{Call}
 use Rattle.ocr_history.specs.declared.entry.What.{What}
 use Rattle.ocr_mail.specs.Mail.{Has}
+use Rattle.ocr_meaning.specs.declared.call.Call.TheVariants as call
 use Rattle.ocr_parts.specs.declared.part.Part.{Part}
 use Rattle.ocr_parts.specs.Kinds.{counted_on}
 use Rattle.ocr_parts.specs.Legal.{is_stop}
@@ -44,6 +46,11 @@ pub record CanMake (t : OcrTerms) (v : OcrView) (e : Entry) (h : Hand) (ps : Lis
   pub places : (p : ℕ) → (weigh (one_at p) h.parts ≡ touches t.limit e p)
       × (weigh (one_at p) h.parts ≤ weigh (one_at p) v.parts)
   pub counters : (g : ℕ) → counted_on (face_in t.limit h.parts g) < 2 ^ 64 - 1
+
+-- the unit of the EDT that an entry makes
+abbrev pub making_units : Entry → ℕ
+making_units (Call t home (call.EdtCreate from pc ps dc ds fl o) a w) = 1
+making_units other = 0
 
 -- what a change has to be for a commit of the entry, and the room that this needs
 pub record IsPrepared (t : OcrTerms) (c : OcrKnown) (e : Entry) (h : Hand) (later : List (ℕ × Part))

@@ -1,4 +1,5 @@
 pub mod Drawing
 pub mod Entering
 pub mod Laws
+pub mod Pushing
 pub mod Work

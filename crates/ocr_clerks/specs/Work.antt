@@ -1,6 +1,6 @@
 -- What the functions of workers ask of a clerk, and what they leave.
 use Rattle.std.specs.declared.snapshot.Snapshot.{Snapshot}
-use Rattle.std.specs.Prelude.{◌≡◌, ◌≢◌, ◌≤◌, ◌<◌, ℕ, ◌+◌, List, [], ◌∷◌, ◌++◌, ◌⊎◌, length, true, false, Option, Some, None, is_some, slice_index_or, MatchOption}
+use Rattle.std.specs.Prelude.{◌≡◌, ◌≢◌, ◌≤◌, ◌<◌, ℕ, ◌+◌, ◌*◌, List, [], ◌∷◌, ◌++◌, ◌⊎◌, length, true, false, Option, Some, None, is_some, slice_index_or, MatchOption}
 use Rattle.std.specs.List.{All}
 use Rattle.std.specs.Option.{option_or}
 use mathlib.Core.Option.{some}
@@ -35,7 +35,11 @@ use Rattle.ocr_parts.specs.Taken.{is_within}
 use Rattle.ocr_slots.specs.declared.Slot.{Slot}
 use Rattle.ocr_rule.specs.Contract.{IsOf}
 use Rattle.ocr_rule.specs.Rule.{RunsIn}
+use Rattle.ocr_live.specs.declared.answers.LiveRead.{LiveRead}
+use Rattle.ocr_live.specs.declared.answers.LiveRead.TheVariants as live
+use Rattle.ocr_rule.specs.Living.{SeesStill, raising}
 use Rattle.ocr_rule.specs.Steps.{Sees, deed, logged}
+use Rattle.ocr_rule.specs.Units.{claim_count}
 use Rattle.ocr_rule.specs.Sums.{as_some, entries, is_among, keys, load_of, replace_all}
 pub use Rattle.ocr_turns.specs.Hand.{at_hand as in_hand}
 use Rattle.ocr_clerks.specs.Drawing.{object_count}
@@ -88,9 +92,13 @@ pub record Stays (old new : OcrKnown) : Type 0 where
   pub joined : new.view.joined ≡ old.view.joined
   pub log : (more : List (ℕ × Entry)) × (new.view.log ≡ old.view.log ++ more)
 
+-- UNITS. By so much a clerk raises the live word at most for an entry
+abbrev pub RAISES : ℕ
+RAISES = 4400000000
+
 -- AT WORK: the clerk is of this table, whose program is this one and may be run; it does not know
--- that the run has ended, and did not end it; it has room for a Stop and for 40 parts, and its log
--- weighs no more than its share.
+-- that the run has ended, and did not end it; it has room for a Stop and for 40 parts, its log
+-- weighs no more than its share, and it has a unit to spare or a claim.
 pub record AtWork (table : OcrTable) (program : Checked) (c : OcrKnown) : Type 0 where
   pub of_table : IsOf table c
   pub limits : (2 ≤ table.1.limit) × (table.1.limit ≤ 65536)
@@ -104,6 +112,22 @@ pub record AtWork (table : OcrTable) (program : Checked) (c : OcrKnown) : Type 0
   pub light : c.view.weight ≤ table.1.share
   pub few : length c.view.drawn ≤ 3
   pub full : MatchOption c.view.full (Unit {0}) (λ _. is_some c.view.reached ≡ true)
+  pub loads : table.1.share ≤ 16000000
+  pub stake : 1 ≤ c.view.spares + claim_count c.view
+  pub raised : c.view.raised ≤ RAISES * c.view.weight
+  pub ended : c.view.ended ≡ 0
+
+-- AT REST: but for a unit to spare, or a claim, it is at work
+abbrev pub with_spare : OcrKnown → OcrKnown
+with_spare c = record c { view = record c.view { spares = c.view.spares + 1 } }
+
+abbrev pub IsResting : OcrTable → Checked → OcrKnown → Type 0
+IsResting table program c = AtWork table program (with_spare c)
+
+-- what an idle clerk reads of the live word
+abbrev pub ReadsIdle : LiveRead → OcrKnown → Type 0
+ReadsIdle (live.Quiet n) c = (c.view.quiet ≡ Some n) × SeesStill meaning c.view n
+ReadsIdle (live.Busy x) c = (1 ≤ x) × (c.view.live ≡ Some x)
 
 -- GONE OR AT WORK: what its log tells, however the run goes on. Nothing is said of what it keeps.
 pub record HasLeft (table : OcrTable) (worker : ℕ) (c : OcrKnown) : Type 0 where
@@ -127,6 +151,19 @@ pub record OwesNoCount (v : OcrView) : Type 0 where
   pub put : v.debts.put ≡ []
   pub made : v.debts.made ≡ []
   pub resumes : v.debts.resumes ≡ []
+
+-- so all its units but for messages and one claim are to spare
+pub record HasFewDuties (v : OcrView) : Type 0 where
+  pub owes : OwesNoCount v
+  pub claims : claim_count v ≤ 1
+
+-- the live word was raised so that it has these units to spare, and one more, or a claim
+pub record Pays (needed : ℕ) (v w : OcrView) : Type 0 where
+  pub paid : ℕ
+  pub view : w ≡ raising v paid
+  pub most : paid ≤ RAISES
+  pub enough : needed ≤ w.spares
+  pub stake : needed + 1 ≤ w.spares + claim_count w
 
 -- no EDT runs by its log but this one
 abbrev pub RunsOnly : OcrView → ℕ → Type 0
@@ -197,7 +234,10 @@ pub record EntersAs (t : OcrTerms) (old new : OcrKnown) (e : Entry) (h : Hand) :
   pub later : List (ℕ × Part)
   pub sent : List What
   pub step : IsStep t.limit e h.members h.parts later sent
-  pub view : new.view ≡ logged old.view number (deed meaning t.limit old.view e later sent)
+  -- by so much the live word was raised before it
+  pub paid : ℕ
+  pub view : new.view
+      ≡ logged (raising old.view paid) number (deed meaning t.limit old.view e later sent)
   pub hand : new.parts ≡ replace_all (as_some later) old.parts
   pub sees : Sees meaning new.view
 
@@ -207,7 +247,10 @@ pub record EntersKept (t : OcrTerms) (old new : OcrKnown) (e : Entry) (h : Hand)
   pub later : List (ℕ × Part)
   pub sent : List What
   pub step : IsStep t.limit e h.members h.parts later sent
-  pub view : new.view ≡ logged old.view number (deed meaning t.limit old.view e later sent)
+  -- by so much the live word was raised before it
+  pub paid : ℕ
+  pub view : new.view
+      ≡ logged (raising old.view paid) number (deed meaning t.limit old.view e later sent)
   pub kept : new.view.parts ≡ later
   pub hand : new.parts ≡ as_some later
   pub sees : Sees meaning new.view

@@ -1,5 +1,5 @@
 // A worker ends the run.
-ghost use Rattle.std.specs.Prelude.{◌≡◌, ◌<◌, ◌+◌, ◌++◌, ◌∷◌, [], ℕ, List, length, is_some, true, reverse};
+ghost use Rattle.std.specs.Prelude.{◌≡◌, ◌<◌, ◌+◌, ◌++◌, ◌∷◌, ◌⊎◌, [], ℕ, List, Some, length, is_some, true, reverse};
 ghost use Rattle.ocr_facts.specs.Clerks.{Knows, of_terms};
 ghost use Rattle.ocr_facts.specs.Ocr.{stands};
 ghost use Rattle.ocr_history.specs.declared.entry.Entry.{Entry};
@@ -10,7 +10,7 @@ ghost use Rattle.ocr_parts.specs.Legal.{IsCreating};
 ghost use Rattle.ocr_rule.specs.Rule.{FactsOf};
 ghost use Rattle.ocr_clerks.specs.Drawing.{object_count};
 ghost use Rattle.ocr_clerks.specs.Entering.{CanMake, Hand};
-ghost use Rattle.ocr_clerks.specs.Work.{AtWork, IsGone, IsOwnStop, MayStopSo, Stays, told};
+ghost use Rattle.ocr_clerks.specs.Work.{AtWork, IsGone, IsOwnStop, MayStopSo, Stays, stop_in, told};
 
 use crate::gate::Gate;
 use crate::job::Job;
@@ -24,7 +24,8 @@ use ocr_turns::{Clerk, Committed};
 use std::snapshot::Snapshot;
 use std::sync::Wait;
 
-/// Ends the run by a Stop that is legal now, behind the gate.
+/// Ends the run by a Stop that is legal now, behind the gate. It stands in the log then, unless the
+/// run had ended before.
 pub fn close<R: Wait, G: Gate>(
     job: &Job<R, G>,
     worker: u32,
@@ -37,6 +38,8 @@ pub fn close<R: Wait, G: Gate>(
     requires own { IsOwnStop job.now.turns.now.1 worker clerk.old.view why }
     ensures stays { Stays clerk.old clerk.new }
     ensures gone { IsGone job.now.turns.now worker clerk.new }
+    ensures made { (is_some clerk.new.view.closed ≡ true)
+        ⊎ (stop_in clerk.new.view.log ≡ Some why) }
 {
     close_telling(job, worker, clerk, why, &[])
 }
@@ -58,6 +61,8 @@ fn close_telling<R: Wait, G: Gate>(
     requires own { IsOwnStop job.now.turns.now.1 worker (told clerk.old.view learns.now) why }
     ensures stays { Stays clerk.old clerk.new }
     ensures gone { IsGone job.now.turns.now worker clerk.new }
+    ensures made { (is_some clerk.new.view.closed ≡ true)
+        ⊎ (stop_in clerk.new.view.log ≡ Some why) }
 {
     job.gate.pass(job.rt, worker, clerk);
     match job.turns.close(clerk, Entry::Stop(why), learns) {

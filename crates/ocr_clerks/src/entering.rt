@@ -2,13 +2,14 @@
 ghost use Rattle.std.specs.Prelude.{◌≡◌, IfOk, OnErr, OnOk};
 ghost use Rattle.ocr_facts.specs.Ocr.{wakes};
 ghost use Rattle.ocr_clerks.specs.Entering.{CanMake, Hand};
-ghost use Rattle.ocr_clerks.specs.Work.{AtWork, EntersAs, IsGone, Stays};
+ghost use Rattle.ocr_clerks.specs.Work.{AtWork, EntersAs, HasFewDuties, IsGone, Stays};
 
 use crate::closing::{close_heavy, close_memory};
 use crate::gate::Gate;
 use crate::job::Job;
 use crate::ocr::Ocr;
 use crate::over::Over;
+use crate::paying::pay;
 use crate::preparing::prepare;
 use ocr_guid::Guid;
 use ocr_history::Entry;
@@ -32,6 +33,7 @@ pub fn enter_at_work<R: Wait, G: Gate>(
 ) -> Result<Vec<Guid>, Over>
     ghost h: { Hand }
     requires work { AtWork job.now.turns.now job.now.program.now clerk.old }
+    requires duties { HasFewDuties clerk.old.view }
     requires can { CanMake job.now.turns.now.1 clerk.old.view entry h parts.items }
     ensures stays { Stays clerk.old clerk.new }
     ensures work { OnOk result (AtWork job.now.turns.now job.now.program.now clerk.new) }
@@ -48,6 +50,7 @@ pub fn enter_at_work<R: Wait, G: Gate>(
     let Ok(prepared) = prepare(alloc, job.turns, limit, clerk, &entry, parts) else {
         return Err(close_memory(job, worker, clerk));
     };
+    pay(job.turns, job.program, clerk, prepared.units);
     job.gate.pass(job.rt, worker, clerk);
     match job.turns.commit(clerk, entry, prepared.change) {
         Committed::At(_number) => Ok(prepared.resumed),

@@ -1,16 +1,18 @@
 // An entry whose step was made on the parts at hand.
-ghost use Rattle.std.specs.Prelude.{◌≡◌, ◌<◌, ◌^◌, List, ℕ, length, OnOk, OnErr};
+ghost use Rattle.std.specs.Prelude.{◌≡◌, ◌<◌, ◌^◌, List, [], ℕ, length, OnOk, OnErr};
 ghost use Rattle.ocr_facts.specs.Clerks.{IsStep};
+ghost use Rattle.ocr_facts.specs.Ocr.{wakes};
 ghost use Rattle.ocr_parts.specs.declared.part.Part.{Part};
 ghost use Rattle.ocr_rule.specs.Sums.{as_some};
 ghost use Rattle.ocr_clerks.specs.Entering.{CanMake, Hand};
-ghost use Rattle.ocr_clerks.specs.Work.{AtWork, EntersAs, IsGone, Stays, in_hand};
+ghost use Rattle.ocr_clerks.specs.Work.{AtWork, EntersAs, HasFewDuties, IsGone, Stays, in_hand};
 
 use crate::closing::{close_heavy, close_memory};
 use crate::gate::Gate;
 use crate::job::Job;
 use crate::ocr::Ocr;
 use crate::over::Over;
+use crate::paying::{making_units, pay};
 use ocr_history::{Entry, What};
 use ocr_machine::weight;
 use ocr_turns::{Clerk, Committed};
@@ -37,6 +39,8 @@ pub fn enter_at_hand<R: Wait, G: Gate>(
     requires step { IsStep job.now.turns.now.1.limit entry h.members h.parts
         (in_hand clerk.old.parts) messages.items }
     requires few { length messages.items < 2 ^ 32 }
+    requires duties { HasFewDuties clerk.old.view }
+    requires wakes { wakes job.now.turns.now.1.limit entry clerk.old.view.parts ≡ [] }
     ensures stays { Stays clerk.old clerk.new }
     ensures work { OnOk result (AtWork job.now.turns.now job.now.program.now clerk.new) }
     ensures entered { OnOk result (EntersAs job.now.turns.now.1 clerk.old clerk.new entry h) }
@@ -50,6 +54,8 @@ pub fn enter_at_hand<R: Wait, G: Gate>(
     let Ok(()) = job.turns.reserve(alloc, clerk, messages.len()) else {
         return Err(close_memory(job, worker, clerk));
     };
+    let needed = messages.len() as u64 + making_units(&entry);
+    pay(job.turns, job.program, clerk, needed);
     job.gate.pass(job.rt, worker, clerk);
     match job.turns.commit_at_hand(clerk, entry, messages) {
         Committed::At(_number) => Ok(()),

@@ -4,7 +4,7 @@ ghost use Rattle.ocr_facts.specs.Ocr.{wakes};
 ghost use Rattle.ocr_rule.specs.Contract.{SameRoom};
 ghost use Rattle.ocr_rule.specs.Sums.{as_some, one_at, weigh};
 ghost use Rattle.ocr_clerks.specs.Entering.{CanMake, Hand};
-ghost use Rattle.ocr_clerks.specs.Work.{AtWork, EntersKept, HasAllAtHand, IsGone, Stays, in_hand, lifted};
+ghost use Rattle.ocr_clerks.specs.Work.{AtWork, EntersKept, HasAllAtHand, HasFewDuties, IsGone, Stays, in_hand, lifted};
 
 use crate::closing::close_memory;
 use crate::entering::enter_at_work;
@@ -58,6 +58,7 @@ pub fn enter_kept<R: Wait, G: Gate>(
     ghost h: { Hand }
     requires work { AtWork job.now.turns.now job.now.program.now clerk.old }
     requires hand { HasAllAtHand clerk.old places.now }
+    requires duties { HasFewDuties clerk.old.view }
     requires can { CanMake job.now.turns.now.1 clerk.old.view entry h (in_hand clerk.old.parts) }
     ensures stays { Stays clerk.old clerk.new }
     ensures work { OnOk result (AtWork job.now.turns.now job.now.program.now clerk.new) }

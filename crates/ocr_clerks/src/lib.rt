@@ -12,7 +12,10 @@ mod job;
 mod keeping;
 mod ocr;
 mod over;
+mod paying;
 mod preparing;
+mod ready;
+mod resting;
 mod taking;
 
 pub use closing::{close, close_heavy, close_memory};
@@ -25,4 +28,6 @@ pub use job::Job;
 pub use keeping::{enter_kept, lift_parts};
 pub use ocr::Ocr;
 pub use over::Over;
+pub use ready::push_ready;
+pub use resting::read_idle;
 pub use taking::{take_part, take_parts};

@@ -1,9 +1,10 @@
 // What an entry makes of the parts that it names, and the room that it needs.
-ghost use Rattle.std.specs.Prelude.{◌≡◌, ◌≤◌, IfOk};
+ghost use Rattle.std.specs.Prelude.{◌≡◌, ◌≤◌, ◌+◌, length, IfOk};
 ghost use Rattle.ocr_facts.specs.Ocr.{wakes};
-ghost use Rattle.ocr_clerks.specs.Entering.{CanMake, Hand, IsPrepared};
+ghost use Rattle.ocr_clerks.specs.Entering.{CanMake, Hand, IsPrepared, making_units};
 
 use crate::ocr::Ocr;
+use crate::paying::making_units;
 use ocr_base::NoMemory;
 use ocr_guid::Guid;
 use ocr_history::Entry;
@@ -17,10 +18,13 @@ use std::alloc::Global;
 pub(crate) struct Prepared {
     pub change: Change<Ocr>,
     pub resumed: Vec<Guid>,
+    // As many units are needed for it at most, beside that of a message that it delivers.
+    pub units: u64,
 }
 
 /// The change that an entry makes of these parts, which the clerk lifted, and room for it in the
-/// clerk. For want of memory the parts are lost; more messages than 32 bits can number want it too.
+/// clerk. For want of memory the parts are lost; more messages and resumed EDTs than 32 bits can
+/// number want it too.
 pub(crate) fn prepare(
     alloc: Global,
     turns: &Turns<Ocr>,
@@ -38,12 +42,15 @@ pub(crate) fn prepare(
     ensures room { clerk.old.room ≤ clerk.new.room }
     ensures change { IfOk result (λ c. IsPrepared turns.now.1 clerk.new entry.now h
         c.change.parts.items c.change.messages.items) }
+    ensures units { IfOk result (λ c. (c.units ≡ length c.change.messages.items
+        + length c.resumed.items + making_units entry.now) × (c.units ≤ 4294967298)) }
     ensures resumed { IfOk result (λ c. c.resumed.items
         ≡ wakes turns.now.1.limit entry.now clerk.old.view.parts) }
 {
     let stepped = step(alloc, limit, entry, parts)?;
     let count = stepped.messages.len();
-    if count > u32::MAX as usize {
+    let resumed = stepped.resumed.len();
+    if count > u32::MAX as usize || resumed > u32::MAX as usize - count {
         return Err(NoMemory);
     }
     turns.reserve(alloc, clerk, count)?;
@@ -54,5 +61,6 @@ pub(crate) fn prepare(
     Ok(Prepared {
         change,
         resumed: stepped.resumed,
+        units: (count + resumed) as u64 + making_units(entry),
     })
 }

@@ -2,7 +2,7 @@
 ghost use Rattle.std.specs.Prelude.{◌≡◌};
 ghost use Rattle.ocr_rule.specs.Contract.{IsOf, SameHand};
 ghost use Rattle.ocr_rule.specs.Owing.{IsNumber};
-ghost use Rattle.ocr_rule.specs.Words.{HasClaim, HasSlot, OwesResume, Waits, resuming, unclaiming};
+ghost use Rattle.ocr_rule.specs.Words.{HasClaim, HasSlot, IsOver, OwesResume, Waits, resuming, unclaiming};
 ghost use Rattle.ocr_count.specs.Counts.{ClaimTells, PayloadTells};
 
 use crate::answers::Claimed;
@@ -55,4 +55,15 @@ pub fn resume<M: Machine>(turns: &Turns<M>, clerk: &mut Clerk<M>, edt: Guid)
     ensures view { clerk.new.view ≡ resuming clerk.old.view edt }
 {
     turns.step_word(clerk, edt.0, WordStep::Resume);
+}
+
+/// Gives up the claim of an EDT that was destroyed before it started.
+pub fn drop_claim<M: Machine>(turns: &Turns<M>, clerk: &mut Clerk<M>, edt: Guid)
+    requires table { IsOf turns.now clerk.old }
+    requires claimed { HasClaim clerk.old.view edt }
+    requires over { IsOver M.meaning turns.now.1 clerk.old.view edt }
+    ensures hand { SameHand clerk.old clerk.new }
+    ensures view { clerk.new.view ≡ unclaiming clerk.old.view edt }
+{
+    turns.step_word(clerk, edt.0, WordStep::Drop);
 }

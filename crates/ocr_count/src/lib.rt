@@ -7,5 +7,5 @@ mod claiming;
 mod counting;
 
 pub use answers::{Claimed, Down};
-pub use claiming::{claim, park, payload, resume};
+pub use claiming::{claim, drop_claim, park, payload, resume};
 pub use counting::{count_down, count_made, put_payload};

@@ -30,12 +30,14 @@ use Rattle.ocr_parts.specs.Parts.{Parts, new_identity}
 use Rattle.ocr_hand.specs.AtHand.{AtHand, Becomes, HasCore, HasFace, listed, with_part}
 use Rattle.ocr_hand.proofs.Places.{edt_made}
 use Rattle.ocr_rule.specs.Owing.{listed as listed_made}
+use Rattle.ocr_rule.specs.Living.{raising}
 use Rattle.ocr_rule.specs.Steps.{deed, logged}
 use Rattle.ocr_rule.proofs.Numbered.{weigh_keys}
 use Rattle.ocr_facts.specs.Ocr.{counts, slots_meant}
 use Rattle.ocr_clerks.proofs.Entries.{turns_keys}
 use Rattle.ocr_running.proofs.Cores.{first_core}
 use Rattle.ocr_running.proofs.Entered.{call_done, call_leaves}
+use Rattle.ocr_running.proofs.Readied.{lifted_duties}
 use Rattle.ocr_calling.proofs.Makes.{counts_kept}
 use Rattle.ocr_rule.specs.Steps.{Sees, with_drawn}
 use Rattle.ocr_rule.specs.Sums.{as_some, find, keys, one_at, replace, sum_of, weigh}
@@ -44,7 +46,7 @@ use Rattle.ocr_rule.proofs.Totals.{one_here}
 use Rattle.ocr_facts.specs.Clerks.{IsStep, OcrTerms, OcrView}
 use Rattle.ocr_facts.specs.Ocr.{meaning}
 use Rattle.ocr_clerks.specs.Entering.{CanMake, OcrKnown}
-use Rattle.ocr_clerks.specs.Work.{AtWork, EntersAs, OcrTable, Took, in_hand, lifted}
+use Rattle.ocr_clerks.specs.Work.{AtWork, EntersAs, HasFewDuties, OcrTable, Took, in_hand, lifted}
 use Rattle.ocr_clerks.proofs.Hands.{in_hand_some, keys_append, lifted_keys, replace_whole, some_append, some_keys}
 use Rattle.ocr_clerks.proofs.Whole.{lifted_length, lifted_work}
 use Rattle.ocr_running.specs.Running.{AreOthers, HasEntered, HasLifted, HasTaken, IsCalled, Runs, first_in, holds_at, home_at, places_made}
@@ -345,6 +347,9 @@ module _ (table : OcrTable) (program : Checked) (edt : ℕ) (b : Body) (first ol
     pub mid_can : (was : List (ℕ × Part)) × CanMake table.1 mid.view (made_entry edt (call_of bare) n) (record { members = []; parts = in_hand old.parts }) was
     mid_can = (in_hand old.parts, subst (λ (v : OcrView). CanMake table.1 v (made_entry edt (call_of bare) n) (record { members = []; parts = in_hand old.parts }) (in_hand old.parts)) (sym view) can_create)
 
+    pub mid_duties : HasFewDuties mid.view
+    mid_duties = subst HasFewDuties (sym view) (lifted_duties table.1 edt b first (as_lifted old) _ _ (in_hand old.parts) runs lift)
+
     pub mid_step : IsStep table.1.limit (made_entry edt (call_of bare) n) [] (in_hand old.parts) (in_hand mid.parts) []
     mid_step = record {
       parts = ap (parts_in table.1.limit) in_mid ∙ (becomes.state ∙ (sym made_is ∙ ((ap (λ (h : ℕ). made_parts h (part.Template made)) (sym home_is) ∙ ap (made_parts (home_on ((parts_in table.1.limit (in_hand old.parts)).core edt))) (sym template_at)) ∙ sym changes)));
@@ -374,7 +379,8 @@ module _ (table : OcrTable) (program : Checked) (edt : ℕ) (b : Body) (first ol
         later = done.later;
         sent = done.sent;
         step = done.step;
-        view = done.view ∙ ap (λ (v : OcrView). logged v done.number (deed meaning table.1.limit v (made_entry edt (call_of bare) n) done.later done.sent)) view;
+        paid = done.paid;
+        view = done.view ∙ ap (λ (v : OcrView). logged (raising v done.paid) done.number (deed meaning table.1.limit v (made_entry edt (call_of bare) n) done.later done.sent)) view;
         hand = done.hand ∙ (replace_whole (as_some done.later) mid.parts (some_keys done.later ∙ (later_keys ∙ sym mid_keys)) once
             ∙ sym (replace_whole (as_some done.later) (lifted old.parts) (some_keys done.later ∙ (later_keys ∙ sym lifted_are)) once));
         sees = done.sees;

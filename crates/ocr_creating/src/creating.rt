@@ -9,9 +9,10 @@ ghost use Rattle.ocr_parts.specs.Taken.{is_within};
 ghost use Rattle.ocr_rule.specs.Contract.{SameRoom};
 ghost use Rattle.ocr_rule.specs.Sums.{find, replace};
 ghost use Rattle.ocr_clerks.specs.Entering.{OcrKnown};
+ghost use Rattle.ocr_clerks.specs.Pushing.{IsPushed, PushesReady, ReadiesNone};
 ghost use Rattle.ocr_clerks.specs.Work.{AtWork, IsGone, Stays};
 ghost use Rattle.ocr_creating.specs.Creating.{HasAtHand, IsMadeOf, Suits, bare_core, call_of, made_answer, made_entry};
-ghost use Rattle.ocr_running.specs.Running.{IsCalled, IsPushed, Runs, holds_at, home_at};
+ghost use Rattle.ocr_running.specs.Running.{IsCalled, Runs, holds_at, home_at};
 ghost use Rattle.ocr_running.specs.Serving.{own_log};
 
 use ocr_base::{NoMemory, Seq};
@@ -92,6 +93,7 @@ pub(crate) fn create_bare<R: Wait, G: Gate>(
     ensures some { IfOk result (λ o. IfSome o (λ a. Runs job.now.turns.now.1 edt s.0 clerk.new
         × IsCalled edt call.now a s.1 clerk.new)) }
     ensures hand { IsPushed hand.old hand.new }
+    ensures pushed { OnOk result (PushesReady clerk.old clerk.new hand.old hand.new) }
     ensures gone { OnErr result (IsGone job.now.turns.now worker clerk.new) }
 {
     let limit = job.turns.limit();
@@ -134,6 +136,7 @@ fn create_from<R: Wait, G: Gate>(
     ensures some { IfOk result (λ o. IfSome o (λ a. Runs job.now.turns.now.1 edt s.0 clerk.new
         × IsCalled edt call.now a s.1 clerk.new)) }
     ensures hand { IsPushed hand.old hand.new }
+    ensures pushed { OnOk result (PushesReady clerk.old clerk.new hand.old hand.new) }
     ensures gone { OnErr result (IsGone job.now.turns.now worker clerk.new) }
 {
     take_part(job, worker, clerk, bare.template)?;
@@ -197,6 +200,7 @@ fn create<R: Wait, G: Gate>(
     ensures runs { OnOk result (Runs job.now.turns.now.1 edt s.0 clerk.new) }
     ensures called { IfOk result (λ a. IsCalled edt call.now a s.1 clerk.new) }
     ensures hand { IsPushed hand.old hand.new }
+    ensures pushed { OnOk result (PushesReady clerk.old clerk.new hand.old hand.new) }
     ensures gone { OnErr result (IsGone job.now.turns.now worker clerk.new) }
 {
     let new = take_both(job, worker, clerk, edt, call, bare)?;
@@ -227,6 +231,7 @@ fn take_both<R: Wait, G: Gate>(
         × (find bare.now.template clerk.old.parts ≡ Some (Some (part.Template made)))
         × Suits bare.now made slots }
     ensures stays { Stays clerk.old clerk.new }
+    ensures readied { OnOk result (ReadiesNone clerk.old clerk.new) }
     ensures work { OnOk result (AtWork job.now.turns.now job.now.program.now clerk.new) }
     ensures some { IfOk result (λ n. (1 ≤ n) × (n ≤ job.now.turns.now.1.limit)) }
     ensures hand { IfOk result (λ n. HasAtHand job.now.turns.now.1 edt s.1 clerk.new
@@ -328,6 +333,7 @@ fn enter_new<R: Wait, G: Gate>(
     ensures runs { OnOk result (Runs job.now.turns.now.1 edt s.0 clerk.new) }
     ensures called { OnOk result (IsCalled edt call.now (made_answer new) s.1.0 clerk.new) }
     ensures hand { IsPushed hand.old hand.new }
+    ensures pushed { OnOk result (PushesReady clerk.old clerk.new hand.old hand.new) }
     ensures gone { OnErr result (IsGone job.now.turns.now worker clerk.new) }
 {
     let limit = job.turns.limit();

@@ -3,9 +3,10 @@ ghost use Rattle.std.specs.Prelude.{IfOk, OnOk, OnErr};
 ghost use Rattle.ocr_meaning.specs.Behaviour.{IsNextWith};
 ghost use Rattle.ocr_meaning.specs.Body.{Body, says};
 ghost use Rattle.ocr_meaning.specs.Holds.{private_of};
+ghost use Rattle.ocr_clerks.specs.Pushing.{IsPushed, PushesReady};
 ghost use Rattle.ocr_clerks.specs.Work.{AtWork, IsGone, Stays};
 ghost use Rattle.ocr_running.specs.Calls.{IsCoded};
-ghost use Rattle.ocr_running.specs.Running.{IsCalled, IsPushed, Runs, holds_at};
+ghost use Rattle.ocr_running.specs.Running.{IsCalled, Runs, holds_at};
 ghost use Rattle.ocr_running.specs.Serving.{own_log};
 
 use crate::creating::create_bare;
@@ -41,6 +42,7 @@ pub fn make_call<R: Wait, G: Gate>(
     ensures runs { OnOk result (Runs job.now.turns.now.1 edt b clerk.new) }
     ensures called { IfOk result (λ a. IsCalled edt call.now a clerk.old clerk.new) }
     ensures hand { IsPushed hand.old hand.new }
+    ensures pushed { OnOk result (PushesReady clerk.old clerk.new hand.old hand.new) }
     ensures gone { OnErr result (IsGone job.now.turns.now worker clerk.new) }
 {
     match call {
@@ -70,6 +72,7 @@ fn make_edt<R: Wait, G: Gate>(
     ensures runs { OnOk result (Runs job.now.turns.now.1 edt b clerk.new) }
     ensures called { IfOk result (λ a. IsCalled edt call.now a clerk.old clerk.new) }
     ensures hand { IsPushed hand.old hand.new }
+    ensures pushed { OnOk result (PushesReady clerk.old clerk.new hand.old hand.new) }
     ensures gone { OnErr result (IsGone job.now.turns.now worker clerk.new) }
 {
     if let Some(answer) = create_bare(alloc, job, worker, clerk, hand, edt, call)? {

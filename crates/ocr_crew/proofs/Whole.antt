@@ -16,10 +16,10 @@ use Rattle.ocr_history.specs.History.{History, is_stopped}
 use Rattle.ocr_history.specs.History as history
 use Rattle.ocr_history.specs.Weight.{weight}
 use Rattle.ocr_parts.specs.Legal.{IsCreating, IsRun, IsStop, is_stop}
-use Rattle.ocr_parts.specs.Runs.{IsQuiet}
+use Rattle.ocr_drained.proofs.Drained.{still_law}
 use Rattle.ocr_rule.specs.Contract.{Finished}
 use Rattle.ocr_rule.specs.Meaning.{Ended, Open}
-use Rattle.ocr_rule.specs.Rule.{FactsOf, Fits, LogOf, LogsOf}
+use Rattle.ocr_rule.specs.Rule.{FactsOf, IsStill, LogOf}
 use Rattle.ocr_rule.specs.Sums.{made_sum, sum_of, up_to}
 use Rattle.ocr_rule.proofs.Totals.{at_less, at_snoc_at, made_snoc}
 use Rattle.ocr_facts.specs.Clerks.{OcrTerms, OcrView, of_terms}
@@ -29,10 +29,10 @@ use Rattle.ocr_facts.proofs.Entered.{goes_on}
 use Rattle.ocr_facts.proofs.Runs.{reverse_snoc, run_is}
 use Rattle.ocr_clerks.specs.Work.{stop_in, stop_of}
 use Rattle.ocr_journal.specs.Numbered.{AreByNumber}
-use Rattle.ocr_journal.proofs.Numbering.{number_there, same_list}
+use Rattle.ocr_journal.proofs.Numbering.{number_there}
 use Rattle.ocr_crew.specs.Ended.{IsFinished, IsWhole}
 use Rattle.ocr_crew.specs.Limits.{IsLimitCause, IsLimitedBy}
-use Rattle.ocr_crew.specs.Logs.{EndsBy, HasLogs, IsLog, KnowsEnd, read, quiet}
+use Rattle.ocr_crew.specs.Logs.{EndsBy, HasLogs, IsLog, KnowsEnd}
 use Rattle.ocr_crew.proofs.Numbers.{free_few}
 use Rattle.ocr_crew.proofs.Weights.{load_within, loads_of, loads_within, run_weight}
 
@@ -44,13 +44,6 @@ stop_is other past is = absurd (cc is)
 stopped : (J : List Entry) → Ended is_stop J → is_stopped (reverse J) ≡ true
 stopped J ended = ap (λ K. is_stopped (reverse K)) ended.whole ∙ (ap is_stopped (reverse_snoc ended.past ended.last) ∙ stop_is ended.last (reverse ended.past) ended.stop)
 
-fitting : (t : OcrTerms) (v : OcrView) (K : List Entry) → v.root ≡ 1 → v.out ≡ 0 → Fits meaning t K v → AreByNumber (v.log ∷ v.joined) K
-fitting t v K root out fits = record { of = of; once = fits.sole root out }
-  where
-    of : LogsOf K (v.log ∷ v.joined)
-    of zero l at = subst (LogOf K) (some-injective v.log l at) fits.log
-    of (suc j) l at = fits.joined j l at
-
 match_some : {A : Type 0} (o : Option A) (P : A → Type 0) (Q : Type 0) → is_some o ≡ true → MatchOption o (Unit {0}) (λ _. Q) → Q
 match_some None P Q is m = absurd (cc is)
 match_some (Some x) P Q is m = m
@@ -58,10 +51,15 @@ match_some (Some x) P Q is m = m
 by_number : (t : OcrTerms) (v : OcrView) (logs : List (List (ℕ × Entry))) (f : Finished meaning t v logs) → AreByNumber (v.log ∷ v.joined) f.history
 by_number t v logs f = subst (λ ls. AreByNumber ls f.history) f.logs_are (record { of = f.of_run; once = f.once })
 
-finished : (t : OcrTerms) (v : OcrView) (logs : List (List (ℕ × Entry))) (f : Finished meaning t v logs) → KnowsEnd t v → IsFinished (of_terms t) (reverse f.history)
-finished t v logs f (read closed) = inl (stopped f.history (match_some v.closed (λ _. Unit {0}) (Ended is_stop f.history) closed f.closed))
-finished t v logs f (quiet K root out fits is) =
-    inr (subst (λ L. IsQuiet (of_terms t) (reverse L)) (same_list (v.log ∷ v.joined) K f.history (fitting t v K root out fits) (by_number t v logs f)) is)
+match_any : {A : Type 0} (o : Option A) (P : A → Type 0) → is_some o ≡ true → MatchOption o (Unit {0}) P → (x : A) × P x
+match_any None P is m = absurd (cc is)
+match_any (Some x) P is m = (x, m)
+
+finished : (t : OcrTerms) (v : OcrView) (logs : List (List (ℕ × Entry))) (f : Finished meaning t v logs) → 2 ≤ t.limit → KnowsEnd v → IsFinished (of_terms t) (reverse f.history)
+finished t v logs f few (inl closed) = inl (stopped f.history (match_some v.closed (λ _. Unit {0}) (Ended is_stop f.history) closed f.closed))
+finished t v logs f few (inr quiet) =
+    let still = match_any v.quiet (λ n. (length f.history ≡ n) × IsStill meaning t f.history) quiet f.quiet in
+    inr (still_law t f.history few f.run still.1.1)
 
 -- THE STOP of a run stands in one of its logs
 stop_first : (why : run.Stop) (e : Entry) (rest : Option run.Stop) → ((w : run.Stop) → e ≡ an.Stop w → w ≡ why) → rest ≡ Some why → option_or (stop_of e) rest ≡ Some why
@@ -195,9 +193,9 @@ module _ (t : OcrTerms) (v : OcrView) (workers : ℕ) (logs : List (List (ℕ ×
       let bound = ap (λ n. n * t.share) many in
       omega (arith, all, light, bound)
 
-pub whole : (t : OcrTerms) (v : OcrView) (workers : ℕ) (logs : List (List (ℕ × Entry))) (f : Finished meaning t v logs) → 1 ≤ workers → HasLogs workers t.share workers v → KnowsEnd t v → IsWhole (of_terms t) workers t.share f.history
-whole t v workers logs f most has knows = record {
+pub whole : (t : OcrTerms) (v : OcrView) (workers : ℕ) (logs : List (List (ℕ × Entry))) (f : Finished meaning t v logs) → 1 ≤ workers → 2 ≤ t.limit → HasLogs workers t.share workers v → KnowsEnd v → IsWhole (of_terms t) workers t.share f.history
+whole t v workers logs f most few has knows = record {
   run = run_is t.setting.value t.limit f.history f.run;
-  finished = finished t v logs f knows;
+  finished = finished t v logs f few knows;
   limited = record { within = within t v workers logs f most has; cause = limited t v workers logs f most has };
 }

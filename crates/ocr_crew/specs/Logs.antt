@@ -1,21 +1,18 @@
 -- What the logs of workers have to do with the limits of the run.
 use Rattle.std.specs.declared.snapshot.Snapshot.{Snapshot}
-use Rattle.std.specs.Prelude.{◌≡◌, ◌≤◌, ◌<◌, ℕ, ◌+◌, ◌*◌, List, ◌∷◌, length, true, Some, is_some, reverse, MatchOption}
+use Rattle.std.specs.Prelude.{◌≡◌, ◌⊎◌, ◌≤◌, ◌<◌, ℕ, ◌+◌, ◌*◌, List, ◌∷◌, length, true, Some, is_some, MatchOption}
 use Rattle.std.specs.List.{All}
 use mathlib.Core.Option.{some}
 use lib.ListN.{get_elem?}
 use Rattle.ocr_clerks.specs.Drawing.{object_count}
 use Rattle.ocr_clerks.specs.Work.{stop_in}
-use Rattle.ocr_facts.specs.Clerks.{OcrTerms, OcrView, of_terms}
-use Rattle.ocr_facts.specs.Ocr.{meaning}
+use Rattle.ocr_facts.specs.Clerks.{OcrView}
 use Rattle.ocr_facts.specs.declared.fact.Fact.TheVariants.{Short}
 use Rattle.ocr_meaning.specs.declared.call.Call as body
 use Rattle.ocr_history.specs.declared.entry.Entry.{Entry}
 use Rattle.ocr_history.specs.declared.entry.Stop as run
 use Rattle.ocr_history.specs.declared.entry.Stop.TheVariants as by
 use Rattle.ocr_history.specs.Weight.{weight_of}
-use Rattle.ocr_parts.specs.Runs.{IsQuiet}
-use Rattle.ocr_rule.specs.Rule.{Fits}
 use Rattle.ocr_rule.specs.Sums.{load_of}
 
 -- one of the workers ended the run, where its log would have passed its share
@@ -51,8 +48,7 @@ pub record HasLogs (workers share joined : ℕ) (v : OcrView) : Type 0 where
   pub few : length v.drawn ≤ 3 * joined
   pub short : IsAnyShort (v.log ∷ v.joined) → LacksAmong joined v
 
--- what the root knows of the end: it was told that the run has ended, or it is quiet
-pub data KnowsEnd (t : OcrTerms) (v : OcrView) : Type 0 where
-  read : is_some v.closed ≡ true → KnowsEnd t v
-  quiet : (history : List Entry) → v.root ≡ 1 → v.out ≡ 0 → Fits meaning t history v
-      → IsQuiet (of_terms t) (reverse history) → KnowsEnd t v
+-- it was told that the run has ended, or how many entries there were when nothing could come any
+-- more
+abbrev pub KnowsEnd : OcrView → Type 0
+KnowsEnd v = (is_some v.closed ≡ true) ⊎ (is_some v.quiet ≡ true)

@@ -1,13 +1,10 @@
 // A run, from the opening to its journal.
-ghost use Rattle.std.specs.Prelude.{◌≡◌, ◌≤◌, ◌+◌, [], IfOk, IfSome, IfNone, Some};
+ghost use Rattle.std.specs.Prelude.{◌≡◌, ◌≤◌, ◌+◌, IfOk, OnOk};
 ghost use Rattle.ocr_code.specs.Checked.{checked_tree};
 ghost use Rattle.ocr_facts.specs.Clerks.{of_terms};
 ghost use Rattle.ocr_rule.specs.Contract.{TermsAre};
 ghost use Rattle.ocr_crew.specs.Ended.{CanRun, IsWhole, setting_of};
-ghost use Rattle.ocr_crew.specs.Logs.{HasLogs};
-ghost use Rattle.ocr_crew.specs.Seats.{IsGathering, IsHiring, IsLast};
-ghost use Rattle.ocr_worker.specs.Leaving.{IsAlone};
-ghost use Rattle.ocr_worker.specs.declared.leaving.Leave.TheVariants as leave;
+ghost use Rattle.ocr_crew.specs.Seats.{IsGathering, IsHiring};
 
 use crate::gathering::join_all;
 use crate::limits::Limits;
@@ -17,21 +14,16 @@ use ocr_base::NoMemory;
 use ocr_clerks::{Gate, Job, Ocr};
 use ocr_code::Checked;
 use ocr_facts::Setting;
-use ocr_guid::Guid;
 use ocr_journal::{Merged, merge};
 use ocr_machine::opening;
-use ocr_steal::{Pool, gather};
+use ocr_steal::Pool;
 use ocr_turns::{Clerk, Turns};
-use ocr_worker::{Leave, drain};
 use std::alloc::Global;
 use std::sync::Wait;
 use std::thread::Threads;
 
 /// For how many EDTs each deque has room from the start on.
 const ROOM: u32 = 256;
-
-/// The worker that comes last.
-const LAST: u32 = 1;
 
 /// Runs a program by several workers, each in a thread of its own, until the run has ended or
 /// nothing is left to do. Where memory is refused to a worker, the run ends with the Stop Memory;
@@ -49,20 +41,7 @@ pub fn run<R: Threads + Wait + Sync, G: Gate + Sync>(
 {
     let (turns, mut root) = open(alloc, setting, limits)?;
     let program = &setting.program;
-    let ready = work_together(rt, alloc, program, &turns, limits.workers, gate, &mut root)?;
-    let root = match ready {
-        Some(ready) => come_last(
-            rt,
-            alloc,
-            program,
-            &turns,
-            limits.workers,
-            gate,
-            root,
-            ready,
-        )?,
-        None => root,
-    };
+    work_together(rt, alloc, program, &turns, limits.workers, gate, &mut root)?;
     close(alloc, turns, limits.workers, root)
 }
 
@@ -85,8 +64,7 @@ fn open(
     Turns::new(alloc, setting, parts, limits.objects, limits.share, seats)
 }
 
-// The workers work until each has left. Where all of them left since they found nothing to do, the
-// EDTs that are left in their deques.
+// The workers work until each has left.
 fn work_together<R: Threads + Wait + Sync, G: Gate + Sync>(
     rt: &R,
     alloc: Global,
@@ -95,12 +73,10 @@ fn work_together<R: Threads + Wait + Sync, G: Gate + Sync>(
     workers: u32,
     gate: &G,
     root: &mut Clerk<Ocr>,
-) -> Result<Option<Vec<Guid>>, NoMemory>
+) -> Result<(), NoMemory>
     requires root { IsHiring turns.now program.now 0 root.old }
     requires workers { (1 ≤ workers) × (workers ≤ 64) × (workers ≤ root.old.view.quota) }
-    ensures idle { IfOk result (λ r. IfSome r (λ _. IsGathering turns.now program.now workers 0
-        workers Leave.Idle root.new)) }
-    ensures ended { IfOk result (λ r. IfNone r (IsLast turns.now workers root.new)) }
+    ensures { OnOk result (IsGathering turns.now workers 0 workers root.new) }
 {
     let (pool, hands) = Pool::new(alloc, workers, ROOM)?;
     let job = Job {
@@ -112,41 +88,7 @@ fn work_together<R: Threads + Wait + Sync, G: Gate + Sync>(
     };
     let seats = hire(alloc, &job, root, hands)?;
     let backs = work_all(rt, alloc, program, turns, &pool, gate, seats)?;
-    let (hands, left) = join_all(alloc, &job, root, backs)?;
-    match left {
-        Leave::Idle => Ok(Some(gather(alloc, pool, hands)?)),
-        Leave::Closed(_) => Ok(None),
-    }
-}
-
-// Does what is left with nobody else at work.
-fn come_last<R: Wait, G: Gate>(
-    rt: &R,
-    alloc: Global,
-    program: &Checked,
-    turns: &Turns<Ocr>,
-    workers: u32,
-    gate: &G,
-    root: Clerk<Ocr>,
-    ready: Vec<Guid>,
-) -> Result<Clerk<Ocr>, NoMemory>
-    requires root { IsGathering turns.now program.now workers 0 workers Leave.Idle root }
-    requires workers { 1 ≤ workers }
-    ensures { IfOk result (λ last. IsLast turns.now workers last) }
-{
-    let (pool, mut hands) = Pool::new(alloc, 1, ROOM)?;
-    let Some(hand) = hands.pop() else {
-        unreachable!()
-    };
-    let job = Job {
-        rt,
-        program,
-        turns,
-        pool: &pool,
-        gate,
-    };
-    let worked = drain(alloc, &job, LAST, root, hand, ready);
-    Ok(worked.clerk)
+    join_all(alloc, &job, root, backs)
 }
 
 // The journal, once all have come home.
@@ -156,7 +98,7 @@ fn close(
     workers: u32,
     root: Clerk<Ocr>,
 ) -> Result<Merged, NoMemory>
-    requires root { IsLast turns workers root }
+    requires root { IsGathering turns workers 0 workers root }
     requires workers { 1 ≤ workers }
     ensures { IfOk result (λ m. IsWhole (of_terms turns.1) workers turns.1.share m) }
 {

@@ -1,14 +1,16 @@
 // The seats of the workers.
-ghost use Rattle.std.specs.Prelude.{◌≡◌, ◌≢◌, ◌≤◌, ◌+◌, ◌++◌, ◌∷◌, [], ℕ, IfOk, vec_len};
+ghost use Rattle.std.specs.Prelude.{◌≡◌, ◌≢◌, ◌≤◌, ◌+◌, ◌++◌, ◌∷◌, [], ℕ, IfOk, OnOk, vec_len};
 ghost use Rattle.ocr_steal.specs.Hand.{IsSame, own};
 ghost use Rattle.ocr_steal.specs.Pool.{AreFresh, deques_in, hands_in};
-ghost use Rattle.ocr_crew.specs.Seats.{AreSeats, IsHiring};
+ghost use Rattle.ocr_rule.specs.Units.{units};
+ghost use Rattle.ocr_crew.specs.Seats.{AreSeats, IsGathering, IsHiring};
 
 use crossbeam_utils::CachePadded;
 use ocr_base::NoMemory;
 use ocr_clerks::{Gate, Job, Ocr};
 use ocr_guid::Guid;
 use ocr_history::MAIN_EDT;
+use ocr_live::lower;
 use ocr_steal::Hand;
 use ocr_turns::Clerk;
 use std::alloc::Global;
@@ -37,7 +39,7 @@ fn begun(alloc: Global, mut hand: Hand) -> Result<Hand, NoMemory>
 }
 
 /// A seat for each hand of the pool, each with a clerk that the root makes. The first begins with
-/// the EDT that is ready at the opening.
+/// the EDT that is ready at the opening. The root gives up its unit then.
 pub(crate) fn hire<R: Wait, G: Gate>(
     alloc: Global,
     job: &Job<R, G>,
@@ -48,8 +50,9 @@ pub(crate) fn hire<R: Wait, G: Gate>(
     requires quota { vec_len hands ≤ root.old.view.quota }
     requires hands { (room : ℕ) × AreFresh (deques_in job.now.pool.now) room hands.items }
     requires few { vec_len hands ≤ 64 }
-    ensures root { IfOk result (λ seats. IsHiring job.now.turns.now job.now.program.now
-        (vec_len seats) root.new) }
+    ensures root { IfOk result (λ seats. (workers : ℕ) → IsGathering job.now.turns.now workers
+        (vec_len seats) 0 root.new) }
+    ensures unit { OnOk result (units root.new.view ≡ 0) }
     ensures many { IfOk result (λ seats. vec_len seats ≡ vec_len hands) }
     ensures seats { IfOk result (λ seats. AreSeats job.now.turns.now job.now.program.now
         job.now.pool.now seats.items) }
@@ -65,5 +68,7 @@ pub(crate) fn hire<R: Wait, G: Gate>(
             hand,
         }))?;
     }
+    // No worker reads that all is done while the root has its unit.
+    lower(job.turns, root, 1);
     Ok(seats)
 }

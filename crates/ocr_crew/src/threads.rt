@@ -2,7 +2,7 @@
 ghost use Rattle.std.specs.Prelude.{◌≡◌, ◌≤◌, ◌+◌, IfOk, vec_len};
 ghost use Rattle.crossbeam_utils.specs.Padded.{padded_value};
 ghost use Rattle.ocr_steal.specs.Pool.{IsOf, hands_in};
-ghost use Rattle.ocr_crew.specs.Seats.{AreBack, AreSeats, IsBack, IsHired};
+ghost use Rattle.ocr_crew.specs.Seats.{AreBack, AreSeats, IsHired, IsHome};
 
 use crate::seats::Seat;
 use crate::sharing::{parts_move, programs_are_shared};
@@ -27,8 +27,7 @@ fn work_at<R: Wait, G: Gate>(
     requires hand { IsOf job.now.pool.now (padded_value seat).hand }
     requires worker { ((padded_value seat).worker ≡ (padded_value seat).hand.number + 1)
         × ((padded_value seat).worker ≤ hands_in job.now.pool.now) }
-    ensures { IsBack job.now.turns.now job.now.program.now job.now.pool.now
-        (hands_in job.now.pool.now) (padded_value seat).hand.number (padded_value result) }
+    ensures { IsHome job.now.turns.now (hands_in job.now.pool.now) (padded_value result).clerk }
 {
     let Seat {
         worker,
@@ -51,7 +50,7 @@ pub(crate) fn work_all<R: Threads + Wait + Sync, G: Gate + Sync>(
     requires many { vec_len seats ≡ hands_in pool.now }
     requires seats { AreSeats turns.now program.now pool.now seats.items }
     ensures many { IfOk result (λ backs. vec_len backs ≡ vec_len seats) }
-    ensures backs { IfOk result (λ backs. AreBack turns.now program.now pool.now backs.items) }
+    ensures backs { IfOk result (λ backs. AreBack turns.now (hands_in pool.now) backs.items) }
 {
     // only for the proof: what the closure borrows may be shared
     parts_move();
@@ -64,8 +63,7 @@ pub(crate) fn work_all<R: Threads + Wait + Sync, G: Gate + Sync>(
                 × IsOf pool.now (padded_value seat).hand
                 × ((padded_value seat).worker ≡ (padded_value seat).hand.number + 1)
                 × ((padded_value seat).worker ≤ hands_in pool.now) }
-            ensures { IsBack turns.entry.now program.entry.now pool.entry.now
-                (hands_in pool.entry.now) (padded_value seat).hand.number (padded_value result) }
+            ensures { IsHome turns.entry.now (hands_in pool.entry.now) (padded_value result).clerk }
         {
             let job = Job {
                 rt,

@@ -1,5 +1,5 @@
 -- What a clerk is once it has entered a delivery, put the payload and counted the slot.
-use Rattle.std.proofs.Common.{◌≡◌, ℕ, zero, suc, ◌<◌, ◌≤◌, List, [], ◌∷◌, ◌++◌, length, Option, Result, Ok, Err, OnOk, refl, ap, sym, ◌∙◌, subst, arith}
+use Rattle.std.proofs.Common.{◌-◌, ◌+◌, ◌≡◌, ℕ, zero, suc, ◌<◌, ◌≤◌, List, [], ◌∷◌, ◌++◌, length, Option, Result, Ok, Err, OnOk, refl, ap, sym, ◌∙◌, subst, arith}
 use Rattle.std.proofs.lemmas.List.{append-nil}
 use lib.ListN.{get_elem?}
 use Rattle.ocr_base.proofs.Booleans.{same as number_same}
@@ -21,8 +21,9 @@ use Rattle.ocr_rule.specs.Contract.{SameHand}
 use Rattle.ocr_rule.specs.Owing.{counted_debts, last_if, listed, of_edt, put_debts, remove_edt, without_all}
 use Rattle.ocr_rule.specs.Counting.{leaves}
 use Rattle.ocr_rule.specs.Rule.{RunsIn}
+use Rattle.ocr_rule.specs.Living.{raising}
 use Rattle.ocr_rule.specs.Steps.{deed, logged}
-use Rattle.ocr_rule.specs.Sums.{as_some}
+use Rattle.ocr_rule.specs.Sums.{as_some, is_free}
 use Rattle.ocr_rule.specs.Words.{OwesCount, OwesPayload, counting_down, putting}
 use Rattle.ocr_rule.specs.declared.debts.Debts.{Debts}
 use Rattle.ocr_rule.proofs.Totals.{one_here}
@@ -31,20 +32,21 @@ use Rattle.ocr_clerks.specs.Work.{AtWork, EntersKept, IsIdle, OcrTable, Stays}
 use Rattle.ocr_clerks.proofs.Going.{Calm, stays_both, stays_still, work_still}
 use Rattle.ocr_standing.specs.Kept.{kept_ready}
 use Rattle.ocr_delivering.proofs.Owed.{sends_none}
-use Rattle.ocr_delivering.specs.Delivering.{Answers, Delivers, Pushes, PushesIf, PushesReady, SetsSlot, Settles, delivery_of, no_parts}
+use Rattle.ocr_clerks.specs.Pushing.{Pushes, PushesReady}
+use Rattle.ocr_delivering.specs.Delivering.{Answers, Delivers, PushesIf, SetsSlot, Settles, delivery_of, no_parts}
 
 -- A STEP on the words that count changes what is owed alone
-calm_debts : (v : OcrView) (d : Debts) → Calm v (record v { debts = d })
-calm_debts v d = record { terms = refl; root = refl; seat = refl; out = refl; joined = refl; log = refl; weight = refl; drawn = refl; full = refl; reached = refl; closed = refl }
+calm_debts : (v : OcrView) (d : Debts) (more : ℕ) → Calm v (record v { debts = d; spares = v.spares + more })
+calm_debts v d more = record { terms = refl; root = refl; seat = refl; out = refl; joined = refl; log = refl; weight = refl; drawn = refl; full = refl; reached = refl; closed = refl; stake = omega arith; raised = refl; ended = refl }
 
-pub word_work : (table : OcrTable) (p : Checked) (old new : OcrKnown) (d : Debts) → AtWork table p old → SameHand old new → new.view ≡ record old.view { debts = d } → AtWork table p new
-word_work table p old new d work same is =
-    work_still table p old new (record old.view { debts = d }) work same.0 is (calm_debts old.view d)
+pub word_work : (table : OcrTable) (p : Checked) (old new : OcrKnown) (d : Debts) (more : ℕ) → AtWork table p old → SameHand old new → new.view ≡ record old.view { debts = d; spares = old.view.spares + more } → AtWork table p new
+word_work table p old new d more work same is =
+    work_still table p old new (record old.view { debts = d; spares = old.view.spares + more }) work same.0 is (calm_debts old.view d more)
     (let r = same.2.0 in omega (arith, r))
     (let s = same.2.1 in let l = ap (λ (ps : List (ℕ × Option Part)). length ps) same.1 in omega (arith, s, l))
 
-pub word_stays : (old new : OcrKnown) (d : Debts) → SameHand old new → new.view ≡ record old.view { debts = d } → Stays old new
-word_stays old new d same is = stays_still old new (record old.view { debts = d }) same.0 is (calm_debts old.view d)
+pub word_stays : (old new : OcrKnown) (d : Debts) (more : ℕ) → SameHand old new → new.view ≡ record old.view { debts = d; spares = old.view.spares + more } → Stays old new
+word_stays old new d more same is = stays_still old new (record old.view { debts = d; spares = old.view.spares + more }) same.0 is (calm_debts old.view d more)
 
 -- LISTS of one slot
 dropped_alone : (n k x : ℕ) → drop_one (n, k) ((n, k, x) ∷ []) ≡ []
@@ -67,16 +69,16 @@ on_both (Ok x) P Q S go p q = go p q
 on_both (Err e) P Q S go p q = tt
 
 -- THE ENTRY
-abbrev pub entered_view : OcrTerms → OcrView → ℕ → Message → OcrView
-entered_view t v n m = logged v n (deed meaning t.limit v (delivery_of m) [] [])
+abbrev pub entered_view : OcrTerms → OcrView → ℕ → ℕ → Message → OcrView
+entered_view t v k n m = logged (raising v k) n (deed meaning t.limit v (delivery_of m) [] [])
 
-pub entered_is : (t : OcrTerms) (old mid : OcrKnown) (m : Message) (it : EntersKept t old mid (delivery_of m) no_parts) → SetsSlot m.what → mid.view ≡ entered_view t old.view it.number m
+pub entered_is : (t : OcrTerms) (old mid : OcrKnown) (m : Message) (it : EntersKept t old mid (delivery_of m) no_parts) → SetsSlot m.what → mid.view ≡ entered_view t old.view it.paid it.number m
 entered_is t old mid m it sets =
     let none = no_keys it.later it.step.same_keys in
     let sent = it.step.sends_are ∙ sends_none m (kept_ready t.limit [] (delivery_of m) []) sets in
     it.view
-    ∙ (ap (λ (ps : List (ℕ × Part)). logged old.view it.number (deed meaning t.limit old.view (delivery_of m) ps it.sent)) none
-    ∙ ap (λ (ms : List What). logged old.view it.number (deed meaning t.limit old.view (delivery_of m) [] ms)) sent)
+    ∙ (ap (λ (ps : List (ℕ × Part)). logged (raising old.view it.paid) it.number (deed meaning t.limit old.view (delivery_of m) ps it.sent)) none
+    ∙ ap (λ (ms : List What). logged (raising old.view it.paid) it.number (deed meaning t.limit old.view (delivery_of m) [] ms)) sent)
 
 entered_hand : (t : OcrTerms) (old mid : OcrKnown) (m : Message) → EntersKept t old mid (delivery_of m) no_parts → mid.parts ≡ []
 entered_hand t old mid m it = it.hand ∙ ap (λ (ps : List (ℕ × Part)). as_some ps) (no_keys it.later it.step.same_keys)
@@ -115,12 +117,18 @@ module _ (mid put new : OcrKnown) (edt slot payload left : ℕ) (put_hand : Same
   both_view : new.view ≡ counting_down (putting mid.view edt slot payload) edt left
   both_view = new_view ∙ ap (λ (v : OcrView). counting_down v edt left) put_view
 
+  none_more : put.view ≡ record mid.view { debts = put_debts mid.view.debts edt slot payload; spares = mid.view.spares + 0 }
+  none_more = put_view ∙ (λ i. record mid.view { debts = put_debts mid.view.debts edt slot payload; spares = none mid.view.spares i })
+    where
+      none : (n : ℕ) → n ≡ n + 0
+      none n = omega arith
+
   pub words_stay : Stays mid new
-  words_stay = stays_both mid put new (word_stays mid put (put_debts mid.view.debts edt slot payload) put_hand put_view) (word_stays put new (counted_debts put.view.debts edt left) new_hand new_view)
+  words_stay = stays_both mid put new (word_stays mid put (put_debts mid.view.debts edt slot payload) 0 put_hand none_more) (word_stays put new (counted_debts put.view.debts edt left) (1 - is_free left) new_hand new_view)
 
   pub words_work : (table : OcrTable) (p : Checked) → AtWork table p mid → AtWork table p new
   words_work table p work =
-      word_work table p put new (counted_debts put.view.debts edt left) (word_work table p mid put (put_debts mid.view.debts edt slot payload) work put_hand put_view) new_hand new_view
+      word_work table p put new (counted_debts put.view.debts edt left) (1 - is_free left) (word_work table p mid put (put_debts mid.view.debts edt slot payload) 0 work put_hand none_more) new_hand new_view
 
   pub settles_more : (before after : Hand) → 0 < left → own after ≡ own before → Settles edt slot payload mid new before after
   settles_more before after more same = record { left = left; view = both_view; hand = same_hands mid put new put_hand new_hand; pushed = pushes_more left edt before after more same }
@@ -134,29 +142,21 @@ module _ (mid put new : OcrKnown) (edt slot payload left : ℕ) (put_hand : Same
   }
 
 -- THE WHOLE
-ready_of : (left edt : ℕ) (lasts : List ℕ) (old new : OcrKnown) (before after : Hand) → old.view.debts.lasts ≡ lasts → new.view.debts.lasts ≡ last_if left edt lasts → PushesIf left edt before after → PushesReady old new before after
-ready_of zero edt lasts old new before after is counted pushed = record {
+ready_of : (left edt : ℕ) (readied : List ℕ) (old new : OcrKnown) (before after : Hand) → old.view.debts.readied ≡ readied → new.view.debts.readied ≡ last_if left edt readied → PushesIf left edt before after → PushesReady old new before after
+ready_of zero edt readied old new before after is made pushed = record {
   ready = edt ∷ [];
-  counted = counted ∙ ap (λ (l : List ℕ). l ++ edt ∷ []) (sym is);
+  readied = made ∙ ap (λ (l : List ℕ). l ++ edt ∷ []) (sym is);
   pushed = pushed;
 }
-ready_of (suc left) edt lasts old new before after is counted pushed = record {
+ready_of (suc left) edt readied old new before after is made pushed = record {
   ready = [];
-  counted = counted ∙ (sym is ∙ sym (append-nil old.view.debts.lasts));
+  readied = made ∙ (sym is ∙ sym (append-nil old.view.debts.readied));
   pushed = pushed ∙ ap (λ (l : List ℕ). record (own before) { pushed = l }) (sym (append-nil (own before).pushed));
-}
-
--- nothing was counted, and nothing pushed
-pub pushes_none : (old new : OcrKnown) (h : Hand) → new.view.debts.lasts ≡ old.view.debts.lasts → PushesReady old new h h
-pushes_none old new h same = record {
-  ready = [];
-  counted = same ∙ sym (append-nil old.view.debts.lasts);
-  pushed = ap (λ (l : List ℕ). record (own h) { pushed = l }) (sym (append-nil (own h).pushed));
 }
 
 module _ (t : OcrTerms) (old mid new : OcrKnown) (m : Message) (edt slot payload : ℕ) (before after : Hand) (idle : IsIdle old) (sets : m.what ≡ what.Set edt slot payload)
     (it : EntersKept t old mid (delivery_of m) no_parts) (settled : Settles edt slot payload mid new before after) where
-  view_is : new.view ≡ counting_down (putting (entered_view t old.view it.number m) edt slot payload) edt settled.left
+  view_is : new.view ≡ counting_down (putting (entered_view t old.view it.paid it.number m) edt slot payload) edt settled.left
   view_is = settled.view ∙ ap (λ (v : OcrView). counting_down (putting v edt slot payload) edt settled.left) (entered_is t old mid m it (set_it m.what edt slot payload sets))
 
   pub delivers : Delivers t m old new
@@ -189,4 +189,4 @@ module _ (t : OcrTerms) (old mid new : OcrKnown) (m : Message) (edt slot payload
   }
 
   pub pushes_ready : PushesReady old new before after
-  pushes_ready = ready_of settled.left edt (old.view.debts.lasts ++ []) old new before after (sym (append-nil old.view.debts.lasts)) (ap (λ (v : OcrView). v.debts.lasts) view_is) settled.pushed
+  pushes_ready = ready_of settled.left edt (old.view.debts.readied ++ []) old new before after (sym (append-nil old.view.debts.readied)) (ap (λ (v : OcrView). v.debts.readied) view_is) settled.pushed

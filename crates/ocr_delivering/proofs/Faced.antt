@@ -12,8 +12,6 @@ use Rattle.ocr_guid.specs.declared.Code.{Code}
 use Rattle.ocr_history.specs.declared.entry.Entry.{Entry}
 use Rattle.ocr_history.specs.declared.entry.Entry.TheVariants.{Deliver}
 use Rattle.ocr_history.specs.declared.entry.Message.{Message}
-use Rattle.ocr_history.specs.declared.entry.What.{What}
-use Rattle.ocr_history.specs.declared.entry.What.TheVariants as what
 use Rattle.ocr_parts.specs.Parts.{parts_of}
 use Rattle.ocr_parts.specs.Taken.{as_face, face_in, has, is_within}
 use Rattle.ocr_parts.specs.declared.part.Part.{Part}
@@ -23,12 +21,14 @@ use Rattle.ocr_facts.proofs.Owed.{hand_counted}
 use Rattle.ocr_rule.specs.Rule.{Fits, RunsIn}
 use Rattle.ocr_rule.specs.Counting.{leaves}
 use Rattle.ocr_rule.specs.Owing.{listed, without_all}
+use Rattle.ocr_rule.specs.Living.{raising}
 use Rattle.ocr_rule.specs.Steps.{SeesBoth, deed, logged}
 use Rattle.ocr_rule.specs.Sums.{as_some, keys, one_at, weigh}
 use Rattle.ocr_rule.proofs.Histories.{ran}
 use Rattle.ocr_rule.proofs.Numbered.{weigh_keys}
 use Rattle.ocr_rule.proofs.Totals.{one_most}
 use Rattle.ocr_clerks.specs.Entering.{CanMake, OcrKnown}
+use Rattle.ocr_clerks.specs.Pushing.{ReadiesNone}
 use Rattle.ocr_clerks.specs.Work.{AtWork, EntersAs, EntersKept, HasAllAtHand, IsIdle, KeepsLoose, OcrTable, Took, in_hand, lifted}
 use Rattle.ocr_clerks.proofs.Entries.{turns_keys}
 use Rattle.ocr_clerks.proofs.Hands.{in_hand_some, lifted_keys, some_keys}
@@ -140,7 +140,7 @@ module _ (old mid : OcrKnown) (g : ℕ) (idle : IsIdle old) (took : Took old mid
             (subst (λ (k : Code). EntersAs table.1 low new (Deliver m k) (record { members = []; parts = ps })) coded it)
 
         abbrev entered : OcrView → OcrView
-        entered v = logged v kept.number (deed meaning table.1.limit v (Deliver m (answer_by ps)) kept.later kept.sent)
+        entered v = logged (raising v kept.paid) kept.number (deed meaning table.1.limit v (Deliver m (answer_by ps)) kept.later kept.sent)
 
         new_is : new.view ≡ entered (record old.view { parts = took.parts })
         new_is = kept.view ∙ ap entered (same ∙ view_is)
@@ -191,8 +191,8 @@ module _ (old mid : OcrKnown) (g : ℕ) (idle : IsIdle old) (took : Took old mid
             none = λ u runs. loose.none u (subst (λ (l : List (ℕ × Entry)). RunsIn starts ends l u) (ap (λ (v : OcrView). v.log) view) runs);
           }
 
-          pub faced_lasts : done.view.debts.lasts ≡ old.view.debts.lasts
-          faced_lasts = ap (λ (v : OcrView). v.debts.lasts) done_is ∙ append-nil old.view.debts.lasts
+          pub faced_readied : ReadiesNone old done
+          faced_readied = ap (λ (v : OcrView). v.debts.readied) done_is ∙ append-nil old.view.debts.readied
 
           pub faced_delivers : Answers table.1 old.view m.what (answer_by ps) kept.sent → Delivers table.1 m old done
           faced_delivers answers = record {

@@ -19,7 +19,6 @@ use Rattle.ocr_facts.specs.Ocr.{meaning, set_by, touches}
 use Rattle.ocr_facts.proofs.Owed.{knows_member, leave_law}
 use Rattle.ocr_rule.specs.Contract.{LookTells}
 use Rattle.ocr_rule.specs.Rule.{Fits}
-use Rattle.ocr_rule.specs.Counting.{leaves}
 use Rattle.ocr_rule.specs.Owing.{listed}
 use Rattle.ocr_rule.specs.Sums.{one_at}
 use Rattle.ocr_clerks.specs.Entering.{OcrKnown}

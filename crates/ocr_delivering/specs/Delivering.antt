@@ -24,6 +24,7 @@ use Rattle.ocr_facts.specs.Clerks.{OcrTerms, OcrView, OwesSatisfaction, of_terms
 use Rattle.ocr_facts.specs.Ocr.{meaning}
 use Rattle.ocr_clerks.specs.Entering as entering
 use Rattle.ocr_clerks.specs.Entering.{OcrKnown}
+use Rattle.ocr_clerks.specs.Pushing.{Pushes}
 
 -- MESSAGES. The clerk owes this one
 abbrev pub IsOwed : Message → OcrView → Type 0
@@ -94,17 +95,6 @@ pub record Delivers (t : OcrTerms) (m : Message) (old new : OcrKnown) : Type 0 w
   pub owed : new.view.owed
       ≡ without (Some (m.place, m.index)) old.view.owed ++ named number 0 sent
   pub facts : new.view.facts ≡ old.view.facts
-
--- THE READY. The hand pushed this EDT and nothing else
-abbrev pub Pushes : ℕ → Hand → Hand → Type 0
-Pushes edt before after =
-    own after ≡ record (own before) { pushed = (own before).pushed ++ edt ∷ [] }
-
--- it pushed the EDTs of which the clerk counted the last unit, and no others
-pub record PushesReady (old new : OcrKnown) (before after : Hand) : Type 0 where
-  pub ready : List ℕ
-  pub counted : new.view.debts.lasts ≡ old.view.debts.lasts ++ ready
-  pub pushed : own after ≡ record (own before) { pushed = (own before).pushed ++ ready }
 
 -- THE WORDS of the EDT: the payload is put and the slot counted, which leaves so much to be
 -- counted, and the EDT is pushed where this is nothing

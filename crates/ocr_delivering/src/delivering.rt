@@ -1,15 +1,14 @@
 // A worker delivers what its clerk owes.
 ghost use Rattle.std.specs.Prelude.{◌≡◌, ◌<◌, length, OnOk, OnErr};
 ghost use Rattle.ocr_history.specs.declared.entry.Message.{Message};
-ghost use Rattle.ocr_steal.specs.Hand.{IsSame, knows, misses_of};
 ghost use Rattle.ocr_rule.specs.Words.{OwesPayload};
 ghost use Rattle.ocr_clerks.specs.Work.{AtWork, EntersKept, IsGone, IsIdle, Stays};
-ghost use Rattle.ocr_delivering.specs.Delivering.{Delivers, IsFirstOwed, IsOwed, PushesReady, SetsSlot, Settles, delivery_of, no_parts};
+ghost use Rattle.ocr_clerks.specs.Pushing.{IsPushed, PushesReady};
+ghost use Rattle.ocr_delivering.specs.Delivering.{Delivers, IsFirstOwed, IsOwed, SetsSlot, Settles, delivery_of, no_parts};
 
 use crate::leaving::deliver_leave;
-use crate::pushing::push_ready;
 use crate::satisfying::deliver_satisfaction;
-use ocr_clerks::{Gate, Job, Ocr, Over, enter_kept};
+use ocr_clerks::{Gate, Job, Ocr, Over, enter_kept, push_ready};
 use ocr_count::{Down, count_down, put_payload};
 use ocr_guid::{Code, Guid};
 use ocr_history::{Entry, Message, What};
@@ -36,8 +35,7 @@ pub fn deliver_set<R: Wait, G: Gate>(
     requires owed { IsOwed message clerk.old.view }
     requires sets { SetsSlot message.what }
     ensures stays { Stays clerk.old clerk.new }
-    ensures hand { IsSame hand.old hand.new × (knows hand.new ≡ knows hand.old)
-        × (misses_of hand.new ≡ misses_of hand.old) }
+    ensures hand { IsPushed hand.old hand.new }
     ensures work { OnOk result (AtWork job.now.turns.now job.now.program.now clerk.new) }
     ensures idle { OnOk result (IsIdle clerk.new) }
     ensures delivered { OnOk result (Delivers job.now.turns.now.1 message clerk.old clerk.new) }
@@ -91,8 +89,7 @@ fn settle<R: Wait, G: Gate>(
     requires work { AtWork job.now.turns.now job.now.program.now clerk.old }
     requires owes { OwesPayload clerk.old.view edt slot payload }
     ensures stays { Stays clerk.old clerk.new }
-    ensures hand { IsSame hand.old hand.new × (knows hand.new ≡ knows hand.old)
-        × (misses_of hand.new ≡ misses_of hand.old) }
+    ensures hand { IsPushed hand.old hand.new }
     ensures work { OnOk result (AtWork job.now.turns.now job.now.program.now clerk.new) }
     ensures settled { OnOk result (Settles edt slot payload clerk.old clerk.new hand.old hand.new) }
     ensures gone { OnErr result (IsGone job.now.turns.now worker clerk.new) }
@@ -117,8 +114,7 @@ pub fn deliver_owed<R: Wait, G: Gate>(
     requires idle { IsIdle clerk.old }
     requires owes { 0 < length clerk.old.view.owed }
     ensures stays { Stays clerk.old clerk.new }
-    ensures hand { IsSame hand.old hand.new × (knows hand.new ≡ knows hand.old)
-        × (misses_of hand.new ≡ misses_of hand.old) }
+    ensures hand { IsPushed hand.old hand.new }
     ensures work { OnOk result (AtWork job.now.turns.now job.now.program.now clerk.new) }
     ensures idle { OnOk result (IsIdle clerk.new) }
     ensures delivered { OnOk result ((m : Message) × IsFirstOwed m clerk.old.view
@@ -139,7 +135,7 @@ fn first_owed(clerk: &Clerk<Ocr>) -> Message
     requires { 0 < length clerk.now.view.owed }
     ensures { IsFirstOwed result clerk.now.view }
 {
-    let (place, index, what) = &clerk.owed()[0];
+    let (place, index, what) = clerk.first_owed();
     Message {
         place: *place,
         index: *index,

@@ -4,6 +4,7 @@ ghost use Rattle.ocr_rule.specs.Steps.{SeesBoth};
 ghost use Rattle.ocr_facts.specs.Clerks.{OwesLeave};
 ghost use Rattle.ocr_facts.specs.Ocr.{meaning};
 ghost use Rattle.ocr_parts.specs.Taken.{is_within};
+ghost use Rattle.ocr_clerks.specs.Pushing.{ReadiesNone};
 ghost use Rattle.ocr_clerks.specs.Work.{AtWork, IsGone, IsIdle, Stays, Took};
 ghost use Rattle.ocr_delivering.specs.Delivering.{Delivers, IsOwed, LeavesScope};
 
@@ -34,7 +35,7 @@ pub fn deliver_leave<R: Wait, G: Gate>(
     ensures work { OnOk result (AtWork job.now.turns.now job.now.program.now clerk.new) }
     ensures idle { OnOk result (IsIdle clerk.new) }
     ensures delivered { OnOk result (Delivers job.now.turns.now.1 message clerk.old clerk.new) }
-    ensures lasts { OnOk result (clerk.new.view.debts.lasts ≡ clerk.old.view.debts.lasts) }
+    ensures readied { OnOk result (ReadiesNone clerk.old clerk.new) }
     ensures gone { OnErr result (IsGone job.now.turns.now worker clerk.new) }
 {
     let scope = scope_of(message.what);

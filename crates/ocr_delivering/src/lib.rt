@@ -4,7 +4,6 @@
 
 mod delivering;
 mod leaving;
-mod pushing;
 mod satisfying;
 
 pub use delivering::{deliver_owed, deliver_set};

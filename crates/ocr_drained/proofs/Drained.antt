@@ -27,6 +27,7 @@ use Rattle.ocr_rule.specs.Owing.{IsNumber, making, of_edt, times}
 use Rattle.ocr_rule.specs.Rule.{Fits}
 use Rattle.ocr_rule.specs.Sums.{below}
 use Rattle.ocr_rule.specs.Words.{Knows, claiming}
+use Rattle.ocr_rule.proofs.Claims.{set_all}
 use Rattle.ocr_rule.proofs.Sole.{same_histories}
 use Rattle.ocr_facts.specs.Clerks.{OcrTerms, OcrView, of_terms}
 use Rattle.ocr_facts.specs.Ocr.{meaning}
@@ -35,7 +36,7 @@ use Rattle.ocr_facts.proofs.Owed.{mail_is}
 use Rattle.ocr_facts.proofs.Runs.{run_is}
 use Rattle.ocr_facts.proofs.Slots.{edt_slots, ended_is, payload_is, slots_are, slots_in, started_is}
 use Rattle.ocr_facts.proofs.Waits.{waits_is}
-use Rattle.ocr_drained.specs.Drained.{IsLone, OrderlyLaw, OwesNothing, PassLaw, RestLaw}
+use Rattle.ocr_drained.specs.Drained.{IsLone, OrderlyLaw, OwesNothing, PassLaw, RestLaw, StillLaw}
 use Rattle.ocr_standing.proofs.Plain.{some_mode}
 
 -- MESSAGES
@@ -225,3 +226,19 @@ rest_law t v J lone fits quiet =
           let unstarted : is_started meaning t past n ≡ false = subst (λ (K : List Entry). is_started meaning t (reverse K) n ≡ false) same seen.3 in
           not_ready t past n run set unstarted (done.over n (an_edt t past n set.slots run set.made)),
     )
+
+-- THE END OF IT ALL
+pub still_law : StillLaw
+still_law t J enough ran still =
+    let s = of_terms t in let past = reverse J in let run = run_is t.setting.value t.limit J ran in
+    drain_law s past run (goes_on J still.unended) (sym (mail_is t J) ∙ still.delivered) (λ n is. by_slots n is (open_slots s past n) refl)
+  where
+    idle_set : (n : ℕ) → (is_ended meaning t (reverse J) n ≡ true) ⊎ ((d : ℕ) × (awaited meaning t (reverse J) n ≡ Some d)) → IsIdle (of_terms t) (reverse J) n
+    idle_set n (inl ended) = inl (inl (sym (ended_is t (reverse J) n) ∙ ended))
+    idle_set n (inr waits) = waiting_idle t (reverse J) n waits.0 enough (run_is t.setting.value t.limit J ran) waits.1
+
+    by_slots : (n : ℕ) → is_edt (reverse J) n ≡ true → (l : List ℕ) → open_slots (of_terms t) (reverse J) n ≡ l → IsIdle (of_terms t) (reverse J) n
+    by_slots n is [] none =
+        let run = run_is t.setting.value t.limit J ran in
+        idle_set n (still.each n (set_all meaning t (reverse J) n (depc_of (of_terms t) (reverse J) n) (slot_count t (reverse J) n run is) (none_unset t (reverse J) n run is none)))
+    by_slots n is (x ∷ xs) some = inl (inr (λ none. cc (none, some)))

@@ -1,13 +1,13 @@
 -- What the root knows of a run by the words of its EDTs, while no other clerk is out.
-use Rattle.std.specs.Prelude.{◌≡◌, ◌≢◌, ◌⊎◌, ℕ, List, [], false, reverse, Some, None}
+use Rattle.std.specs.Prelude.{◌≡◌, ◌≢◌, ◌≤◌, ◌⊎◌, ℕ, List, [], false, reverse, Some, None}
 use Rattle.ocr_history.specs.declared.entry.Entry.{Entry}
 use Rattle.ocr_history.specs.Made.{is_edt}
 use Rattle.ocr_parts.specs.Runs.{IsQuiet}
 use Rattle.ocr_quiet.specs.Quiet.{IsIdle}
 use Rattle.ocr_rule.specs.Counting.{READY}
-use Rattle.ocr_rule.specs.Meaning.{Open}
+use Rattle.ocr_rule.specs.Meaning.{Open, Run}
 use Rattle.ocr_rule.specs.Owing.{IsNumber}
-use Rattle.ocr_rule.specs.Rule.{Fits}
+use Rattle.ocr_rule.specs.Rule.{Fits, IsStill}
 use Rattle.ocr_rule.specs.Words.{SeesReady, SeesWord, claiming}
 use Rattle.ocr_facts.specs.Clerks.{OcrTerms, OcrView, of_terms}
 use Rattle.ocr_facts.specs.Ocr.{meaning}
@@ -50,3 +50,9 @@ abbrev pub RestLaw : Type 0
 RestLaw = (t : OcrTerms) (v : OcrView) (J : List Entry) → IsLone t v → Fits meaning t J v
     → IsQuiet (of_terms t) (reverse J)
     → (v.owed ≡ []) × ((n : ℕ) → SeesReady meaning (claiming v n) n → ⊥)
+
+-- THE END OF IT ALL: where nothing can come any more by the words of the table, the run is quiet
+abbrev pub StillLaw : Type 0
+StillLaw = (t : OcrTerms) (J : List Entry) → 2 ≤ t.limit
+    → Run (meaning.legal t.setting.value t.limit) J → IsStill meaning t J
+    → IsQuiet (of_terms t) (reverse J)

@@ -11,13 +11,13 @@ use Rattle.ocr_words.specs.declared.wanted.Options.{Options}
 use Rattle.ocr_execute.specs.declared.executed.Executed.{Executed}
 use Rattle.ocr_execute.specs.Ending.{end_of, end_status}
 use Rattle.ocr_execute.specs.Executed.{IsRunOf}
-use Rattle.ocr_writing.specs.Output.{output_of}
+use Rattle.ocr_writing.specs.Output.{IsOutput}
 use Rattle.ocr_execute.proofs.Ends.{status_of_end}
 
 -- the text tells the run
 abbrev IsTextOf : List FunctionTree → Options → List ℕ → List Entry → List ℕ → Type 0
 IsTextOf program options args journal text =
-    text ≡ output_of (setting_of program args options.objects) (history_of journal) options.reports
+    IsOutput (setting_of program args options.objects) (history_of journal) options.reports text
 
 run_here : (program : List FunctionTree) (options : Options) (args : List ℕ) (journal : List Entry) (text : List ℕ) (status : ℕ)
     → IsWhole (setting_of program args options.objects) options.workers options.events journal

@@ -10,7 +10,7 @@ use Rattle.ocr_parts.specs.Runs.{StartsSet, LeavesOpen, IsQuiet}
 use Rattle.ocr_words.specs.declared.wanted.Options.{Options}
 use Rattle.ocr_crew.specs.Ended.{setting_of, IsFinished}
 use Rattle.ocr_crew.specs.Limits.{IsLimited}
-use Rattle.ocr_writing.specs.Output.{output_of}
+use Rattle.ocr_writing.specs.Output.{IsOutput}
 use Rattle.ocr_execute.specs.ProgramText.{IsProgramText}
 
 -- the options of a run are within their ranges
@@ -31,8 +31,8 @@ pub record IsRunOf (program : List FunctionTree) (options : Options) (args : Lis
       → LeavesOpen (setting_of program args options.objects) (history_of journal)
   pub limited : IsLimited (setting_of program args options.objects) options.workers options.events
       (history_of journal)
-  pub output : text ≡ output_of (setting_of program args options.objects) (history_of journal)
-      options.reports
+  pub output : IsOutput (setting_of program args options.objects) (history_of journal)
+      options.reports text
   pub ending : status ≡ ending_of (history_of journal)
 
 -- these bytes are a program, and this is a run of it

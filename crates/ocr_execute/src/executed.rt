@@ -8,7 +8,7 @@ ghost use Rattle.ocr_execute.specs.Ending.{IsMet, end_of, end_status};
 ghost use Rattle.ocr_execute.specs.Executed.{AreWithin, IsExecuted, IsRunOf};
 ghost use Rattle.ocr_execute.specs.Lines.{ending_line};
 ghost use Rattle.ocr_execute.specs.ProgramText.{IsTextStop, most_bytes};
-ghost use Rattle.ocr_writing.specs.Output.{output_of};
+ghost use Rattle.ocr_writing.specs.Output.{IsOutput};
 
 use crate::ending::ending_of;
 use crate::lines::line_of_ending;
@@ -95,8 +95,8 @@ fn told(
     requires limit { (2 ≤ limit) × (limit ≤ 65536) }
     requires run { IsRun (setting_of setting.now limit) (history_of journal) }
     ensures journal { IfOk result (λ e. e.journal ≡ journal) }
-    ensures text { IfOk result (λ e. e.text.items
-        ≡ output_of (setting_of setting.now limit) (history_of journal) reports) }
+    ensures text { IfOk result (λ e.
+        IsOutput (setting_of setting.now limit) (history_of journal) reports e.text.items) }
     ensures status { IfOk result (λ e. e.status ≡ end_status (end_of (history_of journal))) }
     ensures line { IfOk result (λ e. e.line.items ≡ ending_line (history_of journal)) }
     ensures met { IfOk result (λ e. IsMet e.status) }

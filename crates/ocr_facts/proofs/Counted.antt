@@ -176,5 +176,5 @@ counted = record {
   starting = starting;
   waiting = waiting;
   resuming = resuming;
-  ending = ending;
+  ending = λ t past e n may is. let r = ending t past e n may is in (r.2, inl (r.0, r.1));
 }

@@ -53,7 +53,7 @@ ready_edt : (members : List (ℕ × Mode)) (e : Edt) → held_in (made_ready mem
 ready_edt members (phase.Filling i) = refl
 ready_edt members other = refl
 
-ready_held : (members : List (ℕ × Mode)) (x : Part) → held_on (on_core x (with_phase (made_ready members))) ≡ held_on x
+pub ready_held : (members : List (ℕ × Mode)) (x : Part) → held_on (on_core x (with_phase (made_ready members))) ≡ held_on x
 ready_held members (part.Core c) = ready_edt members c.edt
 ready_held members other = refl
 
@@ -114,7 +114,7 @@ other_starts s past t u d off =
     ap (λ (x : Part). mode_in d (held_on x)) cores
 
 -- WHO HOLDS A BLOCK beside EW or CONST does not write
-both_hold : (md : Option Made) (links : List slot.SlotCall) (blocks : List block.BlockCall) (events : List EventCall) (scopes : List ScopeCall) (u t : ℕ) (k m : Mode) (one two : Kept) → (u == t) ≡ false → IsBlock (face md links blocks events scopes) (IsKeptWith u k one)
+pub both_hold : (md : Option Made) (links : List slot.SlotCall) (blocks : List block.BlockCall) (events : List EventCall) (scopes : List ScopeCall) (u t : ℕ) (k m : Mode) (one two : Kept) → (u == t) ≡ false → IsBlock (face md links blocks events scopes) (IsKeptWith u k one)
     → IsBlock (face md links blocks events scopes) (IsKeptWith t m two) → together k m ≡ true
 both_hold (Some (MadeBlock n c)) links blocks events scopes u t k m one two apart is other = holders_together u t k m (block.holders_of c blocks) (holders_law c blocks) apart is.holder other.holder
 both_hold rest links blocks events scopes u t k m one two apart is other = absurd is
@@ -153,7 +153,7 @@ dropped_edt_came (phase.Running w) b d k is = elim (d == b) as (λ x. (d == b) �
 ] refl
 dropped_edt_came other b d k is = is
 
-dropped_came : (x : Part) (b d : ℕ) (k : Mode) → mode_in d (held_on (on_core x (dropping_core b))) ≡ Some k → mode_in d (held_on x) ≡ Some k
+pub dropped_came : (x : Part) (b d : ℕ) (k : Mode) → mode_in d (held_on (on_core x (dropping_core b))) ≡ Some k → mode_in d (held_on x) ≡ Some k
 dropped_came (part.Core c) b d k is = dropped_edt_came c.edt b d k is
 dropped_came other b d k is = is
 
@@ -174,12 +174,12 @@ ended_edt_came : (e : Edt) (d : ℕ) (k : Mode) → mode_in d (held_in (ended_ed
 ended_edt_came (phase.Running w) d k is = cc is
 ended_edt_came other d k is = is
 
-ended_came : (x : Part) (d : ℕ) (k : Mode) → mode_in d (held_on (on_core x (with_phase ended_edt))) ≡ Some k → mode_in d (held_on x) ≡ Some k
+pub ended_came : (x : Part) (d : ℕ) (k : Mode) → mode_in d (held_on (on_core x (with_phase ended_edt))) ≡ Some k → mode_in d (held_on x) ≡ Some k
 ended_came (part.Core c) d k is = ended_edt_came c.edt d k is
 ended_came other d k is = is
 
 -- where one core changes
-core_came : (core : ℕ → Part) (t u d : ℕ) (k : Mode) (y : Part) → (mode_in d (held_on y) ≡ Some k → mode_in d (held_on (core t)) ≡ Some k) → mode_in d (held_on (if t == u then y else core u)) ≡ Some k → mode_in d (held_on (core u)) ≡ Some k
+pub core_came : (core : ℕ → Part) (t u d : ℕ) (k : Mode) (y : Part) → (mode_in d (held_on y) ≡ Some k → mode_in d (held_on (core t)) ≡ Some k) → mode_in d (held_on (if t == u then y else core u)) ≡ Some k → mode_in d (held_on (core u)) ≡ Some k
 core_came core t u d k y own is = elim (t == u) as (λ b. (t == u) ≡ b → mode_in d (held_on (if b then y else core u)) ≡ Some k → mode_in d (held_on (core u)) ≡ Some k) [
   | true ↦ λ here is. subst (λ (n : ℕ). mode_in d (held_on (core n)) ≡ Some k) (eqb-true t u here) (own is)
   | false ↦ λ _ is. is
@@ -204,7 +204,7 @@ called_came f t (call.EdtCreate from pc ps dc ds fl out) a w u d k on old is =
     (sym (ap (λ (y : Part). mode_in d (held_on y)) (deps_core a.value 0 ds _ u)) ∙ is)
 called_came f t other a w u d k on old is = is
 
-call_came : (f : Parts) (t home : ℕ) (c : body.Call) (a : Answer) (w : List (ℕ × ℕ)) (u d : ℕ) (k : Mode) → is_new c a d ≡ false → mode_in d (held_on ((if is_done a.code then joined c home (called t c a w f) else f).core u)) ≡ Some k → mode_in d (held_on (f.core u)) ≡ Some k
+pub call_came : (f : Parts) (t home : ℕ) (c : body.Call) (a : Answer) (w : List (ℕ × ℕ)) (u d : ℕ) (k : Mode) → is_new c a d ≡ false → mode_in d (held_on ((if is_done a.code then joined c home (called t c a w f) else f).core u)) ≡ Some k → mode_in d (held_on (f.core u)) ≡ Some k
 call_came f t home c a w u d k old is = elim (is_done a.code) as (λ b. is_done a.code ≡ b → mode_in d (held_on ((if b then joined c home (called t c a w f) else f).core u)) ≡ Some k → mode_in d (held_on (f.core u)) ≡ Some k) [
   | true ↦ λ on is. called_came f t c a w u d k on old is
   | false ↦ λ _ is. is
@@ -232,11 +232,11 @@ started_since : (later past : History) (t : ℕ) → is_started past t ≡ true 
 started_since [] past t is = is
 started_since (e ∷ later) past t is = still_started (later ++ past) e t (started_since later past t is)
 
-made_since : (s : Setting) (later past : History) (d : ℕ) (m : Made) → IsRun s (later ++ past) → made s past d ≡ Some m → made s (later ++ past) d ≡ Some m
+pub made_since : (s : Setting) (later past : History) (d : ℕ) (m : Made) → IsRun s (later ++ past) → made s past d ≡ Some m → made s (later ++ past) d ≡ Some m
 made_since s [] past d m run is = is
 made_since s (e ∷ later) past d m run is = made_law s (later ++ past) e d m run.1 (made_since s later past d m run.0 is)
 
-run_before : (s : Setting) (later past : History) → IsRun s (later ++ past) → IsRun s past
+pub run_before : (s : Setting) (later past : History) → IsRun s (later ++ past) → IsRun s past
 run_before s [] past run = run
 run_before s (e ∷ later) past run = run_before s later past run.0
 
@@ -247,7 +247,7 @@ came_since s (e ∷ later) past u d m k run there on is =
     came_since s later past u d m k run.0 there on
     (came s (later ++ past) e u d k run.0 run.1 (λ none. cc (none, still)) (started_since later past u on) is)
 
-some_made : (o : Option Made) → (o ≡ None → ⊥) → (m : Made) × (o ≡ Some m)
+pub some_made : (o : Option Made) → (o ≡ None → ⊥) → (m : Made) × (o ≡ Some m)
 some_made None is = absurd (is refl)
 some_made (Some m) is = (m, refl)
 

@@ -44,7 +44,7 @@ use Rattle.ocr_memory.specs.Memory.{hold_of, is_for_writing, IsWrittenBy, Writte
 use Rattle.ocr_standing.proofs.Found.{granted_if, asked_same}
 
 -- A BLOCK was made
-block_there : (m : Option Made) (links : List slot.SlotCall) (blocks : List block.BlockCall) (events : List EventCall) (scopes : List ScopeCall) → is_block (face m links blocks events scopes) ≡ true → m ≡ None → ⊥
+pub block_there : (m : Option Made) (links : List slot.SlotCall) (blocks : List block.BlockCall) (events : List EventCall) (scopes : List ScopeCall) → is_block (face m links blocks events scopes) ≡ true → m ≡ None → ⊥
 block_there (Some (MadeBlock n c)) links blocks events scopes is none = cc none
 block_there other links blocks events scopes is none = cc
 
@@ -64,7 +64,7 @@ held_mode other links blocks events scopes t o l is = absurd is
 first_mode : (t : ℕ) (m : Mode) → mode_in t ((t, m) ∷ []) ≡ Some m
 first_mode t m = rw (same t) refl
 
-borrower_holds : (s : Setting) (past : History) (by d : ℕ) → IsRun s past → is_running ((parts_of s past).core by) ≡ true → is_block ((parts_of s past).face d) ≡ true → is_number by (block.borrower_of (block_calls s past d)) ≡ true → hold_of s past by d ≡ Some mode.Ew
+pub borrower_holds : (s : Setting) (past : History) (by d : ℕ) → IsRun s past → is_running ((parts_of s past).core by) ≡ true → is_block ((parts_of s past).face d) ≡ true → is_number by (block.borrower_of (block_calls s past d)) ≡ true → hold_of s past by d ≡ Some mode.Ew
 borrower_holds s past by d run running there lent =
     let y : Part = (parts_of s past).core by in
     let alone = (loan_law (size_in (made s past d)) (creator_in (made s past d)) (block_calls s past d) by (allowed_law s past run d) (borrower_is by (block.borrower_of (block_calls s past d)) lent)).0 in

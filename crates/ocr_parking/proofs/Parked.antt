@@ -1,5 +1,5 @@
 -- Who stands in the queue of a kept block waits.
-use Rattle.std.proofs.Common.{◌≡◌, ℕ, ◌≤◌, ◌==◌, true, List, [], ◌∷◌, reverse, is_some, refl, sym, ◌∙◌, ap, subst, arith}
+use Rattle.std.proofs.Common.{◌≡◌, ℕ, ◌≤◌, List, [], ◌∷◌, reverse, is_some, refl, sym, ◌∙◌, ap, subst, arith}
 use Rattle.std.proofs.lemmas.Grind.{common_steps}
 use Rattle.ocr_base.proofs.Booleans.{same as number_same}
 use Rattle.ocr_acquire.specs.Mode.{mode_in}
@@ -39,6 +39,3 @@ lets_wait table program c edt places work waits J knows =
 -- once it is parked
 pub parked_claims : (v : OcrView) (edt : ℕ) → v.claims ≡ edt ∷ [] → (unclaiming v edt).claims ≡ []
 parked_claims v edt is = ap (less_one edt) is ∙ no_claim edt
-
-pub parked_view : (v : OcrView) (edt : ℕ) → v.claims ≡ edt ∷ [] → unclaiming v edt ≡ record v { claims = [] }
-parked_view v edt is = ap (λ (l : List ℕ). record v { claims = l }) (parked_claims v edt is)

@@ -1,5 +1,5 @@
 // A worker parks an EDT that was let wait.
-ghost use Rattle.std.specs.Prelude.{◌≡◌, []};
+ghost use Rattle.std.specs.Prelude.{◌≡◌, ◌+◌, []};
 ghost use Rattle.ocr_clerks.specs.Work.{AtWork, HasTakenOn, IsIdle};
 ghost use Rattle.ocr_parking.specs.Parking.{IsLetWait};
 
@@ -24,7 +24,12 @@ pub fn park_edt(
     ensures work { AtWork turns.now program.now clerk.new }
     ensures idle { IsIdle clerk.new }
     ensures table { clerk.new.table ≡ clerk.old.table }
-    ensures view { clerk.new.view ≡ record clerk.old.view { parts = []; claims = [] } }
+    ensures view { clerk.new.view ≡ record clerk.old.view {
+      parts = [];
+      claims = [];
+      spares
+          = clerk.old.view.spares + 1;
+    } }
 {
     park(turns, clerk, edt);
     give_all(turns, program, clerk, places);

@@ -1,9 +1,9 @@
-mod Rising
 pub mod Counting
-pub mod Entered
 pub mod Made
 pub mod Numbered
 pub mod Opened
+mod RacesText
+mod Rising
 pub mod Tallied
 pub mod Unstarted
 pub mod Uses

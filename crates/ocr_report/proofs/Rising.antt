@@ -1,7 +1,6 @@
 -- The EDTs that were made rise, and where a number comes among rising ones.
 use Rattle.std.proofs.Common.{◌≡◌, ◌<◌, ◌∙◌, ℕ, zero, suc, Bool, true, false, ◌==◌, nat_lt, if◌then◌else◌, List, [], ◌∷◌, ◌++◌, length, slice_index, take, drop, refl, ap, arith}
 use Rattle.std.proofs.lemmas.Bool.{eqb-true, ltb-true}
-use Rattle.ocr_meaning.specs.declared.call.Call.TheVariants as call
 use Rattle.ocr_history.specs.Numbers.{placed, IsRising, RisesFrom}
 use Rattle.ocr_history.proofs.Left.{rising_from}
 

@@ -8,6 +8,7 @@ pub mod Left
 pub mod Lists
 pub mod Made
 pub mod Open
+pub mod Races
 pub mod Refused
 pub mod Slots
 pub mod Stale

@@ -35,9 +35,13 @@ in_busy o d a is h = subst (λ x. IsInOrder x a) (sym is) (inr (inl h))
 in_parked : (o : Option ℕ) (d : ℕ) (a : Account) → o ≡ Some d → IsParked a → IsInOrder o a
 in_parked o d a is h = subst (λ x. IsInOrder x a) (sym is) (inr (inr h))
 
-not_free : (x : ℕ) → 1 ≤ x → is_free x ≡ 0
+pub not_free : (x : ℕ) → 1 ≤ x → is_free x ≡ 0
 not_free zero h = absurd (omega arith)
 not_free (suc x) h = refl
+
+pub free_most : (x : ℕ) → is_free x ≤ 1
+free_most zero = omega arith
+free_most (suc x) = omega arith
 
 -- by so much less is owed, and by so much the word falls
 pub falls : (o : Option ℕ) (a b : Account) (less : ℕ) → IsInOrder o a → 1 ≤ a.making + a.owed → less ≤ 33 → b.making + b.owed + less ≡ a.making + a.owed → b.word ≡ (a.word + (18446744073709551616 - less)) % 18446744073709551616
@@ -47,17 +51,23 @@ falls o a b less h some small owes word unset claims resumes waits started lasts
     let new : b.word + less ≡ a.word = omega arith in
     (in_counting o r.1.0 b r.1.1 (record { word = omega arith; most = omega arith; bare = omega arith; once = (let was = r.0.once in let z = not_free a.word (omega arith) in omega arith) }), omega arith, most, new)
 
-pub claimed : (o : Option ℕ) (a b : Account) → IsInOrder o a → a.word ≡ READY → b.word ≡ BUSY → b.making ≡ a.making → b.owed ≡ a.owed → b.unset ≡ a.unset → b.claims ≡ a.claims + 1 → b.resumes ≡ a.resumes → b.ended ≡ 0 → b.lasts ≡ a.lasts → IsInOrder o b
-claimed o a b h is word making owed unset claims resumes ended lasts =
+pub claimed : (o : Option ℕ) (a b : Account) → IsInOrder o a → a.word ≡ READY → b.word ≡ BUSY → b.making ≡ a.making → b.owed ≡ a.owed → b.unset ≡ a.unset → b.claims ≡ a.claims + 1 → b.resumes ≡ a.resumes → b.started ≡ a.started → b.lasts ≡ a.lasts → IsInOrder o b
+claimed o a b h is word making owed unset claims resumes started lasts =
     let r = ready o a h is in let bare = r.0.bare in let all = r.2 in
-    in_busy o r.1.0 b r.1.1 (record { word = word; counted = omega arith; held = omega arith; none = omega arith; once = lasts ∙ (r.0.once ∙ ap is_free is) })
+    in_busy o r.1.0 b r.1.1 (record { word = word; counted = omega arith; held = omega arith; sole = omega arith; runs = λ on. absurd (omega arith); none = omega arith; once = lasts ∙ (r.0.once ∙ ap is_free is) })
 
 pub parks : (o : Option ℕ) (a b : Account) → IsInOrder o a → 1 ≤ a.claims → a.waits ≡ 1 → a.started ≡ 0 → b.word ≡ PARKED → b.making ≡ a.making → b.owed ≡ a.owed → b.unset ≡ a.unset → b.claims + 1 ≡ a.claims → b.resumes ≡ a.resumes → b.waits ≡ a.waits → b.started ≡ a.started → b.lasts ≡ a.lasts → IsInOrder o b
 parks o a b h some wait fresh word making owed unset claims resumes waits started lasts =
-    let r = busy o a h some in let c = r.0.counted in let held = r.0.held in let none = r.0.none in
+    let r = busy o a h some in let c = r.0.counted in let sole = r.0.sole in let none = r.0.none in
     in_parked o r.1.0 b r.1.1 (record { word = word; counted = omega arith; waits = omega arith; none = omega arith; once = lasts ∙ r.0.once })
 
 pub resumed : (o : Option ℕ) (a b : Account) → IsInOrder o a → 1 ≤ a.resumes → b.word ≡ READY → b.making ≡ a.making → b.owed ≡ a.owed → b.unset ≡ a.unset → b.claims ≡ a.claims → b.resumes + 1 ≡ a.resumes → b.waits ≡ a.waits → b.started ≡ a.started → b.lasts ≡ a.lasts → IsInOrder o b
 resumed o a b h some word making owed unset claims resumes waits started lasts =
     let r = parked o a h some in let c = r.0.counted in let w = r.0.waits in let none = r.0.none in
     in_counting o r.1.0 b r.1.1 (record { word = omega arith; most = omega arith; bare = omega arith; once = lasts ∙ (r.0.once ∙ sym (ap is_free word)) })
+
+-- the claim of an EDT that has its end is given up
+pub forgone : (o : Option ℕ) (a b : Account) → IsInOrder o a → 1 ≤ a.claims → a.ended ≡ 1 → b.word ≡ BUSY → b.making ≡ a.making → b.owed ≡ a.owed → b.unset ≡ a.unset → b.claims + 1 ≡ a.claims → b.resumes ≡ a.resumes → b.started ≡ a.started → b.ended ≡ a.ended → b.lasts ≡ a.lasts → IsInOrder o b
+forgone o a b h some over word making owed unset claims resumes started ended lasts =
+    let r = busy o a h some in let c = r.0.counted in let sole = r.0.sole in let none = r.0.none in let runs = r.0.runs in
+    in_busy o r.1.0 b r.1.1 (record { word = word; counted = omega arith; held = omega arith; sole = omega arith; runs = λ on. let one = runs (omega arith) in absurd (omega arith); none = omega arith; once = lasts ∙ r.0.once })

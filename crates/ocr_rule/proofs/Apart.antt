@@ -51,7 +51,7 @@ module _ {G E P N F : Type 0} (m : Meaning G E P N F) (t : Terms G) (past : List
 
   -- the table after a step that changes neither the words that count nor the number of slots
   module _ (words : List ℕ) (homes : List (maybe.Option (Option P))) (views : List Vs) (same_length : length words ≡ length s.words) (same_homes : length homes ≡ length s.homes)
-      (same_words : (i : ℕ) → 16 + length s.homes ≤ i → slice_index words i ≡ slice_index s.words i) (sums : SameSums views s.views)
+      (same_words : (i : ℕ) → 24 + length s.homes ≤ i → slice_index words i ≡ slice_index s.words i) (sums : SameSums views s.views)
       (seated : (id : ℕ) (v : Vs) → get_elem? views id ≡ some v → Stakes m t past v) where
     pub counted_same : Counted m t past record { words = words; homes = homes; views = views }
     counted_same = record {
@@ -85,14 +85,14 @@ module _ {G E P N F : Type 0} (m : Meaning G E P N F) (t : Terms G) (past : List
     }
 
     pub counted_elsewhere : (words : List ℕ) (homes : List (maybe.Option (Option P))) → length words ≡ length s.words → length homes ≡ length s.homes
-        → ((i : ℕ) → 16 + length s.homes ≤ i → slice_index words i ≡ slice_index s.words i)
+        → ((i : ℕ) → 24 + length s.homes ≤ i → slice_index words i ≡ slice_index s.words i)
         → Counted m t past record { words = words; homes = homes; views = slice_set s.views id w }
     counted_elsewhere words homes same_length same_homes same_words =
         counted_same words homes (slice_set s.views id w) same_length same_homes same_words (same_sums (slice_set s.views id w) s.views same_set)
         (λ i u u_at. ⊎_elim (λ h. subst (Stakes m t past) h.1 stakes_same) (λ h. k.seated i u h.1) (at_set s.views id i w u u_at))
 
     -- where the word is one before those that count
-    pub counted_at : (i x : ℕ) (homes : List (maybe.Option (Option P))) → i < 16 + length s.homes → length homes ≡ length s.homes
+    pub counted_at : (i x : ℕ) (homes : List (maybe.Option (Option P))) → i < 24 + length s.homes → length homes ≡ length s.homes
         → Counted m t past record { words = slice_set s.words i x; homes = homes; views = slice_set s.views id w }
     counted_at i x homes lt same_homes = counted_elsewhere (slice_set s.words i x) homes (length-set s.words i x) same_homes
         (λ j past_it. get_or-set_other s.words i j x 0 (λ e. absurd (omega arith)))
@@ -186,7 +186,7 @@ module _ {G E P N F : Type 0} (m : Meaning G E P N F) (t : Terms G) (past : List
 
   -- a step on a word before those that count, which takes no part away
   pub counted_beside : (id : ℕ) (v w : Vs) → get_elem? s.views id ≡ some v → w.debts ≡ v.debts → w.claims ≡ v.claims → 0 < w.root + w.seat → ((p : ℕ) → weigh (one_at p) v.parts ≤ weigh (one_at p) w.parts) → ((n : ℕ) → IsBegunIn m v n → IsBegunIn m w n)
-      → (i x : ℕ) (homes : List (maybe.Option (Option P))) → i < 16 + length s.homes → length homes ≡ length s.homes
+      → (i x : ℕ) (homes : List (maybe.Option (Option P))) → i < 24 + length s.homes → length homes ≡ length s.homes
       → Counted m t past record { words = slice_set s.words i x; homes = homes; views = slice_set s.views id w }
   counted_beside id v w at debts claims is_out more begun i x homes lt same_homes =
       counted_at id v w at debts claims is_out (λ n p has is. let held = (k.seated id v at).tied n p has is in let le = more p in omega arith) begun i x homes lt same_homes

@@ -37,21 +37,32 @@ module _ (first : ℕ × ℕ) (limit drawn : ℕ) (lo : 1 ≤ first.0) (hi : fir
   abbrev pub ready_words : List ℕ
   ready_words = set (set bare_words (state_at (2 * limit + 1) first.0) READY) (payload_at (2 * limit + 1) first.0 0) first.1
 
-  front_length : length front ≡ 16 + (2 * limit + 1)
+  -- the words behind the draw word
+  abbrev behind_draw : List ℕ
+  behind_draw = replicate 7 0 ++ 2 ∷ replicate (2 * limit + 8) 0
+
+  front_length : length front ≡ 24 + (2 * limit + 1)
   front_length = let l : length (replicate {A = ℕ} (2 * limit + 8) 0) ≡ 2 * limit + 8 = length-replicate {A = ℕ} (2 * limit + 8) 0 in
       let b : length (replicate {A = ℕ} 8 0) ≡ 8 = length-replicate {A = ℕ} 8 0 in
-      length-append (replicate {A = ℕ} 8 0) (drawn ∷ replicate (2 * limit + 8) 0) ∙ omega arith
+      let c : length (replicate {A = ℕ} 7 0) ≡ 7 = length-replicate {A = ℕ} 7 0 in
+      let d : length behind_draw ≡ 7 + (1 + (2 * limit + 8)) = length-append (replicate {A = ℕ} 7 0) (2 ∷ replicate (2 * limit + 8) 0) ∙ omega arith in
+      length-append (replicate {A = ℕ} 8 0) (drawn ∷ behind_draw) ∙ omega arith
 
   commit_at : get_or front 0 0 ≡ 0
   commit_at = let b : length (replicate {A = ℕ} 8 0) ≡ 8 = length-replicate {A = ℕ} 8 0 in
-      get_or-append (replicate {A = ℕ} 8 0) (drawn ∷ replicate (2 * limit + 8) 0) 0 0 (omega arith) ∙ get_or-replicate {A = ℕ} 8 0 0 0 (omega arith)
+      get_or-append (replicate {A = ℕ} 8 0) (drawn ∷ behind_draw) 0 0 (omega arith) ∙ get_or-replicate {A = ℕ} 8 0 0 0 (omega arith)
 
   -- the words from the draw word on
-  behind : (i : ℕ) → get_or front (8 + i) 0 ≡ get_or (drawn ∷ replicate (2 * limit + 8) 0) i 0
+  behind : (i : ℕ) → get_or front (8 + i) 0 ≡ get_or (drawn ∷ behind_draw) i 0
   behind i = let b : length (replicate {A = ℕ} 8 0) ≡ 8 = length-replicate {A = ℕ} 8 0 in
-      ap (λ (k : ℕ). get_or front (k + i) 0) (sym b) ∙ get_or-append-add (replicate {A = ℕ} 8 0) (drawn ∷ replicate (2 * limit + 8) 0) i 0
+      ap (λ (k : ℕ). get_or front (k + i) 0) (sym b) ∙ get_or-append-add (replicate {A = ℕ} 8 0) (drawn ∷ behind_draw) i 0
 
-  pub bare_length : length bare_words ≡ 16 + (2 * limit + 1) + 33 * limit
+  -- the words from the live word on
+  beyond : (i : ℕ) → get_or behind_draw (7 + i) 0 ≡ get_or (2 ∷ replicate (2 * limit + 8) 0) i 0
+  beyond i = let b : length (replicate {A = ℕ} 7 0) ≡ 7 = length-replicate {A = ℕ} 7 0 in
+      ap (λ (k : ℕ). get_or behind_draw (k + i) 0) (sym b) ∙ get_or-append-add (replicate {A = ℕ} 7 0) (2 ∷ replicate (2 * limit + 8) 0) i 0
+
+  pub bare_length : length bare_words ≡ 24 + (2 * limit + 1) + 33 * limit
   bare_length = let a = front_length in let b = unmade_length limit in length-append front (unmade_words limit) ∙ omega arith
 
   -- a word that is not the first EDT's
@@ -59,18 +70,20 @@ module _ (first : ℕ × ℕ) (limit drawn : ℕ) (lo : 1 ≤ first.0) (hi : fir
   elsewhere i a b = get_or-set_other (set bare_words (state_at (2 * limit + 1) first.0) READY) (payload_at (2 * limit + 1) first.0 0) i first.1 0 b
       ∙ get_or-set_other bare_words (state_at (2 * limit + 1) first.0) i READY 0 a
 
-  in_front : (i : ℕ) → i < 16 + (2 * limit + 1) → slice_index ready_words i ≡ get_or front i 0
+  in_front : (i : ℕ) → i < 24 + (2 * limit + 1) → slice_index ready_words i ≡ get_or front i 0
   in_front i lt = let len = front_length in elsewhere i (λ e. absurd (omega arith)) (λ e. absurd (omega arith)) ∙ get_or-append front (unmade_words limit) 0 i (omega arith)
 
-  turn_at : (p : ℕ) → p < 2 * limit + 1 → get_or front (p + 16) 0 ≡ 0
-  turn_at p lt = ap (λ (i : ℕ). get_or front i 0) (let h : p + 16 ≡ 8 + suc (p + 7) = omega arith in h) ∙ (behind (suc (p + 7)) ∙ get_or-replicate {A = ℕ} (2 * limit + 8) (p + 7) 0 0 (omega arith))
+  turn_at : (p : ℕ) → p < 2 * limit + 1 → get_or front (p + 24) 0 ≡ 0
+  turn_at p lt = ap (λ (i : ℕ). get_or front i 0) (let h : p + 24 ≡ 8 + suc (7 + suc (p + 7)) = omega arith in h)
+      ∙ (behind (suc (7 + suc (p + 7))) ∙ (beyond (suc (p + 7)) ∙ get_or-replicate {A = ℕ} (2 * limit + 8) (p + 7) 0 0 (omega arith)))
 
   pub laid_out : IsLaidOut first limit drawn ready_words
   laid_out = record {
     size = length-set (set bare_words (state_at (2 * limit + 1) first.0) READY) (payload_at (2 * limit + 1) first.0 0) first.1 ∙ (length-set bare_words (state_at (2 * limit + 1) first.0) READY ∙ bare_length);
     commit = in_front 0 (omega arith) ∙ commit_at;
     draw = in_front 8 (omega arith) ∙ behind 0;
-    turns = λ p lt. in_front (p + 16) (omega arith) ∙ turn_at p lt;
+    live = in_front 16 (omega arith) ∙ (behind 8 ∙ beyond 0);
+    turns = λ p lt. in_front (p + 24) (omega arith) ∙ turn_at p lt;
     first_ready = get_or-set_other (set bare_words (state_at (2 * limit + 1) first.0) READY) (payload_at (2 * limit + 1) first.0 0) (state_at (2 * limit + 1) first.0) first.1 0 (λ e. absurd (omega arith))
         ∙ get_or-set_same bare_words (state_at (2 * limit + 1) first.0) READY 0 (let l = bare_length in omega arith);
     first_payload = get_or-set_same (set bare_words (state_at (2 * limit + 1) first.0) READY) (payload_at (2 * limit + 1) first.0 0) first.1 0
@@ -129,7 +142,6 @@ module _ {G E P N F : Type 0} (m : Meaning G E P N F) (laws : CountingLaws m) (t
         (first_is n);
     set = λ n q x is. let r = first_payload n q x is in ⊎_elim (λ h. (1, h.1, (let z = r.1 in omega arith))) (λ h. absurd (h.0 r.0)) (first_is n);
     rests = λ n p is. cc is;
-    ends = λ n is. absurd (cc is);
     facts = λ n q x is. let r = first_payload n q x is in
         subst (λ z. m.stands t.setting.value t.limit [] (m.counting.is_set n q z)) r.2 (subst (λ z. m.stands t.setting.value t.limit [] (m.counting.is_set n z m.first.1)) r.1 (subst (λ z. m.stands t.setting.value t.limit [] (m.counting.is_set z 0 m.first.1)) r.0 (laws.first_set t)));
   }

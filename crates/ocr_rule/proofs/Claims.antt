@@ -7,7 +7,7 @@ use Rattle.atomic_table.specs.Table.{State}
 use Rattle.atomic_table.proofs.Lists.{at_longer}
 use Rattle.ocr_rule.specs.declared.view.View.{View}
 use Rattle.ocr_rule.specs.declared.view.Terms.{Terms}
-use Rattle.ocr_rule.specs.Counting.{Counted, IsBegunIn, IsSet, account, slots_of, payload_of, is_ended, is_none, unset_of}
+use Rattle.ocr_rule.specs.Counting.{Counted, IsBegunIn, IsSet, account, slots_of, payload_of, is_ended, is_none, unset_of, is_true}
 use Rattle.ocr_rule.specs.Meaning.{Meaning}
 use Rattle.ocr_rule.specs.Owing.{times}
 use Rattle.ocr_rule.specs.Rule.{Claimed}
@@ -76,9 +76,9 @@ module _ {G E P N F : Type 0} (m : Meaning G E P N F) (t : Terms G) where
       let stakes = c.seated id v at in let range = stakes.claims n has in
       let one = total_one (λ (u : View G E P N F). times n u.claims) s.views id v at in
       let order = busy (slots_of m t past n) (account m t s.words (length s.homes) s.views past n) (c.each n range.0 range.1) (omega arith) in
-      let counted = order.0.counted in let held = order.0.held in record {
+      let counted = order.0.counted in let runs = order.0.runs in record {
         set = set_all past n order.1.0 order.1.1 (omega arith);
-        unended = true_is (is_ended m t past n) (omega arith);
+        unended = λ on. let begun = ap is_true on in let single = runs (omega arith) in true_is (is_ended m t past n) (omega arith);
         begun = stakes.begun n has;
         tied = λ p is. stakes.tied n p has is;
       }

@@ -14,9 +14,10 @@ use Rattle.ocr_rule.specs.Contract.{Next, MayCommit, MayClose}
 use Rattle.ocr_rule.specs.Counting.{Counted, CountingLaws, MayCome, leaves}
 use Rattle.ocr_rule.specs.Owing.{listed, AreInRange, both_debts, times}
 use Rattle.ocr_rule.specs.Meaning.{Meaning, Lawful, IsBare, Run, Open, Ended}
-use Rattle.ocr_rule.specs.Rule.{weighed, LogOf, Seated, Kept, Holds, OPEN, RunsIn, OwnsAll, mail}
+use Rattle.ocr_rule.specs.Rule.{Alive, weighed, LogOf, Seated, Kept, Holds, OPEN, RunsIn, OwnsAll, mail}
 use Rattle.ocr_rule.specs.Steps.{Deed, deed, limit_of, logged, ended_by, shut_by, commits, closes, looks, SeesEnd}
 use Rattle.ocr_rule.specs.Sums.{made_sum, up_to, total, weigh, one_at, sum_of, below, weigh_all, replace_all, is_free}
+use Rattle.ocr_rule.specs.Units.{ready_count}
 use Rattle.ocr_rule.specs.declared.view.View.{View}
 use Rattle.ocr_rule.specs.declared.view.Terms.{Terms}
 use Rattle.ocr_rule.proofs.Bounds.{short, shut_most, fits, sees, sees_open, sees_end, stepped_at}
@@ -25,6 +26,7 @@ use Rattle.ocr_rule.proofs.Numbered.{keys_replace_all, weigh_keys, at_replace_al
 use Rattle.ocr_rule.proofs.Same.{keeps_at, after, total_same, numbers_same, numbers_more, places_same, roster_same, owed_same, seated_each}
 use Rattle.ocr_rule.proofs.Apart.{counted_beside}
 use Rattle.ocr_rule.proofs.Ranges.{deed_owed}
+use Rattle.ocr_rule.proofs.Units.{alive_after, alive_same, logged_units, others_live, ready_same, some_live}
 use Rattle.ocr_rule.proofs.Entered.{entered_kept, adds_none, without_none}
 use Rattle.ocr_rule.proofs.Totals.{reverse_twice, total_set, total_one, total_two, weigh_snoc, weigh_at, below_more, load_snoc, less_all_sum, tally_append, without_tally, log_none, at_append}
 
@@ -32,8 +34,8 @@ use Rattle.ocr_rule.proofs.Totals.{reverse_twice, total_set, total_one, total_tw
 pub elsewhere : (ws : List ℕ) (i j n : ℕ) → j ≢ i → slice_index (slice_set ws i n) j ≡ slice_index ws j
 elsewhere ws i j n ne = get_or-set_other ws i j n 0 ne
 
-pub behind_first : (ws : List ℕ) (n p : ℕ) → slice_index (slice_set ws 0 n) (p + 16) ≡ slice_index ws (p + 16)
-behind_first ws n p = elsewhere ws 0 (p + 16) n (λ h. omega arith)
+pub behind_first : (ws : List ℕ) (n p : ℕ) → slice_index (slice_set ws 0 n) (p + 24) ≡ slice_index ws (p + 24)
+behind_first ws n p = elsewhere ws 0 (p + 24) n (λ h. omega arith)
 
 pub second_word : (ws : List ℕ) (n : ℕ) → slice_index (slice_set ws 0 n) 8 ≡ slice_index ws 8
 second_word ws n = elsewhere ws 0 8 n (λ h. omega arith)
@@ -49,14 +51,20 @@ module _ (ws : List ℕ) (more : ℕ) where
   draw_word : slice_index (grown ws more) 8 ≡ slice_index ws 8
   draw_word = second_word ws ((slice_index ws 0 + more) % 18446744073709551616)
 
-  turn_word : (p : ℕ) → slice_index (grown ws more) (p + 16) ≡ slice_index ws (p + 16)
+  turn_word : (p : ℕ) → slice_index (grown ws more) (p + 24) ≡ slice_index ws (p + 24)
   turn_word p = behind_first ws ((slice_index ws 0 + more) % 18446744073709551616) p
+
+  live_word : slice_index (grown ws more) 16 ≡ slice_index ws 16
+  live_word = elsewhere ws 0 16 ((slice_index ws 0 + more) % 18446744073709551616) (λ h. omega arith)
+
+  ready_grown : (slots limit : ℕ) → ready_count (grown ws more) slots limit ≡ ready_count ws slots limit
+  ready_grown slots limit = ready_same ws (grown ws more) slots limit (λ i beyond. elsewhere ws 0 i ((slice_index ws 0 + more) % 18446744073709551616) (λ h. absurd (omega arith)))
 
   commit_word : 0 < length ws → slice_index (grown ws more) 0 ≡ (slice_index ws 0 + more) % 18446744073709551616
   commit_word some_words = get_or-set_same ws 0 ((slice_index ws 0 + more) % 18446744073709551616) 0 some_words
 
 -- a run that has ended never grows again
-ended_shut : {E : Type 0} (stops : E → Bool) (J : List E) → Open stops J → Ended stops J → ⊥
+pub ended_shut : {E : Type 0} (stops : E → Bool) (J : List E) → Open stops J → Ended stops J → ⊥
 ended_shut stops J op over =
     let there : get_elem? J (length over.past) ≡ some over.last = ap (λ l. get_elem? l (length over.past)) over.whole ∙ at_last over.past over.last (length over.past) refl in
     let no = op (length over.past) over.last there in let is = over.stop in cc (no, is)
@@ -66,7 +74,7 @@ never_grows stops J K None op over = tt
 never_grows stops J K (Some n) op over = absurd (ended_shut stops J op over)
 
 module _ {G E P N F : Type 0} (m : Meaning G E P N F) (t : Terms G) where
-  module _ (J : List E) (s : State (Option P) (View G E P N F)) (k : Kept m t J s) (cnt : Counted m t (reverse J) s) (id : ℕ) (v : View G E P N F) (at : get_elem? s.views id ≡ some v) (was_open : v.closed ≡ None) (is_out : 0 < v.root + v.seat) where
+  module _ (J : List E) (s : State (Option P) (View G E P N F)) (k : Kept m t J s) (cnt : Counted m t (reverse J) s) (live : Alive m t J s) (id : ℕ) (v : View G E P N F) (at : get_elem? s.views id ≡ some v) (was_open : v.closed ≡ None) (is_out : 0 < v.root + v.seat) where
     -- a step on the commit word by which the seat learns no more than that the run has ended
     pub counted_shut : (n x : ℕ) → Counted m t (reverse J) (after s (slice_set s.words 0 x) s.homes id (shut_by v n))
     counted_shut n x = counted_beside m t (reverse J) s cnt id v (shut_by v n) at refl refl is_out (λ p. omega arith) (λ q b. b) 0 x s.homes (omega arith) refl
@@ -125,6 +133,10 @@ module _ {G E P N F : Type 0} (m : Meaning G E P N F) (t : Terms G) where
             seated = seated_each m t J s id v w at ws s.homes J shut (λ i u _ u_at. k.seated i u u_at);
           }
 
+      pub alive_shut : Alive m t J (after s (grown s.words more) s.homes id (shut_by v (slice_index s.words 0)))
+      alive_shut = alive_same m t J s live id v (shut_by v (slice_index s.words 0)) at (refl, refl) refl (omega arith) (refl, refl) (refl, refl, refl) is_out (grown s.words more) s.homes refl
+          (live_word s.words more) (λ _. past) (let same = ready_grown s.words more (length s.homes) t.limit in omega arith)
+
       pub told_end : SeesEnd m (shut_by v (slice_index s.words 0))
       told_end = sees_end m t J (after s (grown s.words more) s.homes id (shut_by v (slice_index s.words 0))) refused id (shut_by v (slice_index s.words 0)) (stepped_at s.views id v (shut_by v (slice_index s.words 0)) at) is_out ended
 
@@ -137,14 +149,14 @@ module _ {G E P N F : Type 0} (m : Meaning G E P N F) (t : Terms G) where
         (λ h. let len = h.0 in let lim = short m t J s k in let sh = k.share in
         let ws : slice_set s.words 0 (slice_index s.words 0) ≡ s.words = set-get_or s.words 0 0 in
         let vs : slice_set s.views id v ≡ s.views = set_again s.views id v at in
-        (v, (record { history = J; kept = subst (Kept m t J) (λ i. record { words = sym ws i; homes = s.homes; views = sym vs i }) k; counted = subst (Counted m t (reverse J)) (λ i. record { words = sym ws i; homes = s.homes; views = sym vs i }) cnt }, (refl, inl (omega arith, refl, sees_open m t J s k id v at cnt is_out h.1)))))
+        (v, (record { history = J; kept = subst (Kept m t J) (λ i. record { words = sym ws i; homes = s.homes; views = sym vs i }) k; counted = subst (Counted m t (reverse J)) (λ i. record { words = sym ws i; homes = s.homes; views = sym vs i }) cnt; alive = subst (Alive m t J) (λ i. record { words = sym ws i; homes = s.homes; views = sym vs i }) live }, (refl, inl (omega arith, refl, sees_open m t J s k id v at cnt is_out h.1)))))
         (λ h. let past = h.0 in
         let same : (slice_index s.words 0 + 0) % 18446744073709551616 ≡ slice_index s.words 0 = omega arith in
-        (shut_by v (slice_index s.words 0), (record { history = J; kept = subst (λ (x : ℕ). Kept m t J (after s (slice_set s.words 0 x) s.homes id (shut_by v (slice_index s.words 0)))) same (refused 0 (omega arith) past h.1); counted = counted_shut (slice_index s.words 0) (slice_index s.words 0) }, (refl, inr (past, refl, told_end 0 (omega arith) past h.1)))))
+        (shut_by v (slice_index s.words 0), (record { history = J; kept = subst (λ (x : ℕ). Kept m t J (after s (slice_set s.words 0 x) s.homes id (shut_by v (slice_index s.words 0)))) same (refused 0 (omega arith) past h.1); counted = counted_shut (slice_index s.words 0) (slice_index s.words 0); alive = subst (λ (x : ℕ). Alive m t J (after s (slice_set s.words 0 x) s.homes id (shut_by v (slice_index s.words 0)))) same (alive_shut 0 (omega arith) past h.1) }, (refl, inr (past, refl, told_end 0 (omega arith) past h.1)))))
         k.ledger.word
 
 module _ {G E P N F : Type 0} (m : Meaning G E P N F) (laws : Lawful m) (claws : CountingLaws m) (t : Terms G) where
-  module _ (J : List E) (s : State (Option P) (View G E P N F)) (k : Kept m t J s) (cnt : Counted m t (reverse J) s) (id : ℕ) (v : View G E P N F) (at : get_elem? s.views id ≡ some v) (was_open : v.closed ≡ None) (is_out : 0 < v.root + v.seat) (e : E) where
+  module _ (J : List E) (s : State (Option P) (View G E P N F)) (k : Kept m t J s) (cnt : Counted m t (reverse J) s) (live : Alive m t J s) (id : ℕ) (v : View G E P N F) (at : get_elem? s.views id ≡ some v) (was_open : v.closed ≡ None) (is_out : 0 < v.root + v.seat) (e : E) where
     -- One more entry: what is so of the seats that do not step.
     module _ (ok : m.legal t.setting.value t.limit J e) where
       -- a part that the entry does not touch stays
@@ -266,9 +278,25 @@ module _ {G E P N F : Type 0} (m : Meaning G E P N F) (laws : Lawful m) (claws :
           (unmade_yet op)
           s cnt id v (logged v (slice_index s.words 0) done) at is_out (grown s.words 1) (same_length s.words 1)
           (λ i beyond. get_or-set_other s.words 0 i ((slice_index s.words 0 + 1) % 18446744073709551616) 0 (λ z. absurd (omega arith)))
-          (λ i. both_debts v.debts (record { unput = listed (m.counting.sets e); put = []; made = sym counts i; resumes = sym wakes i; lasts = [] })) refl
+          (λ i. both_debts v.debts (record { unput = listed (m.counting.sets e); put = []; made = sym counts i; resumes = sym wakes i; lasts = []; readied = [] })) refl
           (slice_index s.words 0, refl, refl) may.claims.starts may.claims.waits (λ n has. may.claims.resumes n (let same = ap (times n) wakes in omega arith))
           (λ p has. let r = may.keeps p in let a = r.0 in let b = r.1 in omega arith) same_keys alone_at)
+
+      -- the units stay, and nobody knew the live word as 0
+      alive_entered : slice_index s.words 0 ≡ length J → Open m.stops J → total (λ (u : View G E P N F). u.ended) s.views ≡ 0 → Alive m t (J ++ e ∷ []) (after s (grown s.words 1) s.homes id (logged v (slice_index s.words 0) done))
+      alive_entered len op none_ended =
+          let w : View G E P N F = logged v (slice_index s.words 0) done in let ws = grown s.words 1 in
+          let lim = short m t J s k in let sh = k.share in
+          let word : slice_index ws 0 ≡ (slice_index s.words 0 + 1) % 18446744073709551616 = commit_word s.words 1 (some_words m t J s k cnt live id v at was_open is_out) in
+          let mine_none = total_one (λ (u : View G E P N F). u.ended) s.views id v at in
+          let some_unit = some_live m t J s live id v w at may.unit in
+          let same = logged_units v (slice_index s.words 0) done may.owes refl may.spares in
+          let ready = ready_grown s.words 1 (length s.homes) t.limit in let live_is = live_word s.words 1 in
+          let old = others_live m t J s live id v w at (J ++ e ∷ []) (slice_index ws 16) v some_unit (live.each id v at) in
+          alive_after m t J s live id v w at (J ++ e ∷ []) ws s.homes refl (omega arith) (omega arith)
+          (λ past. absurd (omega arith))
+          (record { raised = old.raised; gained = old.gained; stop = λ some_end. absurd (omega arith); still = old.still; quiet = old.quiet; spent = λ z. absurd (omega arith) })
+          (λ i u ne u_at. others_live m t J s live id v w at (J ++ e ∷ []) (slice_index ws 16) u some_unit (live.each i u u_at))
 
       entered : slice_index s.words 0 ≡ length J → Open m.stops J → total (λ (u : View G E P N F). u.ended) s.views ≡ 0 → CommitGoal
       entered len op none_ended =
@@ -280,7 +308,7 @@ module _ {G E P N F : Type 0} (m : Meaning G E P N F) (laws : Lawful m) (claws :
           let ok : m.legal t.setting.value t.limit J e = next_is.legal in
           let lim = short m t J s k in let sh = k.share in
           let is : (n + 1) % 18446744073709551616 ≡ length (J ++ e ∷ []) = omega (arith, length-append J (e ∷ [])) in
-          let word : slice_index ws 0 ≡ length (J ++ e ∷ []) = commit_word s.words 1 (some_words m t J s k cnt id v at was_open is_out) ∙ is in
+          let word : slice_index ws 0 ≡ length (J ++ e ∷ []) = commit_word s.words 1 (some_words m t J s k cnt live id v at was_open is_out) ∙ is in
           let none_after : total (λ (u : View G E P N F). u.ended) (slice_set s.views id w) ≡ 0 = total_same m t J s id v w at ws s.homes (λ u. u.ended) refl ∙ none_ended in
           let heavy = laws.weighs e may.goes in
           let mine : Seated m t s.homes (J ++ e ∷ []) w = record {
@@ -318,7 +346,7 @@ module _ {G E P N F : Type 0} (m : Meaning G E P N F) (laws : Lawful m) (claws :
             };
             numbers = numbers_more m t J s id v w at ws s.homes e k.numbers (draw_word s.words 1) (λ f. less_all_sum f (m.makes e) v.drawn may.drawn) refl refl;
             places = places_same m t J s id v w at ws s.homes (J ++ e ∷ []) refl (same_length s.words 1) (λ p _. turn_word s.words 1 p) same_keys
-                (λ p lt free. stays ok p (let sum = k.places.keeper p lt in let one = total_one (keeps_at p) s.views id v at in let f : is_free (slice_index s.words (p + 16)) ≡ 1 = ap is_free free in let r = may.keeps p in let a = r.0 in let b = r.1 in omega arith)) k.places;
+                (λ p lt free. stays ok p (let sum = k.places.keeper p lt in let one = total_one (keeps_at p) s.views id v at in let f : is_free (slice_index s.words (p + 24)) ≡ 1 = ap is_free free in let r = may.keeps p in let a = r.0 in let b = r.1 in omega arith)) k.places;
             owed = λ f.
                 let a = total_set (λ (u : View G E P N F). tally f u.owed) s.views id v w at in let old = k.owed f in
                 let new = mail_more m t f J e ms next_is.sends in
@@ -328,12 +356,12 @@ module _ {G E P N F : Type 0} (m : Meaning G E P N F) (laws : Lawful m) (claws :
             roster = roster_same m t J s id v w at ws s.homes k.roster refl refl refl refl refl;
             seated = seated_each m t J s id v w at ws s.homes (J ++ e ∷ []) mine (λ i u ne u_at. later ok op u (k.seated i u u_at) (theirs i u ne u_at) (not_theirs i u ne u_at ok));
           } in
-          (w, (record { history = J ++ e ∷ []; kept = now; counted = counted_entered op }, (refl, inl (omega arith, refl, (sees m t (J ++ e ∷ []) (after s ws s.homes id w) now id w (stepped_at s.views id v w at) (counted_entered op) is_out, adds_owed op)))))
+          (w, (record { history = J ++ e ∷ []; kept = now; counted = counted_entered op; alive = alive_entered len op none_ended }, (refl, inl (omega arith, refl, (sees m t (J ++ e ∷ []) (after s ws s.homes id w) now id w (stepped_at s.views id v w at) (counted_entered op) is_out, adds_owed op)))))
 
       pub commit_at : CommitGoal
       commit_at = ⊎_elim (λ h. entered h.0 h.1 h.2)
           (λ h. let n = slice_index s.words 0 in
-          (shut_by v n, (record { history = J; kept = refused m t J s k cnt id v at was_open is_out 1 (omega arith) h.0 h.1; counted = counted_shut m t J s k cnt id v at was_open is_out n ((n + 1) % 18446744073709551616) }, (refl, inr (h.0, refl, told_end m t J s k cnt id v at was_open is_out 1 (omega arith) h.0 h.1)))))
+          (shut_by v n, (record { history = J; kept = refused m t J s k cnt live id v at was_open is_out 1 (omega arith) h.0 h.1; counted = counted_shut m t J s k cnt live id v at was_open is_out n ((n + 1) % 18446744073709551616); alive = alive_shut m t J s k cnt live id v at was_open is_out 1 (omega arith) h.0 h.1 }, (refl, inr (h.0, refl, told_end m t J s k cnt live id v at was_open is_out 1 (omega arith) h.0 h.1)))))
           k.ledger.word
 
     -- A CLOSE
@@ -370,6 +398,18 @@ module _ {G E P N F : Type 0} (m : Meaning G E P N F) (laws : Lawful m) (claws :
           let two = total_two (keeps_at p) s.views i id u v ne u_at at in let sum = k.places.keeper p lt in absurd (omega arith))
           (λ none. omega arith)))
 
+      -- and whoever ends the run keeps a unit
+      alive_stopped : slice_index s.words 0 ≡ length J → Alive m t (J ++ e ∷ []) (after s (grown s.words 281474976710657) s.homes id (ended_by v (slice_index s.words 0) e fs))
+      alive_stopped len =
+          let w : View G E P N F = ended_by v (slice_index s.words 0) e fs in let ws = grown s.words 281474976710657 in
+          let unit = may.unit in let some_unit = some_live m t J s live id v w at (omega arith) in
+          let ready = ready_grown s.words 281474976710657 (length s.homes) t.limit in let live_is = live_word s.words 281474976710657 in
+          let old = others_live m t J s live id v w at (J ++ e ∷ []) (slice_index ws 16) v some_unit (live.each id v at) in
+          alive_after m t J s live id v w at (J ++ e ∷ []) ws s.homes refl (omega arith) (omega arith)
+          (λ _. let to = total_set (λ (u : View G E P N F). u.ended) s.views id v w at in let one = total_one (λ (u : View G E P N F). u.ended) s.views id v at in omega arith)
+          (record { raised = old.raised; gained = old.gained; stop = λ _. may.unit; still = old.still; quiet = old.quiet; spent = λ z. absurd (omega arith) })
+          (λ i u ne u_at. others_live m t J s live id v w at (J ++ e ∷ []) (slice_index ws 16) u some_unit (live.each i u u_at))
+
       stopped : slice_index s.words 0 ≡ length J → Open m.stops J → total (λ (u : View G E P N F). u.ended) s.views ≡ 0 → CloseGoal
       stopped len op none_ended =
           let n = slice_index s.words 0 in let ws = grown s.words 281474976710657 in
@@ -378,7 +418,7 @@ module _ {G E P N F : Type 0} (m : Meaning G E P N F) (laws : Lawful m) (claws :
           let ok : m.legal t.setting.value t.limit J e = may.legal J op (fits m t J s k id v at cnt was_open) in
           let lim = short m t J s k in let sh = k.share in
           let is : (n + 281474976710657) % 18446744073709551616 ≡ n + 281474976710657 = omega arith in
-          let word : slice_index ws 0 ≡ n + 281474976710657 = commit_word s.words 281474976710657 (some_words m t J s k cnt id v at was_open is_out) ∙ is in
+          let word : slice_index ws 0 ≡ n + 281474976710657 = commit_word s.words 281474976710657 (some_words m t J s k cnt live id v at was_open is_out) ∙ is in
           let over : Ended m.stops (J ++ e ∷ []) = record { past = J; last = e; whole = refl; stop = may.stops; open_before = op } in
           let mine : Seated m t s.homes (J ++ e ∷ []) w = record {
             log = subst (λ (x : ℕ). LogOf (J ++ e ∷ []) (v.log ++ (x, e) ∷ [])) (sym len) (log_more J e v.log seat.log);
@@ -416,10 +456,10 @@ module _ {G E P N F : Type 0} (m : Meaning G E P N F) (laws : Lawful m) (claws :
             roster = roster_same m t J s id v w at ws s.homes k.roster refl refl refl refl refl;
             seated = seated_each m t J s id v w at ws s.homes (J ++ e ∷ []) mine (λ i u _ u_at. later ok op u (k.seated i u u_at) (λ p _. bare.touches t.limit p) (λ q _. bare.runs q));
           } in
-          (w, (record { history = J ++ e ∷ []; kept = now; counted = counted_stopped op }, (refl, inl (omega arith, refl, sees_end m t (J ++ e ∷ []) (after s ws s.homes id w) now id w (stepped_at s.views id v w at) is_out over))))
+          (w, (record { history = J ++ e ∷ []; kept = now; counted = counted_stopped op; alive = alive_stopped len }, (refl, inl (omega arith, refl, sees_end m t (J ++ e ∷ []) (after s ws s.homes id w) now id w (stepped_at s.views id v w at) is_out over))))
 
       pub close_at : CloseGoal
       close_at = ⊎_elim (λ h. stopped h.0 h.1 h.2)
           (λ h. let n = slice_index s.words 0 in
-          (shut_by v n, (record { history = J; kept = refused m t J s k cnt id v at was_open is_out 281474976710657 (omega arith) h.0 h.1; counted = counted_shut m t J s k cnt id v at was_open is_out n ((n + 281474976710657) % 18446744073709551616) }, (refl, inr (h.0, refl, told_end m t J s k cnt id v at was_open is_out 281474976710657 (omega arith) h.0 h.1)))))
+          (shut_by v n, (record { history = J; kept = refused m t J s k cnt live id v at was_open is_out 281474976710657 (omega arith) h.0 h.1; counted = counted_shut m t J s k cnt live id v at was_open is_out n ((n + 281474976710657) % 18446744073709551616); alive = alive_shut m t J s k cnt live id v at was_open is_out 281474976710657 (omega arith) h.0 h.1 }, (refl, inr (h.0, refl, told_end m t J s k cnt live id v at was_open is_out 281474976710657 (omega arith) h.0 h.1)))))
           k.ledger.word

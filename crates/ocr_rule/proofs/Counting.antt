@@ -1,5 +1,5 @@
 -- The steps on the words that count keep the second rule.
-use Rattle.std.proofs.Common.{◌≡◌, ◌≢◌, ℕ, ◌+◌, ◌-◌, ◌%◌, ◌<◌, ◌≤◌, inl, inr, ⊎_elim, Bool, true, false, List, [], ◌∷◌, ◌++◌, length, refl, ap, sym, subst, ◌∙◌, arith, get_or-set_same, get_or-set_other, None, Some, Option, if◌then◌else◌}
+use Rattle.std.proofs.Common.{◌≡◌, ◌≢◌, ℕ, ◌+◌, ◌-◌, ◌%◌, ◌<◌, ◌≤◌, inl, inr, ⊎_elim, Bool, true, false, List, [], ◌∷◌, length, refl, ap, sym, subst, ◌∙◌, arith, get_or-set_same, get_or-set_other, None, Some, Option, if◌then◌else◌}
 use Rattle.std.specs.Prelude.{slice_index, slice_set}
 use Rattle.std.proofs.Math.ListN.{length-set}
 use mathlib.Core.Option.{some}
@@ -13,25 +13,16 @@ use Rattle.ocr_rule.specs.declared.view.View.{View}
 use Rattle.ocr_rule.specs.declared.view.Terms.{Terms}
 use Rattle.ocr_rule.specs.Counting.{Account, IsInOrder, Counted, Stakes, account, slots_of, payload_of, awaited, tied_to, is_started, is_ended, is_none, is_true, state_at, payload_at, READY, BUSY, PARKED}
 use Rattle.ocr_rule.specs.Meaning.{Meaning}
-use Rattle.ocr_rule.specs.Owing.{put_debts, counted_debts, made_debts, resumed_debts, owed_slots, of_edt, of_slot, making, times}
-use Rattle.ocr_rule.specs.Sums.{is_free, total, one_at, less_one}
+use Rattle.ocr_rule.specs.Owing.{put_debts, owed_slots, of_edt, of_slot, making, times}
+use Rattle.ocr_rule.specs.Sums.{is_free, total, one_at}
+use Rattle.ocr_rule.specs.Words.{claiming, unclaiming, resuming, counting_down, counting_made}
 use Rattle.ocr_rule.proofs.Totals.{total_set, total_one, tally_append, drop_tally, sum_append, less_sum, one_here, one_else}
 use Rattle.ocr_rule.proofs.Numbered.{at_remove}
-use Rattle.ocr_rule.proofs.Accounts.{account_is, counting, ready, falls, claimed, parks, resumed}
+use Rattle.ocr_rule.proofs.Accounts.{account_is, counting, ready, falls, claimed, parks, forgone, resumed}
 use Rattle.ocr_rule.proofs.Owing.{times_last, tally_at, slot_here, slot_else, first_tally, less_made, making_at, dropped_in, is_some}
 
 some_same : {a b : ℕ} → ◌≡◌ {A = Option ℕ} (Some a) (Some b) → a ≡ b
 some_same e = cc e
-
-module _ {G E P N F : Type 0} where
-  abbrev pub claiming : View G E P N F → ℕ → View G E P N F
-  claiming v n = record v { claims = v.claims ++ n ∷ [] }
-
-  abbrev pub unclaiming : View G E P N F → ℕ → View G E P N F
-  unclaiming v n = record v { claims = less_one n v.claims }
-
-  abbrev pub resuming : View G E P N F → ℕ → View G E P N F
-  resuming v n = record v { debts = resumed_debts v.debts n }
 
 -- where the words of an EDT lie
 pub states_apart : (slots a b : ℕ) → 1 ≤ a → 1 ≤ b → a ≢ b → state_at slots a ≢ state_at slots b
@@ -104,7 +95,7 @@ module _ {G E P N F : Type 0} (m : Meaning G E P N F) (t : Terms G) (past : List
     pub dropped : (f : ℕ × ℕ → ℕ) → tally f (drop_one (n, q) v.debts.unput) + f (n, q) ≡ tally f v.debts.unput
     dropped f = drop_tally f (n, q) v.debts.unput (let a = tally_at (of_slot n q) v.debts.unput j n q x owes in let b = slot_here n q in omega arith)
 
-    same_owed : (f : ℕ × ℕ → ℕ) → owed_slots f put.debts ≡ owed_slots f v.debts
+    pub same_owed : (f : ℕ × ℕ → ℕ) → owed_slots f put.debts ≡ owed_slots f v.debts
     same_owed f = let a = dropped f in let b = tally_append f v.debts.put ((n, q, x) ∷ []) in omega arith
 
     other_payload : (a b y : ℕ) → payload_of m t past a b ≡ Some y → total (λ u. tally (of_slot a b) u.debts.unput) (slice_set s.views id put) ≡ 0 → (put_word ≢ payload_at homes a b) → slice_index (slice_set s.words put_word x) (payload_at homes a b) ≡ y
@@ -116,6 +107,9 @@ module _ {G E P N F : Type 0} (m : Meaning G E P N F) (t : Terms G) (past : List
       where
         apart : (a b : ℕ) → payload_at homes n q ≢ payload_at homes a b → of_slot a b (n, q) ≡ 0
         apart a b ne = slot_else a b n q (dite (ℕ_discrete a n) (λ e. inr (λ h. ne (λ i. payload_at homes (sym e i) (sym h i)))) inl)
+
+    pub put_range : (1 ≤ n) × (n ≤ t.limit) × (q < 32)
+    put_range = known n q x is_set
 
     pub put_kept : Counted m t past (at_word put_word x put)
     put_kept =
@@ -153,7 +147,7 @@ module _ {G E P N F : Type 0} (m : Meaning G E P N F) (t : Terms G) (past : List
 
   module _ (n : ℕ) (owes : 1 ≤ tally (of_edt n) v.debts.put) where
     abbrev pub counted : Vs
-    counted = record v { debts = counted_debts v.debts n (slice_index s.words (state_at homes n) - 1) }
+    counted = counting_down v n (slice_index s.words (state_at homes n) - 1)
 
     abbrev pub fallen : ℕ
     fallen = (slice_index s.words (state_at homes n) + 18446744073709551615) % 18446744073709551616
@@ -161,7 +155,7 @@ module _ {G E P N F : Type 0} (m : Meaning G E P N F) (t : Terms G) (past : List
     abbrev counted_slot : ℕ
     counted_slot = (first_tally n v.debts.put owes).0
 
-    count_less : (f : ℕ × ℕ → ℕ) → owed_slots f counted.debts + f (n, counted_slot) ≡ owed_slots f v.debts
+    pub count_less : (f : ℕ × ℕ → ℕ) → owed_slots f counted.debts + f (n, counted_slot) ≡ owed_slots f v.debts
     count_less f = let a = (first_tally n v.debts.put owes).1 f in omega arith
 
     count_in : (x : ℕ) × (payload_of m t past n counted_slot ≡ Some x)
@@ -208,7 +202,7 @@ module _ {G E P N F : Type 0} (m : Meaning G E P N F) (t : Terms G) (past : List
   -- A MAKING IS COUNTED
   module _ (n d j : ℕ) (owes : get_elem? v.debts.made j ≡ some (n, d)) where
     abbrev pub began : Vs
-    began = record v { debts = made_debts v.debts n (slice_index s.words (state_at homes n) - (33 - d)) }
+    began = counting_made v n (slice_index s.words (state_at homes n) - (33 - d))
 
     abbrev pub lowered : ℕ
     lowered = (slice_index s.words (state_at homes n) + (18446744073709551616 - (33 - d))) % 18446744073709551616
@@ -298,12 +292,11 @@ module _ {G E P N F : Type 0} (m : Meaning G E P N F) (t : Terms G) (past : List
     claim_kept is =
         let w : Vs = claiming v n in let old = k.seated id v at in
         let r = ready (slots_of m t past n) (before n) (k.each n lo hi) is in let bare = r.0.bare in
-        let unended : is_true (is_ended m t past n) ≡ 0 = none_ended (is_ended m t past n) (λ on. let begun = ap is_true (k.told.ends n on) in absurd (omega arith)) in
         turned_kept n BUSY w lo hi (refl, refl, refl, refl) (λ a ne. ((let h = claims_more a in let z = one_else a n ne in omega arith), refl))
         (claimed (slots_of m t past n) (before n) (after (state_at homes n) BUSY w n) (k.each n lo hi) is (word_after BUSY)
         (same_total (λ u. making n u.debts.made) w refl) (same_total (λ u. owed_slots (of_edt n) u.debts) w refl) refl
         (let to = tot (λ u. times n u.claims) w in let h = claims_more n in let o = one_here n in omega arith)
-        (same_total (λ u. times n u.debts.resumes) w refl) unended (ap (λ z. z + one_at m.first.0 n) (same_total (λ u. times n u.debts.lasts) w refl)))
+        (same_total (λ u. times n u.debts.resumes) w refl) refl (ap (λ z. z + one_at m.first.0 n) (same_total (λ u. times n u.debts.lasts) w refl)))
         (record {
           unput = old.unput;
           made = old.made;
@@ -317,10 +310,6 @@ module _ {G E P N F : Type 0} (m : Meaning G E P N F) (t : Terms G) (past : List
           spent = λ z. absurd (omega arith);
         })
       where
-        none_ended : (b : Bool) → (b ≡ true → ⊥) → is_true b ≡ 0
-        none_ended true never = absurd (never refl)
-        none_ended false never = refl
-
         loose : (b e : Bool) (o : Option ℕ) (p : ℕ) → is_started m t past n ≡ b → is_true b ≡ 0 → 1 - is_none o ≡ 0 → (if b then (if e then None else Some (m.core t.limit n)) else o) ≡ Some p → ⊥
         loose true e o p at z w is = absurd (omega arith)
         loose false e None p at z w is = cc is
@@ -337,6 +326,25 @@ module _ {G E P N F : Type 0} (m : Meaning G E P N F) (t : Terms G) (past : List
         let rest = k.told.rests n p waits in
         turned_kept n PARKED w lo hi (refl, refl, refl, refl) (λ a ne. ((let h = claims_less has a in let z = one_else a n ne in omega arith), refl))
         (parks (slots_of m t past n) (before n) (after (state_at homes n) PARKED w n) (k.each n lo hi) (omega arith) (ap (λ o. 1 - is_none o) waits) (ap is_true rest.0) (word_after PARKED)
+        (same_total (λ u. making n u.debts.made) w refl) (same_total (λ u. owed_slots (of_edt n) u.debts) w refl) refl
+        (let to = tot (λ u. times n u.claims) w in let h = claims_less has n in let o = one_here n in omega arith)
+        (same_total (λ u. times n u.debts.resumes) w refl) refl refl (ap (λ z. z + one_at m.first.0 n) (same_total (λ u. times n u.debts.lasts) w refl)))
+        (record {
+          unput = old.unput;
+          made = old.made;
+          claims = λ a some_claim. old.claims a (let h = claims_less has a in omega arith);
+          tied = λ a q some_claim is_tied. old.tied a q (let h = claims_less has a in omega arith) is_tied;
+          begun = λ a some_claim. old.begun a (let h = claims_less has a in omega arith);
+          spent = λ z. absurd (omega arith);
+        })
+
+    -- A CLAIM is dropped of an EDT that has its end
+    pub drop_kept : 1 ≤ times n v.claims → is_ended m t past n ≡ true → Counted m t past (at_word (state_at homes n) BUSY (unclaiming v n))
+    drop_kept has over =
+        let w : Vs = unclaiming v n in let old = k.seated id v at in
+        let one = total_one (λ (u : Vs). times n u.claims) s.views id v at in
+        turned_kept n BUSY w lo hi (refl, refl, refl, refl) (λ a ne. ((let h = claims_less has a in let z = one_else a n ne in omega arith), refl))
+        (forgone (slots_of m t past n) (before n) (after (state_at homes n) BUSY w n) (k.each n lo hi) (omega arith) (ap is_true over) (word_after BUSY)
         (same_total (λ u. making n u.debts.made) w refl) (same_total (λ u. owed_slots (of_edt n) u.debts) w refl) refl
         (let to = tot (λ u. times n u.claims) w in let h = claims_less has n in let o = one_here n in omega arith)
         (same_total (λ u. times n u.debts.resumes) w refl) refl refl (ap (λ z. z + one_at m.first.0 n) (same_total (λ u. times n u.debts.lasts) w refl)))

@@ -10,9 +10,10 @@ use Rattle.atomic_table.specs.Table.{State, keeps, stepped}
 use Rattle.atomic_table.proofs.Lists.{at_set}
 use Rattle.ocr_rule.specs.Counting.{Counted}
 use Rattle.ocr_rule.specs.Meaning.{Meaning}
-use Rattle.ocr_rule.specs.Rule.{Seated, Kept, Holds}
+use Rattle.ocr_rule.specs.Rule.{Alive, Seated, Kept, Holds}
 use Rattle.ocr_rule.specs.Steps.{limit_of, with_drawn, filled_by, draws_from}
 use Rattle.ocr_rule.specs.Sums.{AreBelow, one_at, sum_of, total, up_to}
+use Rattle.ocr_rule.proofs.Units.{alive_same, ready_same}
 use Rattle.ocr_rule.specs.declared.view.View.{View}
 use Rattle.ocr_rule.specs.declared.view.Terms.{Terms}
 use Rattle.ocr_rule.proofs.Bounds.{filled_most, sees, stepped_at}
@@ -28,7 +29,7 @@ next_number f n = rw (plus n) refl
     plus x = omega arith
 
 module _ {G E P N F : Type 0} (m : Meaning G E P N F) (t : Terms G) where
-  module _ (J : List E) (s : State (Option P) (View G E P N F)) (k : Kept m t J s) (cnt : Counted m t (reverse J) s) (id : ℕ) (v : View G E P N F) (c : List (ℕ × Option P)) (at : get_elem? s.views id ≡ some v) (more : v.full ≡ None) (is_out : 0 < v.root + v.seat) where
+  module _ (J : List E) (s : State (Option P) (View G E P N F)) (k : Kept m t J s) (cnt : Counted m t (reverse J) s) (live : Alive m t J s) (id : ℕ) (v : View G E P N F) (c : List (ℕ × Option P)) (at : get_elem? s.views id ≡ some v) (more : v.full ≡ None) (is_out : 0 < v.root + v.seat) where
     abbrev pub n : ℕ
     n = slice_index s.words 8
 
@@ -65,7 +66,7 @@ module _ {G E P N F : Type 0} (m : Meaning G E P N F) (t : Terms G) where
             fulls = let tot = total_set (λ (u : View G E P N F). u.filled) s.views id v w at in omega arith;
             reached = λ i u u_at. subst (λ x. Reached t.limit x u.reached) (sym word) (⊎_elim (λ h. subst (λ (y : View G E P N F). Reached t.limit (n + 1) y.reached) h.1 is_reached) (λ h. still u.reached (k.numbers.reached i u h.1)) (at_set s.views id i w u u_at));
           };
-          places = places_same m t J s id v w at next s.homes J refl (length-set s.words 8 ((n + 1) % 18446744073709551616)) (λ p _. elsewhere s.words 8 (p + 16) ((n + 1) % 18446744073709551616) (λ h. omega arith)) (λ p. refl) (λ p _ _. refl) k.places;
+          places = places_same m t J s id v w at next s.homes J refl (length-set s.words 8 ((n + 1) % 18446744073709551616)) (λ p _. elsewhere s.words 8 (p + 24) ((n + 1) % 18446744073709551616) (λ h. omega arith)) (λ p. refl) (λ p _ _. refl) k.places;
           owed = owed_same m t J s id v w at next s.homes k.owed (λ f. refl);
           roster = roster_same m t J s id v w at next s.homes k.roster refl refl refl refl refl;
           seated = seated_each m t J s id v w at next s.homes J mine (λ i u _ u_at. k.seated i u u_at);
@@ -80,6 +81,15 @@ module _ {G E P N F : Type 0} (m : Meaning G E P N F) (t : Terms G) where
     drawn_below x has =
         let one = total_one (λ (u : View G E P N F). sum_of (one_at x) u.drawn) s.views id v at in let sum = k.numbers.numbers (one_at x) in
         let range = up_to_range x k.numbers.drawn (omega (arith, has, one, sum)) in omega (arith, range)
+
+    -- the same of the live word
+    alive_drew : (ns : List ℕ) (full reached : Option ℕ) (filled : ℕ) → Alive m t J (after s next s.homes id record v { drawn = ns; full = full; reached = reached; filled = filled })
+    alive_drew ns full reached filled =
+        let w : View G E P N F = record v { drawn = ns; full = full; reached = reached; filled = filled } in
+        alive_same m t J s live id v w at (refl, refl) refl (omega arith) (refl, refl) (refl, refl, refl) is_out next s.homes refl
+        (elsewhere s.words 8 16 ((n + 1) % 18446744073709551616) (λ h. omega arith))
+        (λ past. let same = elsewhere s.words 8 0 ((n + 1) % 18446744073709551616) (λ h. omega arith) in omega arith)
+        (let same = ready_same s.words next (length s.homes) t.limit (λ i beyond. elsewhere s.words 8 i ((n + 1) % 18446744073709551616) (λ h. absurd (omega arith))) in omega arith)
 
     pub draw_at : DrawGoal
     draw_at =
@@ -97,6 +107,7 @@ module _ {G E P N F : Type 0} (m : Meaning G E P N F) (t : Terms G) where
                   (inr (⊎_elim (λ z. let a = z.0 in let b = z.1 in omega arith) (λ z. z.0) k.numbers.draws, omega arith))
                   (λ f. refl) (omega arith) (omega arith) (omega arith);
               counted = counted_beside m t (reverse J) s cnt id v (filled_by v n) at refl refl is_out (λ p. omega arith) (λ q b. b) 8 ((n + 1) % 18446744073709551616) s.homes (omega arith) refl;
+              alive = alive_drew v.drawn (Some n) (Some n) (v.filled + 1);
             },
             (refl, inr (omega arith, refl)),
           ),
@@ -111,7 +122,7 @@ module _ {G E P N F : Type 0} (m : Meaning G E P N F) (t : Terms G) where
         let counted = counted_beside m t (reverse J) s cnt id v (with_drawn v (n + 1)) at refl refl is_out (λ p. omega arith) (λ q b. b) 8 ((n + 1) % 18446744073709551616) s.homes (omega arith) refl in (
           with_drawn v (n + 1),
           (
-            record { history = J; kept = now; counted = counted },
+            record { history = J; kept = now; counted = counted; alive = alive_drew (v.drawn ++ (n + 1) ∷ []) v.full v.reached v.filled },
             (
               refl,
               inl (

@@ -43,7 +43,7 @@ below_least f (suc d) k lt = dite (ℕ_discrete k d) (λ e. let h = ap f e in om
 module _ {G E P N F : Type 0} (m : Meaning G E P N F) (laws : CountingLaws m) (runs : Lawful m) (t : Terms G) (past : List E) (e : E) (may : MayCome m t past e)
     (unmade : (n : ℕ) → 1 ≤ sum_of (one_at n) (m.makes e) → (1 ≤ n) × (n ≤ t.limit) × (up_to (one_at n) m.opened + made_sum m.makes (one_at n) (reverse past) ≡ 0))
     (s : State (Option P) (View G E P N F)) (k : Counted m t past s) (id : ℕ) (v w : View G E P N F) (at : get_elem? s.views id ≡ some v) (is_out : 0 < w.root + w.seat)
-    (words : List ℕ) (same_length : length words ≡ length s.words) (same_words : (i : ℕ) → 16 + length s.homes ≤ i → slice_index words i ≡ slice_index s.words i)
+    (words : List ℕ) (same_length : length words ≡ length s.words) (same_words : (i : ℕ) → 24 + length s.homes ≤ i → slice_index words i ≡ slice_index s.words i)
     (debts : w.debts ≡ both_debts v.debts (debts_by m e (m.counting.resumes t.setting.value t.limit (reverse past) e) (m.counting.creates t.setting.value t.limit (reverse past) e))) (claims : w.claims ≡ without_all (leaves m e) v.claims)
     (log : (num : ℕ) × (w.log ≡ v.log ++ (num, e) ∷ []) × (w.joined ≡ v.joined)) (starter : (n : ℕ) → m.starts e n ≡ true → 1 ≤ times n v.claims) (waiter : (n p : ℕ) → m.counting.waits e n ≡ Some p → 1 ≤ times n v.claims)
     (sleeps : (n : ℕ) → 1 ≤ times n (m.counting.resumes t.setting.value t.limit (reverse past) e) → times n v.claims ≡ 0)
@@ -237,13 +237,12 @@ module _ {G E P N F : Type 0} (m : Meaning G E P N F) (laws : CountingLaws m) (r
         let mine_too = holder h rest.1 p tied law.2 in let none = sleeps n y in absurd (omega arith))
         (λ y. omega arith)
 
-    -- who ends it has its claim
-    busy_ends : IsBusy (before n) → m.ends e n ≡ true → (leaves m e n ≡ true) × (is_ended m t past n ≡ false) × (1 ≤ times n v.claims)
-    busy_ends h on =
-        let law = laws.ending t past e n may on in
-        let touched = runs.on_core t.setting.value t.limit (reverse past) e n may.limits may.run may.legal law.0 in
-        let tied : tied_to m t past n ≡ Some (m.core t.limit n) = (λ i. if law.1 i then (if law.2 i then None else Some (m.core t.limit n)) else awaited m t past n) in
-        ((λ i. law.0 i && on i), law.2, holder h law.2 (m.core t.limit n) tied touched)
+    -- who ends it while it runs has its claim
+    busy_ends : IsBusy (before n) → m.runs e n ≡ true → is_started m t past n ≡ true → is_ended m t past n ≡ false → 1 ≤ times n v.claims
+    busy_ends h runs_it on off =
+        let touched = runs.on_core t.setting.value t.limit (reverse past) e n may.limits may.run may.legal runs_it in
+        let tied : tied_to m t past n ≡ Some (m.core t.limit n) = (λ i. if on i then (if off i then None else Some (m.core t.limit n)) else awaited m t past n) in
+        holder h off (m.core t.limit n) tied touched
 
     ended_on : m.ends e n ≡ true → is_true (is_ended m t (e ∷ past) n) ≡ 1
     ended_on on = ap (λ b. is_true (b || is_ended m t past n)) on
@@ -255,15 +254,41 @@ module _ {G E P N F : Type 0} (m : Meaning G E P N F) (laws : CountingLaws m) (r
     both_on true b is = is
     both_on false b is = cc is
 
-    -- it is claimed or has ended, as before, or ends by the entry of whoever has its claim
-    still_held : IsBusy (before n) → claims_now n + is_true (is_ended m t (e ∷ past) n) ≡ 1
-    still_held h =
-        let held = h.held in let my = mine n in
+    started_on : m.starts e n ≡ false → is_true (is_started m t (e ∷ past) n) ≡ is_true (is_started m t past n)
+    started_on off = ap (λ b. is_true (b || is_started m t past n)) off
+
+    -- who starts it finds it unended
+    first_unended : m.starts e n ≡ true → is_true (is_ended m t past n) ≡ 0
+    first_unended on = ap is_true (laws.starting t past e n may on).unended
+
+    -- it is claimed or has ended, as before, or ends by the entry of whoever has its claim, or is destroyed
+    abbrev still_held : Type 0
+    still_held = (1 ≤ claims_now n + is_true (is_ended m t (e ∷ past) n)) × (claims_now n ≤ 1) × (1 ≤ is_true (is_started m t (e ∷ past) n) → claims_now n + is_true (is_ended m t (e ∷ past) n) ≡ 1)
+
+    held_on : IsBusy (before n) → still_held
+    held_on h =
+        let held = h.held in let sole = h.sole in let my = mine n in let before_runs = h.runs in
         ⊎_elim
-        (λ on. let r = busy_ends h on in let now = ended_on on in let unended = ap is_true r.1 in let some_claim = r.2 in
-        ⊎_elim (λ y. let cl = y.1 in omega arith) (λ y. let is = r.0 in let off = y.0 in absurd (cc (is, off))) (claims_after n))
+        (λ on. let law = laws.ending t past e n may on in let now = ended_on on in let unended = ap is_true law.0 in
+        ⊎_elim
+        (λ own. let some_claim = busy_ends h own.0 own.1 law.0 in let is : leaves m e n ≡ true = (λ i. own.0 i && on i) in
+        ⊎_elim (λ y. let cl = y.1 in (omega arith, omega arith, λ _. omega arith)) (λ y. let off = y.0 in absurd (cc (is, off))) (claims_after n))
+        (λ other. let off : leaves m e n ≡ false = ap (λ b. b && m.ends e n) other.0 in
+        let no_start : m.starts e n ≡ false = ⊎_elim (λ y. let z = runs.starting e n y in let w = other.0 in absurd (cc (z, w))) (λ y. y) (bools (m.starts e n)) in
+        let still = started_on no_start in let none = ap is_true other.1 in
+        ⊎_elim (λ y. let is = y.0 in absurd (cc (is, off))) (λ y. let cl = y.1 in (omega arith, omega arith, λ some. absurd (omega arith))) (claims_after n))
+        law.1)
         (λ off. let same = ended_same off in
-        ⊎_elim (λ y. let is = both_on (m.runs e n) (m.ends e n) y.0 in absurd (cc (is, off))) (λ y. let cl = y.1 in omega arith) (claims_after n))
+        ⊎_elim (λ y. let is = both_on (m.runs e n) (m.ends e n) y.0 in absurd (cc (is, off)))
+        (λ y. let cl = y.1 in (
+          omega arith,
+          omega arith,
+          λ some. ⊎_elim
+              (λ begins. let unended = first_unended begins in omega arith)
+              (λ no. let still = started_on no in let one = before_runs (omega arith) in omega arith)
+              (bools (m.starts e n)),
+        ))
+        (claims_after n))
         (bools (m.ends e n))
 
     from_busy : IsBusy (before n) → IsBusy (after n)
@@ -271,7 +296,7 @@ module _ {G E P N F : Type 0} (m : Meaning G E P N F) (laws : CountingLaws m) (r
         let word = h.word in let same = same_word n in let counted = h.counted in let none_owed = h.none in
         let sum1 = more_made n in let none = no_more_made in let sum2 = more_owed (of_edt n) in let sum3 = more_resumes n in
         let unset = owed_unset n d made in let wakes = busy_sleeps h in
-        record { word = same ∙ word; counted = omega arith; held = still_held h; none = omega arith; once = (let o = h.once in let l = same_lasts n in omega arith) }
+        let now = held_on h in record { word = same ∙ word; counted = omega arith; held = now.0; sole = now.1; runs = now.2; none = omega arith; once = (let o = h.once in let l = same_lasts n in omega arith) }
 
     -- an EDT that has started does not wait
     ended_awake : is_started m t past n ≡ true → awaited m t past n ≡ None
@@ -286,7 +311,7 @@ module _ {G E P N F : Type 0} (m : Meaning G E P N F) (laws : CountingLaws m) (r
         let was : 1 - is_none (awaited m t past n) ≡ 1 = ap (λ o. 1 - is_none o) law.1.1 in
         let now : 1 - is_none (awaited m t (e ∷ past) n) ≡ 0 = ap (λ o. 1 - is_none o) (after_resumed (m.starts e n) (m.ends e n) (m.counting.waits e n) (is_in n woken) (awaited m t past n) still y) in omega arith)
         (λ y. let zero_times = r.1 y in
-        let same = ap (λ o. 1 - is_none o) (after_same (m.starts e n) (m.ends e n) (m.counting.waits e n) (is_in n woken) (awaited m t past n) off still y (λ on. ended_awake (laws.ending t past e n may on).1)) in omega arith)
+        let same = ap (λ o. 1 - is_none o) (after_same (m.starts e n) (m.ends e n) (m.counting.waits e n) (is_in n woken) (awaited m t past n) off still y (λ on. ⊎_elim (λ own. ended_awake own.1) (λ other. other.2) (laws.ending t past e n may on).1)) in omega arith)
         (bools (is_in n woken))
 
     from_parked : IsParked (before n) → IsParked (after n)
@@ -380,7 +405,7 @@ module _ {G E P N F : Type 0} (m : Meaning G E P N F) (laws : CountingLaws m) (r
       not_mine : (n : ℕ) → 1 ≤ times n u.claims → times n v.claims ≡ 0
       not_mine n has =
           let r = (k.seated i u u_at).claims n has in let two = total_two (λ (x : Vs). times n x.claims) s.views i id u v ne u_at at in
-          let b = (busy (slots_of m t past n) (before n) (k.each n r.0 r.1) (omega arith)).0.held in omega arith
+          let b = (busy (slots_of m t past n) (before n) (k.each n r.0 r.1) (omega arith)).0.sole in omega arith
 
   pub entered_kept : Counted m t (e ∷ past) record { words = words; homes = s.homes; views = views }
   entered_kept = record {
@@ -405,4 +430,5 @@ adds_none m e d rs one creates sets none = λ i. record {
   made = sym (ap (λ o. d.made ++ listed o) creates ∙ nil_append d.made) i;
   resumes = sym (ap (λ l. d.resumes ++ l) none ∙ nil_append d.resumes) i;
   lasts = sym (nil_append d.lasts) i;
+  readied = sym (nil_append d.readied) i;
 }

@@ -20,3 +20,6 @@ pub mod Entered
 pub mod Stepping
 pub mod Beginning
 pub mod Opens
+pub mod Units
+pub mod Still
+pub mod Living

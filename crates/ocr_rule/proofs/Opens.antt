@@ -15,9 +15,11 @@ use Rattle.ocr_rule.specs.Contract.{OpensWith}
 use Rattle.ocr_rule.specs.Counting.{CountingLaws}
 use Rattle.ocr_rule.specs.Meaning.{Meaning}
 use Rattle.ocr_rule.specs.Openings.{placed}
-use Rattle.ocr_rule.specs.Rule.{Holds, HomeOf, Kept, Seated}
+use Rattle.ocr_rule.specs.Rule.{Alive, Holds, HomeOf, Kept, Lively, Seated}
 use Rattle.ocr_rule.specs.Steps.{rooted}
 use Rattle.ocr_rule.specs.Sums.{weigh, one_at, is_free, replace}
+use Rattle.ocr_rule.specs.Units.{ready_count}
+use Rattle.ocr_rule.proofs.Units.{one_ready}
 use Rattle.ocr_rule.specs.declared.view.View.{View}
 use Rattle.ocr_rule.specs.declared.view.Terms.{Terms}
 use Rattle.ocr_rule.proofs.Beginning.{opens_counted, one_view, map_length}
@@ -104,8 +106,27 @@ module _ {G E P N F : Type 0} (m : Meaning G E P N F) (laws : CountingLaws m) (t
         (nothing_yet m t homes [] (rooted t) refl refl refl refl refl refl refl (λ _. refl) (λ _. omega arith) (omega arith) (omega arith) (λ _. refl) (λ _. tt));
   }
 
+  opens_alive : Alive {N = N} m t [] (opening ws slots (rooted t))
+  opens_alive =
+      let live = laid.live in let first = laws.first_made in let few = ok.few in let lo = first.0 in let hi = first.1 in
+      let count = home_count in
+      let one : ready_count ws (2 * t.limit + 1) t.limit ≡ 1 = one_ready ws (2 * t.limit + 1) t.limit m.first.0 lo (omega arith) laid.first_ready laid.unmade in
+      let same = ap (λ (h : ℕ). ready_count ws h t.limit) count in record {
+        word = omega arith;
+        most = omega arith;
+        stopped = λ past. let z = laid.commit in absurd (omega arith);
+        each = λ i u there. subst (Lively m t [] (slice_index ws 16)) (one_view (rooted t) u i there) (record {
+          raised = omega arith;
+          gained = λ _. omega arith;
+          stop = λ some_end. absurd (omega arith);
+          still = λ z. absurd (cc z);
+          quiet = tt;
+          spent = λ z. absurd (omega arith);
+        });
+      }
+
   pub opens : Holds {N = N} m t (opening ws slots (rooted t))
-  opens = record { history = []; kept = opens_kept; counted = opens_counted m laws t ok.few ws slots slot_count laid }
+  opens = record { history = []; kept = opens_kept; counted = opens_counted m laws t ok.few ws slots slot_count laid; alive = opens_alive }
 
 pub replace_length : {A : Type 0} (p : ℕ) (a : A) (xs : List (ℕ × A)) → length (replace p a xs) ≡ length xs
 replace_length p a [] = refl

@@ -89,6 +89,7 @@ module _ {G E P N F : Type 0} (m : Meaning G E P N F) (t : Terms G) (v : View G 
   step_number word.Claim may = may
   step_number word.Park may = r.claims n may.0
   step_number word.Resume may = r.resumes n may
+  step_number word.Drop may = r.claims n may.0
 
   pub step_slots : (chosen : WordStep) → MayStep m t v n chosen → FitsSlots chosen
   step_slots (word.Put k x) may = (r.unput may.0 n k x may.1).1
@@ -98,6 +99,7 @@ module _ {G E P N F : Type 0} (m : Meaning G E P N F) (t : Terms G) (v : View G 
   step_slots word.Claim may = tt
   step_slots word.Park may = tt
   step_slots word.Resume may = tt
+  step_slots word.Drop may = tt
 
   pub step_owed : (chosen : WordStep) (x : ℕ) (w : View G E P N F) → MayStep m t v n chosen → StepTells m n chosen v x w → AreInRange t.limit w.debts w.claims
   step_owed (word.Put k p) x w may is = subst (λ (z : View G E P N F). AreInRange t.limit z.debts z.claims) (sym is) (record {
@@ -134,6 +136,13 @@ module _ {G E P N F : Type 0} (m : Meaning G E P N F) (t : Terms G) (v : View G 
       (λ h. subst (λ (z : View G E P N F). AreInRange t.limit z.debts z.claims) (sym h.1) r)
       is
   step_owed word.Park x w may is = subst (λ (z : View G E P N F). AreInRange t.limit z.debts z.claims) (sym is) (record {
+    unput = r.unput;
+    put = r.put;
+    made = r.made;
+    resumes = r.resumes;
+    claims = λ a has. r.claims a (let less = less_sum (one_at a) n v.claims may.0 in omega arith);
+  })
+  step_owed word.Drop x w may is = subst (λ (z : View G E P N F). AreInRange t.limit z.debts z.claims) (sym is) (record {
     unput = r.unput;
     put = r.put;
     made = r.made;

@@ -68,8 +68,8 @@ module _ {G E P N F : Type 0} (m : Meaning G E P N F) (t : Terms G) where
     }
 
     -- a step on no turn word, after which J' is the history
-    pub places_same : (J' : List E) → hs ≡ s.homes → length ws ≡ length s.words → ((p : ℕ) → p < length s.homes → slice_index ws (p + 16) ≡ slice_index s.words (p + 16)) → ((p : ℕ) → keeps_at p w ≡ keeps_at p v)
-        → ((p : ℕ) → p < length s.homes → slice_index s.words (p + 16) ≡ 0 → m.part t.setting.value t.limit J' p ≡ m.part t.setting.value t.limit J p)
+    pub places_same : (J' : List E) → hs ≡ s.homes → length ws ≡ length s.words → ((p : ℕ) → p < length s.homes → slice_index ws (p + 24) ≡ slice_index s.words (p + 24)) → ((p : ℕ) → keeps_at p w ≡ keeps_at p v)
+        → ((p : ℕ) → p < length s.homes → slice_index s.words (p + 24) ≡ 0 → m.part t.setting.value t.limit J' p ≡ m.part t.setting.value t.limit J p)
         → Places m t J s → Places m t J' (after s ws hs id w)
     places_same J' homes len words parts stays k = subst (λ (h : List (maybe.Option (Option P))). Places m t J' (after s ws h id w)) (sym homes) (record {
       words = let old = k.words in omega arith;

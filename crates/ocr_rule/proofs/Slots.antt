@@ -1,7 +1,7 @@
 -- What an entry does to what a history says of an EDT.
 use Rattle.std.proofs.Common.{◌≡◌, ◌≢◌, ℕ, ◌+◌, ◌-◌, ◌≤◌, ◌⊎◌, inl, inr, ⊎_elim, Bool, true, false, ◌||◌, ◌&&◌, ◌==◌, if◌then◌else◌, List, [], ◌∷◌, ◌++◌, reverse, refl, ap, sym, subst, ◌∙◌, arith, eq-eqb, ne_eqb, None, Some, Option}
 use Rattle.std.proofs.lemmas.List.{reverse-append}
-use Rattle.std.proofs.lemmas.Bool.{or_right, or_cases, or_from}
+use Rattle.std.proofs.lemmas.Bool.{or_from}
 use mathlib.Core.Logic.{dite}
 use native.Mathlib.Decide.{ℕ_discrete}
 use Rattle.ocr_mail.specs.Mail.{tally}
@@ -207,10 +207,6 @@ module _ {G E P N F : Type 0} (m : Meaning G E P N F) (laws : CountingLaws m) (r
         (λ z. let ready = (laws.waiting t past e n p may z).0 in (or_from (m.starts e n) (is_started m t past n) w.0 ready.unstarted, or_from (m.ends e n) (is_ended m t past n) w.1 ready.unended, (ready.set.slots, slots_later n ready.set.slots ready.set.made)))
         (λ z. let r = told.rests n p z.2 in (or_from (m.starts e n) (is_started m t past n) w.0 r.0, or_from (m.ends e n) (is_ended m t past n) w.1 r.1, (r.2.0, slots_later n r.2.0 r.2.1)))
         w.2;
-    ends = λ n is. ⊎_elim
-        (λ on. or_right (m.starts e n) (is_started m t past n) (laws.ending t past e n may on).1)
-        (λ old. or_right (m.starts e n) (is_started m t past n) (told.ends n old))
-        (or_cases (m.ends e n) (is_ended m t past n) is);
     facts = λ n q x is. ⊎_elim
         (λ z. let law = laws.setting t past e n q z.0 may z.1 in
         let same : ◌≡◌ {A = Option ℕ} (Some z.0) (Some x) = sym (pay_here (m.counting.sets e) n q z.0 (payload_of m t past n q) z.1).0 ∙ is in

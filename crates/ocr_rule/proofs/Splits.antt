@@ -13,7 +13,7 @@ use Rattle.ocr_mail.specs.Mail.{tally}
 use Rattle.ocr_rule.specs.Contract.{Finished}
 use Rattle.ocr_rule.specs.Counting.{state_at}
 use Rattle.ocr_rule.specs.Meaning.{Meaning, Ended}
-use Rattle.ocr_rule.specs.Rule.{weighed, LogOf, Seated, Kept, Holds, EmptyAt, RunsIn}
+use Rattle.ocr_rule.specs.Rule.{weighed, LogOf, Seated, Kept, Holds, EmptyAt, RunsIn, Lively, IsStill}
 use Rattle.ocr_rule.specs.Steps.{fresh, parted, gathered, spent_view}
 use Rattle.ocr_rule.specs.Sums.{total, weigh, one_at, sum_of, up_to, made_sum, load_of, Rises}
 use Rattle.ocr_rule.specs.declared.view.View.{View}
@@ -22,6 +22,9 @@ use Rattle.ocr_rule.proofs.Bounds.{lone, lone_drawn, short}
 use Rattle.ocr_rule.proofs.Same.{keeps_at, Reached}
 use Rattle.ocr_rule.proofs.Apart.{counted_split, counted_joined}
 use Rattle.ocr_rule.proofs.Stepping.{found}
+use Rattle.ocr_rule.specs.Units.{claim_count, one_each, units}
+use Rattle.ocr_rule.proofs.Units.{gathered_units, quiet_both}
+use Rattle.ocr_rule.proofs.Still.{still}
 use Rattle.ocr_rule.proofs.Totals.{total_set, total_snoc, at_snoc_at, total_one, total_two, total_alone, tally_append, sum_append, at_append, weigh_append, weigh_all_append}
 
 -- two shares are the shares of both
@@ -88,15 +91,16 @@ module _ {G E P N F : Type 0} (m : Meaning G E P N F) (t : Terms G) where
     not_root = not_root;
   }
 
-  pub splits : (id : ℕ) (v : View G E P N F) → v.root ≡ 1 → 0 < v.quota → Splits (Holds m t) id v (parted v) (fresh v)
-  splits id v is_root room s h at =
+  -- so many of the root's spare units go with the new seat
+  pub splits : (id : ℕ) (v : View G E P N F) (stays goes : ℕ) → stays + goes ≡ v.spares → (1 ≤ v.ended → 1 ≤ v.spares + claim_count v → 1 ≤ stays + claim_count v) → v.root ≡ 1 → 0 < v.quota → Splits (Holds m t) id v (record (parted v) { spares = stays }) (record (fresh v) { spares = goes })
+  splits id v stays goes both stake is_root room s h at =
       let k = h.kept in let J = h.history in
       let seat = k.seated id v at in
-      let whole : (f : View G E P N F → ℕ) → total f (slice_set s.views id (parted v) ++ fresh v ∷ []) + f v ≡ total f s.views + (f (parted v) + f (fresh v)) =
-      λ f. (let a = total_snoc f (slice_set s.views id (parted v)) (fresh v) in let b = total_set f s.views id v (parted v) at in omega arith) in
+      let whole : (f : View G E P N F → ℕ) → total f (slice_set s.views id (record (parted v) { spares = stays }) ++ (record (fresh v) { spares = goes }) ∷ []) + f v ≡ total f s.views + (f (record (parted v) { spares = stays }) + f (record (fresh v) { spares = goes })) =
+      λ f. (let a = total_snoc f (slice_set s.views id (record (parted v) { spares = stays })) (record (fresh v) { spares = goes }) in let b = total_set f s.views id v (record (parted v) { spares = stays }) at in omega arith) in
       let terms : v.terms ≡ Some t = seat.terms (omega arith) in
-      let each : (Q : View G E P N F → Type 0) → Q (parted v) → Q (fresh v) → ((i : ℕ) (u : View G E P N F) → get_elem? s.views i ≡ some u → Q u) → (i : ℕ) (u : View G E P N F) → get_elem? (slice_set s.views id (parted v) ++ fresh v ∷ []) i ≡ some u → Q u =
-      λ Q left right old i u u_at. ⊎_elim (λ z. ⊎_elim (λ y. subst Q y.1 left) (λ y. old i u y.1) (at_set s.views id i (parted v) u z.1)) (λ z. subst Q z.1 right) (at_snoc_at (slice_set s.views id (parted v)) (fresh v) u i u_at) in
+      let each : (Q : View G E P N F → Type 0) → Q (record (parted v) { spares = stays }) → Q (record (fresh v) { spares = goes }) → ((i : ℕ) (u : View G E P N F) → get_elem? s.views i ≡ some u → Q u) → (i : ℕ) (u : View G E P N F) → get_elem? (slice_set s.views id (record (parted v) { spares = stays }) ++ (record (fresh v) { spares = goes }) ∷ []) i ≡ some u → Q u =
+      λ Q left right old i u u_at. ⊎_elim (λ z. ⊎_elim (λ y. subst Q y.1 left) (λ y. old i u y.1) (at_set s.views id i (record (parted v) { spares = stays }) u z.1)) (λ z. subst Q z.1 right) (at_snoc_at (slice_set s.views id (record (parted v) { spares = stays })) (record (fresh v) { spares = goes }) u i u_at) in
       record {
         history = J;
         kept = record {
@@ -129,10 +133,19 @@ module _ {G E P N F : Type 0} (m : Meaning G E P N F) (t : Terms G) where
           };
           seated = each (Seated m t s.homes J)
               (record { log = seat.log; joined = seat.joined; rises = seat.rises; all_rise = seat.all_rise; parts = seat.parts; facts = seat.facts; sent = seat.sent; own = seat.own; weight = seat.weight; light = seat.light; bounded = seat.bounded; filled = seat.filled; shut = seat.shut; over = seat.over; empty = seat.empty; spent = seat.spent; terms = seat.terms; not_root = λ zero. absurd (omega arith) })
-              (nothing_yet s.homes J (fresh v) refl refl refl refl refl refl refl (λ _. terms) (λ _. omega arith) (omega arith) (omega arith) (λ _. refl) (λ _. tt))
+              (nothing_yet s.homes J (record (fresh v) { spares = goes }) refl refl refl refl refl refl refl (λ _. terms) (λ _. omega arith) (omega arith) (omega arith) (λ _. refl) (λ _. tt))
               k.seated;
         };
-        counted = counted_split m t (reverse J) s h.counted id v (parted v) at refl refl (omega arith) (λ n p has is. (h.counted.seated id v at).tied n p has is) (λ n b. b) (fresh v) refl refl;
+        counted = counted_split m t (reverse J) s h.counted id v (record (parted v) { spares = stays }) at refl refl (omega arith) (λ n p has is. (h.counted.seated id v at).tied n p has is) (λ n b. b) (record (fresh v) { spares = goes }) refl refl;
+        alive = record {
+          word = let a = whole (λ (u : View G E P N F). units u) in let old = h.alive.word in omega arith;
+          most = let a = whole (λ (u : View G E P N F). u.raised + u.gained) in let old = h.alive.most in omega arith;
+          stopped = λ past. let a = whole (λ (u : View G E P N F). u.ended) in let old = h.alive.stopped past in omega arith;
+          each = each (Lively m t J (slice_index s.words 16))
+              (let old = h.alive.each id v at in record { raised = old.raised; gained = λ _. old.gained (omega arith); stop = λ some_end. stake some_end (old.stop some_end); still = old.still; quiet = old.quiet; spent = λ z. absurd (omega arith) })
+              (record { raised = omega arith; gained = λ _. omega arith; stop = λ z. absurd (omega arith); still = λ z. absurd (cc z); quiet = tt; spent = λ z. absurd (omega arith) })
+              h.alive.each;
+        };
       }
 
   module _ (s : State (Option P) (View G E P N F)) (h : Holds m t s) (id : ℕ) (v : View G E P N F) (at : get_elem? s.views id ≡ some v) (other : ℕ) (w : View G E P N F) (ne : ¬ (other ≡ id)) (bt : get_elem? (slice_set s.views id (gathered v w)) other ≡ some w) (is_root : v.root ≡ 1) (theirs : w.seat ≡ 1) (not : w.root ≡ 0) (hand : v.carried ≡ None) (hand' : w.carried ≡ None) where
@@ -217,6 +230,24 @@ module _ {G E P N F : Type 0} (m : Meaning G E P N F) (t : Terms G) where
             k.seated;
       };
       counted = counted_joined m t (reverse h.history) s h.counted id v at other w ne (gathered v w) spent_view (omega arith) bt refl refl (λ p. weigh_append (one_at p) v.parts w.parts) refl refl refl refl;
+      alive = record {
+        word = let x = whole (λ (u : View G E P N F). units u) in let sum = gathered_units v w (gathered v w) refl refl refl refl in let old = h.alive.word in omega arith;
+        most = let x = whole (λ (u : View G E P N F). u.raised + u.gained) in let old = h.alive.most in omega arith;
+        stopped = λ past. let x = whole (λ (u : View G E P N F). u.ended) in let old = h.alive.stopped past in omega arith;
+        each = each (Lively m t h.history (slice_index s.words 16))
+            (let a = h.alive.each id v at in let b = h.alive.each other w there in record {
+              raised = a.raised;
+              gained = λ _. let x = a.gained (omega arith) in let y = b.gained (omega arith) in let z = b.raised in omega arith;
+              stop = λ some_end. let sum = sum_append one_each v.claims w.claims in dite (dec_le 1 v.ended)
+                  (λ y. let c = a.stop y in omega arith)
+                  (λ no. let none : ¬ (1 ≤ v.ended) = no in let c = b.stop (omega arith) in omega arith);
+              still = a.still;
+              quiet = quiet_both (slice_index s.words 16) (length h.history) v.quiet w.quiet a.quiet b.quiet;
+              spent = λ z. absurd (omega arith);
+            })
+            (record { raised = omega arith; gained = λ z. absurd (omega arith); stop = λ z. absurd (omega arith); still = λ z. absurd (cc z); quiet = tt; spent = λ _. (refl, refl) })
+            h.alive.each;
+      };
     }
 
   -- where no other seat is out, the root has all
@@ -234,9 +265,14 @@ module _ {G E P N F : Type 0} (m : Meaning G E P N F) (t : Terms G) where
         once = λ f. lone m t h.history s k id v at is_root none_out f;
         of_run = each_of (LogOf h.history) v.log v.joined seat.log seat.joined;
         rise = each_of Rises v.log v.joined seat.rises seat.all_rise;
+        quiet = still_then v.quiet (h.alive.each id v at).quiet;
         full = reach v.reached (k.numbers.reached id v at) (λ f. let a = lone_drawn m t h.history s k id v at is_root none_out f in let b = k.numbers.numbers f in omega arith);
       }
     where
+      still_then : (o : Option ℕ) → MatchOption o (Unit {0}) (λ n. (slice_index s.words 16 ≡ 0) × (length h.history ≡ n)) → MatchOption o (Unit {0}) (λ n. (length h.history ≡ n) × IsStill m t h.history)
+      still_then None z = tt
+      still_then (Some n) z = (z.1, still m t h.history s h.kept h.counted h.alive z.0)
+
       reach : (o : Option ℕ) → Reached t.limit (slice_index s.words 8) o → ((f : ℕ → ℕ) → sum_of f v.drawn + (up_to f m.opened + made_sum m.makes f h.history) ≡ up_to f h.kept.numbers.drawn)
           → MatchOption o (Unit {0}) (λ _. (f : ℕ → ℕ) → sum_of f v.drawn + (up_to f m.opened + made_sum m.makes f h.history) ≡ up_to f t.limit)
       reach None known all = tt

@@ -14,19 +14,22 @@ use Rattle.ocr_rule.specs.Contract.{Loose}
 use Rattle.ocr_rule.specs.Counting.{Counted, Found, IsSet, account, slots_of, payload_of, awaited, is_started, state_at, payload_at, READY, BUSY, PARKED}
 use Rattle.ocr_rule.specs.Meaning.{Meaning}
 use Rattle.ocr_rule.specs.Owing.{times, of_edt, of_slot, owed_slots, making, no_debts}
-use Rattle.ocr_rule.specs.Rule.{Holds, Kept, FactsOf}
-use Rattle.ocr_rule.specs.Sums.{one_at}
-use Rattle.ocr_rule.specs.Words.{Knows, SeesWord, SeesReady, HasSlot, Waits, StepTells, steps_word, putting, counting_down, counting_made, claiming, unclaiming, resuming, learning}
+use Rattle.ocr_rule.specs.Rule.{Alive, Holds, Kept, FactsOf}
+use Rattle.ocr_rule.specs.Sums.{is_free, one_at, sum_of}
+use Rattle.ocr_rule.specs.Units.{one_each, claim_count, units, ready_count}
+use Rattle.ocr_rule.specs.Words.{count_after, MayStep, Knows, SeesWord, SeesReady, HasSlot, IsOver, Waits, StepTells, steps_word, putting, counting_down, counting_made, claiming, unclaiming, resuming, learning}
 use Rattle.ocr_rule.specs.declared.debts.Debts.{Debts}
 use Rattle.ocr_rule.specs.declared.view.View.{View}
 use Rattle.ocr_rule.specs.declared.view.Terms.{Terms}
 use Rattle.ocr_rule.specs.declared.words.WordStep.{WordStep}
 use Rattle.ocr_rule.specs.declared.words.WordStep.TheVariants as word
-use Rattle.ocr_rule.proofs.Totals.{total_one, total_alone, at_append, reverse_twice}
+use Rattle.ocr_rule.proofs.Totals.{total_one, total_alone, at_append, drop_tally, less_sum, reverse_twice, tally_append, sum_append, weigh_at}
+use Rattle.ocr_rule.proofs.Numbered.{weigh_remove}
+use Rattle.ocr_rule.proofs.Units.{alive_same, ready_put, ready_set, units_small}
 use Rattle.ocr_rule.proofs.Same.{after, ledger_same, numbers_same, places_same, roster_same, owed_same, seated_each}
 use Rattle.ocr_rule.proofs.Bounds.{same_terms, fits, fits_carried, sees, stepped_at, spent_others}
-use Rattle.ocr_rule.proofs.Accounts.{ready, busy}
-use Rattle.ocr_rule.proofs.Owing.{total_less, tally_less, spot_less}
+use Rattle.ocr_rule.proofs.Accounts.{busy, free_most, not_free, parked, ready}
+use Rattle.ocr_rule.proofs.Owing.{total_less, tally_less, spot_less, first_tally, slot_here, tally_at}
 use Rattle.ocr_rule.proofs.Slots.{none_is, true_is}
 use Rattle.ocr_rule.proofs.Counting as counting
 use Rattle.ocr_rule.proofs.Apart.{counted_elsewhere}
@@ -66,19 +69,19 @@ module _ {G E P N F : Type 0} (m : Meaning G E P N F) (t : Terms G) where
 
   -- a step behind the turn words, which changes what is owed, claimed and known alone, keeps the first rule
   module _ (J : List E) (s : State (Option P) (View G E P N F)) (k : Kept m t J s) (id : ℕ) (v : View G E P N F) (at : get_elem? s.views id ≡ some v) (is_out : 0 < v.root + v.seat) where
-    abbrev pub with_all : List F → Debts → List ℕ → View G E P N F
-    with_all fs d cl = record v { facts = fs; debts = d; claims = cl }
+    abbrev pub with_all : List F → Debts → List ℕ → ℕ → View G E P N F
+    with_all fs d cl sp = record v { facts = fs; debts = d; claims = cl; spares = sp }
 
-    pub kept_beyond : (i x : ℕ) → 16 + length s.homes ≤ i → (fs : List F) (d : Debts) (cl : List ℕ) → FactsOf (m.stands t.setting.value t.limit J) fs → Kept m t J (after s (slice_set s.words i x) s.homes id (with_all fs d cl))
-    kept_beyond i x past fs d cl facts =
-        let w : View G E P N F = with_all fs d cl in let ws : List ℕ = slice_set s.words i x in
-        let other : (j : ℕ) → j < 16 + length s.homes → slice_index ws j ≡ slice_index s.words j = λ j lt. get_or-set_other s.words i j x 0 (λ e. absurd (omega arith)) in
+    pub kept_beyond : (i x : ℕ) → 24 + length s.homes ≤ i → (fs : List F) (d : Debts) (cl : List ℕ) (sp : ℕ) → FactsOf (m.stands t.setting.value t.limit J) fs → Kept m t J (after s (slice_set s.words i x) s.homes id (with_all fs d cl sp))
+    kept_beyond i x past fs d cl sp facts =
+        let w : View G E P N F = with_all fs d cl sp in let ws : List ℕ = slice_set s.words i x in
+        let other : (j : ℕ) → j < 24 + length s.homes → slice_index ws j ≡ slice_index s.words j = λ j lt. get_or-set_other s.words i j x 0 (λ e. absurd (omega arith)) in
         let seat = k.seated id v at in record {
           limits = k.limits;
           share = k.share;
           ledger = ledger_same m t J s id v w at ws s.homes k.ledger (other 0 (omega arith)) (λ f. refl) refl refl;
           numbers = numbers_same m t J s id v w at ws s.homes k.numbers (other 8 (omega arith)) (λ f. refl) refl refl;
-          places = places_same m t J s id v w at ws s.homes J refl (length-set s.words i x) (λ p lt. other (p + 16) (omega arith)) (λ p. refl) (λ p _ _. refl) k.places;
+          places = places_same m t J s id v w at ws s.homes J refl (length-set s.words i x) (λ p lt. other (p + 24) (omega arith)) (λ p. refl) (λ p _ _. refl) k.places;
           owed = owed_same m t J s id v w at ws s.homes k.owed (λ f. refl);
           roster = roster_same m t J s id v w at ws s.homes k.roster refl refl refl refl refl;
           seated = seated_each m t J s id v w at ws s.homes J
@@ -108,17 +111,32 @@ module _ {G E P N F : Type 0} (m : Meaning G E P N F) (t : Terms G) where
     facts_at : (s : State (Option P) Vs) (h : Holds m t s) → get_elem? s.views id ≡ some me.0 → FactsOf (m.stands t.setting.value t.limit h.history) me.0.facts
     facts_at s h at = (h.kept.seated id me.0 at).facts
 
-    kept_with : (s : State (Option P) Vs) (h : Holds m t s) → get_elem? s.views id ≡ some me.0 → (i x : ℕ) → 16 + length s.homes ≤ i → (d : Debts) (cl : List ℕ)
-        → Kept m t h.history record { words = slice_set s.words i x; homes = s.homes; views = slice_set s.views id record me.0 { debts = d; claims = cl } }
-    kept_with s h at i x past d cl = kept_beyond h.history s h.kept id me.0 at is_out i x past me.0.facts d cl (facts_at s h at)
+    kept_with : (s : State (Option P) Vs) (h : Holds m t s) → get_elem? s.views id ≡ some me.0 → (i x : ℕ) → 24 + length s.homes ≤ i → (d : Debts) (cl : List ℕ) (sp : ℕ)
+        → Kept m t h.history record { words = slice_set s.words i x; homes = s.homes; views = slice_set s.views id record me.0 { debts = d; claims = cl; spares = sp } }
+    kept_with s h at i x past d cl sp = kept_beyond h.history s h.kept id me.0 at is_out i x past me.0.facts d cl sp (facts_at s h at)
+
+    -- the same of the live word, where the sum of the units and the ready EDTs stays
+    alive_with : (s : State (Option P) Vs) (h : Holds m t s) → get_elem? s.views id ≡ some me.0 → (i x : ℕ) → 24 + length s.homes ≤ i → (fs : List F) (d : Debts) (cl : List ℕ) (sp : ℕ)
+        → units (record me.0 { facts = fs; debts = d; claims = cl; spares = sp }) + ready_count (slice_set s.words i x) (length s.homes) t.limit ≡ units me.0 + ready_count s.words (length s.homes) t.limit
+        → me.0.spares + claim_count me.0 ≤ sp + sum_of one_each cl
+        → Alive m t h.history record { words = slice_set s.words i x; homes = s.homes; views = slice_set s.views id record me.0 { facts = fs; debts = d; claims = cl; spares = sp } }
+    alive_with s h at i x past fs d cl sp sum stake =
+        let w : Vs = record me.0 { facts = fs; debts = d; claims = cl; spares = sp } in
+        let other : (j : ℕ) → j < 24 + length s.homes → slice_index (slice_set s.words i x) j ≡ slice_index s.words j = λ j lt. get_or-set_other s.words i j x 0 (λ e. absurd (omega arith)) in
+        alive_same m t h.history s h.alive id me.0 w at (refl, refl) refl stake (refl, refl) (refl, refl, refl) is_out (slice_set s.words i x) s.homes refl (other 16 (omega arith)) (λ past_end. let same = other 0 (omega arith) in omega arith) sum
 
     pub allows_put : (n k x j : ℕ) → get_elem? me.0.debts.unput j ≡ some (n, k, x) → Goal n (word.Put k x) (λ z. payload_at z n k) (λ _. x)
     allows_put n k x j owes = allowed n (word.Put k x) (λ z. payload_at z n k) (λ _. x) (λ s h at. (
       putting me.0 n k x,
       record {
         history = h.history;
-        kept = kept_with s h at (payload_at (length s.homes) n k) x (omega arith) (putting me.0 n k x).debts me.0.claims;
+        kept = kept_with s h at (payload_at (length s.homes) n k) x (omega arith) (putting me.0 n k x).debts me.0.claims me.0.spares;
         counted = counting.put_kept m t (reverse h.history) s h.counted id me.0 at is_out n k x j owes;
+        alive = alive_with s h at (payload_at (length s.homes) n k) x (omega arith) me.0.facts (putting me.0 n k x).debts me.0.claims me.0.spares
+            (let r = counting.put_range m t (reverse h.history) s h.counted id me.0 at is_out n k x j owes in
+            let a = counting.same_owed m t (reverse h.history) s h.counted id me.0 at is_out n k x j owes one_each in
+            let b = ready_put s.words (length s.homes) t.limit (payload_at (length s.homes) n k) x (λ b lo _. counting.payload_no_state (length s.homes) n k b r.0 r.2 lo) in omega arith)
+            (omega arith);
       },
       refl,
     ))
@@ -127,16 +145,26 @@ module _ {G E P N F : Type 0} (m : Meaning G E P N F) (t : Terms G) where
     at_state : (s : State (Option P) Vs) (h : Holds m t s) (n x : ℕ) → 1 ≤ n → n ≤ t.limit → slice_index (slice_set s.words (state_at (length s.homes) n) x) (state_at (length s.homes) n) ≡ x
     at_state s h n x lo hi = get_or-set_same s.words (state_at (length s.homes) n) x 0 (let w = h.counted.words in omega arith)
 
+    inside : (s : State (Option P) Vs) (h : Holds m t s) (n : ℕ) → 1 ≤ n → n ≤ t.limit → state_at (length s.homes) n < length s.words
+    inside s h n lo hi = let w = h.counted.words in omega arith
+
     pub allows_count : (n : ℕ) → 1 ≤ tally (of_edt n) me.0.debts.put → Goal n word.Count (λ z. state_at z n) (λ x. (x + 18446744073709551615) % 18446744073709551616)
     allows_count n owes = allowed n word.Count (λ z. state_at z n) (λ x. (x + 18446744073709551615) % 18446744073709551616) (λ s h at.
         let past : List E = reverse h.history in
         let i : ℕ = state_at (length s.homes) n in let w : Vs = counting_down me.0 n (slice_index s.words i - 1) in let y : ℕ = (slice_index s.words i + 18446744073709551615) % 18446744073709551616 in
         let order = counting.count_order m t past s h.counted id me.0 at is_out n owes in
         let range = counting.count_range m t past s h.counted id me.0 at is_out n owes in
-        let kept = kept_with s h at i y (omega arith) w.debts me.0.claims in
-        let counted = counting.count_kept m t past s h.counted id me.0 at is_out n owes in (
+        let kept = kept_with s h at i y (omega arith) w.debts me.0.claims w.spares in
+        let counted = counting.count_kept m t past s h.counted id me.0 at is_out n owes in
+        let falls : y + 1 ≡ slice_index s.words i = order.3 in
+        let alive = alive_with s h at i y (omega arith) me.0.facts w.debts me.0.claims w.spares
+        (let a = counting.count_less m t past s h.counted id me.0 at is_out n owes one_each in
+        let b = ready_set s.words (length s.homes) t.limit n y range.0 range.1 (inside s h n range.0 range.1) in
+        let c = not_free (slice_index s.words i) order.1 in let most = free_most (slice_index s.words i - 1) in
+        let e : is_free y ≡ is_free (slice_index s.words i - 1) = ap is_free (omega arith) in omega arith)
+        (omega arith) in (
           w,
-          record { history = h.history; kept = kept; counted = counted },
+          record { history = h.history; kept = kept; counted = counted; alive = alive },
           (
             refl,
             order.1,
@@ -152,10 +180,17 @@ module _ {G E P N F : Type 0} (m : Meaning G E P N F) (t : Terms G) where
         let i : ℕ = state_at (length s.homes) n in let w : Vs = counting_made me.0 n (slice_index s.words i - (33 - d)) in let y : ℕ = (slice_index s.words i + (18446744073709551616 - (33 - d))) % 18446744073709551616 in
         let order = counting.made_order m t past s h.counted id me.0 at is_out n d j owes in
         let range = counting.made_range m t past s h.counted id me.0 at is_out n d j owes in
-        let kept = kept_with s h at i y (omega arith) w.debts me.0.claims in
-        let counted = counting.made_kept m t past s h.counted id me.0 at is_out n d j owes in (
+        let kept = kept_with s h at i y (omega arith) w.debts me.0.claims w.spares in
+        let counted = counting.made_kept m t past s h.counted id me.0 at is_out n d j owes in
+        let falls : y + (33 - d) ≡ slice_index s.words i = order.3 in let small = range.2 in
+        let alive = alive_with s h at i y (omega arith) me.0.facts w.debts me.0.claims w.spares
+        (let a = weigh_remove one_each n me.0.debts.made (weigh_at me.0.debts.made j n d owes) in
+        let b = ready_set s.words (length s.homes) t.limit n y range.0 range.1 (inside s h n range.0 range.1) in
+        let c = not_free (slice_index s.words i) (let x = order.1 in omega arith) in let most = free_most (slice_index s.words i - (33 - d)) in
+        let e : is_free y ≡ is_free (slice_index s.words i - (33 - d)) = ap is_free (omega arith) in omega arith)
+        (omega arith) in (
           w,
-          record { history = h.history; kept = kept; counted = counted },
+          record { history = h.history; kept = kept; counted = counted; alive = alive },
           (
             refl,
             range.2,
@@ -173,8 +208,33 @@ module _ {G E P N F : Type 0} (m : Meaning G E P N F) (t : Terms G) where
           w,
           record {
             history = h.history;
-            kept = kept_with s h at i PARKED (omega arith) me.0.debts w.claims;
+            kept = kept_with s h at i PARKED (omega arith) me.0.debts w.claims w.spares;
             counted = counting.park_kept m t (reverse h.history) s h.counted id me.0 at is_out n lo hi has there.0 there.1;
+            alive = let less = less_sum one_each n me.0.claims has in alive_with s h at i PARKED (omega arith) me.0.facts me.0.debts w.claims w.spares
+                (let b = ready_set s.words (length s.homes) t.limit n PARKED lo hi (inside s h n lo hi) in
+                let one = total_one (λ (u : View G E P N F). times n u.claims) s.views id me.0 at in
+                let was = (busy (slots_of m t (reverse h.history) n) (account m t s.words (length s.homes) s.views (reverse h.history) n) (h.counted.each n lo hi) (omega arith)).0.word in
+                let free : is_free (slice_index s.words i) ≡ 0 = ap is_free was in omega arith)
+                (omega arith);
+          },
+          refl,
+        ))
+
+    pub allows_drop : (n : ℕ) → 1 ≤ n → n ≤ t.limit → 1 ≤ times n me.0.claims → IsOver m t me.0 n → Goal n word.Drop (λ z. state_at z n) (λ _. BUSY)
+    allows_drop n lo hi has over = allowed n word.Drop (λ z. state_at z n) (λ _. BUSY) (λ s h at.
+        let w : Vs = unclaiming me.0 n in let i : ℕ = state_at (length s.homes) n in
+        let there = over h.history (knows h.history s h.kept h.counted id me.0 at) in (
+          w,
+          record {
+            history = h.history;
+            kept = kept_with s h at i BUSY (omega arith) me.0.debts w.claims w.spares;
+            counted = counting.drop_kept m t (reverse h.history) s h.counted id me.0 at is_out n lo hi has there;
+            alive = let less = less_sum one_each n me.0.claims has in alive_with s h at i BUSY (omega arith) me.0.facts me.0.debts w.claims w.spares
+                (let b = ready_set s.words (length s.homes) t.limit n BUSY lo hi (inside s h n lo hi) in
+                let one = total_one (λ (u : View G E P N F). times n u.claims) s.views id me.0 at in
+                let was = (busy (slots_of m t (reverse h.history) n) (account m t s.words (length s.homes) s.views (reverse h.history) n) (h.counted.each n lo hi) (omega arith)).0.word in
+                let free : is_free (slice_index s.words i) ≡ 0 = ap is_free was in omega arith)
+                (omega arith);
           },
           refl,
         ))
@@ -185,8 +245,14 @@ module _ {G E P N F : Type 0} (m : Meaning G E P N F) (t : Terms G) where
           w,
           record {
             history = h.history;
-            kept = kept_with s h at i READY (omega arith) w.debts me.0.claims;
+            kept = kept_with s h at i READY (omega arith) w.debts me.0.claims me.0.spares;
             counted = counting.resume_kept m t (reverse h.history) s h.counted id me.0 at is_out n lo hi has;
+            alive = let less = less_sum one_each n me.0.debts.resumes has in alive_with s h at i READY (omega arith) me.0.facts w.debts me.0.claims me.0.spares
+                (let b = ready_set s.words (length s.homes) t.limit n READY lo hi (inside s h n lo hi) in
+                let one = total_one (λ (u : View G E P N F). times n u.debts.resumes) s.views id me.0 at in
+                let was = (parked (slots_of m t (reverse h.history) n) (account m t s.words (length s.homes) s.views (reverse h.history) n) (h.counted.each n lo hi) (omega arith)).0.word in
+                let free : is_free (slice_index s.words i) ≡ 0 = ap is_free was in omega arith)
+                (omega arith);
           },
           refl,
         ))
@@ -232,10 +298,12 @@ module _ {G E P N F : Type 0} (m : Meaning G E P N F) (t : Terms G) where
         (λ y. facts_at s h at j f y)
         (λ y. subst (m.stands t.setting.value t.limit h.history) (one_view (m.counting.is_set n k x) f y.0 y.1) fact)
         (at_append me.0.facts (m.counting.is_set n k x ∷ []) j f there) in
-        let kept = kept_beyond h.history s h.kept id me.0 at is_out i x (omega arith) w.facts me.0.debts me.0.claims facts in
+        let kept = kept_beyond h.history s h.kept id me.0 at is_out i x (omega arith) w.facts me.0.debts me.0.claims me.0.spares facts in
+        let alive = alive_with s h at i x (omega arith) w.facts me.0.debts me.0.claims me.0.spares
+        (let b = ap (λ l. ready_count l (length s.homes) t.limit) (set-get_or s.words i 0) in omega arith) (omega arith) in
         let counted = idle_counted s h at i w.facts in (
           w,
-          record { history = h.history; kept = kept; counted = counted },
+          record { history = h.history; kept = kept; counted = counted; alive = alive },
           (refl, sees m t h.history record { words = slice_set s.words i x; homes = s.homes; views = slice_set s.views id w } kept id w (stepped_at s.views id me.0 w at) counted is_out),
         ))
 
@@ -250,7 +318,13 @@ module _ {G E P N F : Type 0} (m : Meaning G E P N F) (t : Terms G) where
         (λ z.
         let w : Vs = claiming me.0 n in
         let is : 64 ≡ tried x = sym (ap (λ b. either b 64 x) (eq-eqb x 0 z)) in
-        let kept = kept_with s h at i BUSY (omega arith) me.0.debts w.claims in
+        let kept = kept_with s h at i BUSY (omega arith) me.0.debts w.claims me.0.spares in
+        let more = sum_append one_each me.0.claims (n ∷ []) in
+        let alive = alive_with s h at i BUSY (omega arith) me.0.facts me.0.debts w.claims me.0.spares
+        (let b = ready_set s.words (length s.homes) t.limit n BUSY lo hi (inside s h n lo hi) in
+        let free : is_free (slice_index s.words i) ≡ 1 = ap is_free z in omega arith)
+        (omega arith) in
+        let few : units w < 18446744073709551616 = (let small = units_small m t h.history s h.kept h.alive id me.0 at is_out in omega arith) in
         let counted = counting.claim_kept m t past s h.counted id me.0 at is_out n lo hi z in
         let r = ready (slots_of m t past n) (account m t s.words (length s.homes) s.views past n) (h.counted.each n lo hi) z in
         let bare = r.0.bare in let none = r.2 in
@@ -263,26 +337,73 @@ module _ {G E P N F : Type 0} (m : Meaning G E P N F) (t : Terms G) where
           true_is (is_started m t past n) (omega arith),
           none_is (awaited m t past n) (omega arith),
         ) in
-        (w, subst (λ y. Holds m t record { words = slice_set s.words i y; homes = s.homes; views = slice_set s.views id w }) is (record { history = h.history; kept = kept; counted = counted }), inl (z, refl, sees)))
+        (w, subst (λ y. Holds m t record { words = slice_set s.words i y; homes = s.homes; views = slice_set s.views id w }) is (record { history = h.history; kept = kept; counted = counted; alive = alive }), inl (z, refl, sees, few)))
         (λ ne.
         let is : x ≡ tried x = sym (ap (λ b. either b 64 x) (ne_eqb x 0 ne)) in
-        let kept = kept_beyond h.history s h.kept id me.0 at is_out i x (omega arith) me.0.facts me.0.debts me.0.claims (facts_at s h at) in
+        let kept = kept_beyond h.history s h.kept id me.0 at is_out i x (omega arith) me.0.facts me.0.debts me.0.claims me.0.spares (facts_at s h at) in
+        let alive = alive_with s h at i x (omega arith) me.0.facts me.0.debts me.0.claims me.0.spares
+        (let b = ap (λ l. ready_count l (length s.homes) t.limit) (set-get_or s.words i 0) in omega arith) (omega arith) in
         let counted = idle_counted s h at i me.0.facts in (
           me.0,
-          subst (λ y. Holds m t record { words = slice_set s.words i y; homes = s.homes; views = slice_set s.views id me.0 }) is (record { history = h.history; kept = kept; counted = counted }),
+          subst (λ y. Holds m t record { words = slice_set s.words i y; homes = s.homes; views = slice_set s.views id me.0 }) is (record { history = h.history; kept = kept; counted = counted; alive = alive }),
           inr (ne, refl, sees_word h.history s h.kept h.counted id me.0 at is_out n lo hi x refl),
         )))
 
 -- a step on the words that count changes what the view knows, owes and has claimed alone
 pub stepped_view : {G E P N F : Type 0} (m : Meaning G E P N F) (n : ℕ) (chosen : WordStep) (v : View G E P N F) (x : ℕ) (w : View G E P N F) → StepTells m n chosen v x w
-    → (fs : List F) × (d : Debts) × (cl : List ℕ) × (w ≡ record v { facts = fs; debts = d; claims = cl })
-stepped_view m n (word.Put k p) v x w is = (v.facts, (putting v n k p).debts, v.claims, is)
-stepped_view m n word.Count v x w is = (v.facts, (counting_down v n (x - 1)).debts, v.claims, is.0)
-stepped_view m n (word.CountMade d) v x w is = (v.facts, (counting_made v n (x - (33 - d))).debts, v.claims, is.0)
-stepped_view m n (word.Read k) v x w is = ((learning v (m.counting.is_set n k x)).facts, v.debts, v.claims, is.0)
-stepped_view m n word.Claim v x w is = ⊎_elim (λ h. (v.facts, v.debts, (claiming v n).claims, h.1)) (λ h. (v.facts, v.debts, v.claims, h.1)) is
-stepped_view m n word.Park v x w is = (v.facts, v.debts, (unclaiming v n).claims, is)
-stepped_view m n word.Resume v x w is = (v.facts, (resuming v n).debts, v.claims, is)
+    → (fs : List F) × (d : Debts) × (cl : List ℕ) × (sp : ℕ) × (w ≡ record v { facts = fs; debts = d; claims = cl; spares = sp })
+stepped_view m n (word.Put k p) v x w is = (v.facts, (putting v n k p).debts, v.claims, v.spares, is)
+stepped_view m n word.Count v x w is = (v.facts, (counting_down v n (x - 1)).debts, v.claims, (counting_down v n (x - 1)).spares, is.0)
+stepped_view m n (word.CountMade d) v x w is = (v.facts, (counting_made v n (x - (33 - d))).debts, v.claims, (counting_made v n (x - (33 - d))).spares, is.0)
+stepped_view m n (word.Read k) v x w is = ((learning v (m.counting.is_set n k x)).facts, v.debts, v.claims, v.spares, is.0)
+stepped_view m n word.Claim v x w is = ⊎_elim (λ h. (v.facts, v.debts, (claiming v n).claims, v.spares, h.1)) (λ h. (v.facts, v.debts, v.claims, v.spares, h.1)) is
+stepped_view m n word.Park v x w is = (v.facts, v.debts, (unclaiming v n).claims, (unclaiming v n).spares, is)
+stepped_view m n word.Resume v x w is = (v.facts, (resuming v n).debts, v.claims, v.spares, is)
+stepped_view m n word.Drop v x w is = (v.facts, v.debts, (unclaiming v n).claims, (unclaiming v n).spares, is)
+
+pub stepped_units : {G E P N F : Type 0} (m : Meaning G E P N F) (t : Terms G) (n : ℕ) (chosen : WordStep) (v : View G E P N F) (x : ℕ) (w : View G E P N F) → MayStep m t v n chosen → StepTells m n chosen v x w → units w ≡ count_after chosen x (units v)
+stepped_units m t n (word.Put k p) v x w may is =
+    let same = ap units is in let less = drop_tally one_each (n, k) v.debts.unput (let a = tally_at (of_slot n k) v.debts.unput may.0 n k p may.1 in let b = slot_here n k in omega arith) in
+    let more = tally_append one_each v.debts.put ((n, k, p) ∷ []) in omega arith
+stepped_units m t n word.Count v x w may is =
+    let same = ap units is.0 in let less = (first_tally n v.debts.put may).1 one_each in let most = free_most (x - 1) in omega arith
+stepped_units m t n (word.CountMade d) v x w may is =
+    let same = ap units is.0 in let less = weigh_remove one_each n v.debts.made (weigh_at v.debts.made may.0 n d may.1) in let most = free_most (x - (33 - d)) in omega arith
+stepped_units m t n (word.Read k) v x w may is = ap units is.0
+stepped_units m t n word.Claim v x w may is = ⊎_elim
+    (λ h. let same = ap units h.1 in let more = sum_append one_each v.claims (n ∷ []) in let free = ap is_free h.0 in omega arith)
+    (λ h. let same = ap units h.1 in let busy_word = not_free x (positive x h.0) in omega arith)
+    is
+  where
+    positive : (x : ℕ) → x ≢ READY → 1 ≤ x
+    positive x ne = dite (ℕ_discrete x 0) (λ e. absurd (ne e)) (λ no. omega arith)
+stepped_units m t n word.Park v x w may is = let same = ap units is in let less = less_sum one_each n v.claims may.0 in omega arith
+stepped_units m t n word.Drop v x w may is = let same = ap units is in let less = less_sum one_each n v.claims may.0 in omega arith
+stepped_units m t n word.Resume v x w may is = let same = ap units is in let less = less_sum one_each n v.debts.resumes may in omega arith
+
+-- a count of the units, of 64 bits, after the step
+pub count_fewer : (chosen : WordStep) (x c u : ℕ) → c ≤ u → count_after chosen x c ≤ count_after chosen x u
+count_fewer word.Claim x c u le = omega arith
+count_fewer word.Count x c u le = omega arith
+count_fewer (word.CountMade d) x c u le = omega arith
+count_fewer word.Resume x c u le = omega arith
+count_fewer (word.Put k p) x c u le = le
+count_fewer (word.Read k) x c u le = le
+count_fewer word.Park x c u le = le
+count_fewer word.Drop x c u le = le
+
+pub count_small : {G E P N F : Type 0} (m : Meaning G E P N F) (n : ℕ) (chosen : WordStep) (v : View G E P N F) (x : ℕ) (w : View G E P N F) → StepTells m n chosen v x w → (c : ℕ) → c < 18446744073709551616 → units w ≡ count_after chosen x c → count_after chosen x c < 18446744073709551616
+count_small m n (word.Put k p) v x w is c small same = small
+count_small m n word.Count v x w is c small same = omega arith
+count_small m n (word.CountMade d) v x w is c small same = omega arith
+count_small m n (word.Read k) v x w is c small same = small
+count_small m n word.Claim v x w is c small same = ⊎_elim (λ h. let few = h.3 in omega arith) (λ h. let none = not_free x (positive x h.0) in omega arith) is
+  where
+    positive : (x : ℕ) → x ≢ READY → 1 ≤ x
+    positive x ne = dite (ℕ_discrete x 0) (λ e. absurd (ne e)) (λ no. omega arith)
+count_small m n word.Park v x w is c small same = small
+count_small m n word.Drop v x w is c small same = small
+count_small m n word.Resume v x w is c small same = omega arith
 
 -- the slot that a seat carries is nothing to its claims
 pub carried_loose : {G E P N F : Type 0} (m : Meaning G E P N F) (t : Terms G) (v : View G E P N F) (p : ℕ) (o : Option ℕ) → Loose m t v p → Loose m t record v { carried = o } p

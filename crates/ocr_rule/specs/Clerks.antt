@@ -10,12 +10,13 @@ use Rattle.ocr_rule.specs.Owing.{AreInRange}
 use Rattle.ocr_rule.specs.Rule.{OPEN}
 use Rattle.ocr_rule.specs.Steps.{limit_of}
 use Rattle.ocr_rule.specs.Sums.{keys, weigh, one_at}
+use Rattle.ocr_rule.specs.Units.{units}
 use Rattle.ocr_rule.specs.declared.view.View.{View}
 use Rattle.ocr_rule.specs.declared.view.Terms.{Terms}
 
 pub record IsTrueTo {G E P N F : Type 0} (me : Me (Option P) (View G E P N F)) (log : List (ℕ × E))
     (joined : List (List (ℕ × E))) (parts : List (ℕ × Option P)) (owed : List (ℕ × ℕ × N))
-    (weight : ℕ) (closed full : Option ℕ) : Type 0 where
+    (weight : ℕ) (closed full : Option ℕ) (count : ℕ) : Type 0 where
   pub log_is : log ≡ me.0.log
   pub joined_are : joined ≡ me.0.joined
   pub keeps : keys parts ≡ keys me.0.parts
@@ -23,6 +24,9 @@ pub record IsTrueTo {G E P N F : Type 0} (me : Me (Option P) (View G E P N F)) (
   pub weight_is : weight ≡ me.0.weight
   pub closed_is : closed ≡ me.0.closed
   pub full_is : full ≡ me.0.full
+  -- it counts its units; the root may count fewer, once clerks were joined into it
+  pub fewer : count ≤ units me.0
+  pub exact : me.0.seat ≡ 1 → count ≡ units me.0
   pub past_end : MatchOption closed (Unit {0}) (λ n. OPEN ≤ n)
   pub past_limit : MatchOption full (Unit {0}) (λ n. limit_of me.0.terms ≤ n)
   -- what it owes and has claimed is of EDTs of the table

@@ -5,9 +5,10 @@ use Rattle.ocr_mail.specs.Mail.{Has}
 use Rattle.ocr_rule.specs.Counting.{Found, tied_to}
 use Rattle.ocr_rule.specs.Owing.{listed, times}
 use Rattle.ocr_rule.specs.Meaning.{Meaning, Run, Open, Ended}
-use Rattle.ocr_rule.specs.Rule.{Fits, PartsOf, FactsOf, RunsIn, LogsOf, AllRise, OPEN}
-use Rattle.ocr_rule.specs.Steps.{Deed, deed, Sees, SeesBoth, SeesOpen, SeesEnd, logged, ended_by, shut_by, with_drawn, filled_by, with_part, without_part}
+use Rattle.ocr_rule.specs.Rule.{Fits, PartsOf, FactsOf, RunsIn, LogsOf, AllRise, IsStill, OPEN}
+use Rattle.ocr_rule.specs.Steps.{Deed, deed, Sees, SeesBoth, SeesOpen, SeesEnd, logged, ended_by, shut_by, with_drawn, filled_by, with_part, without_part, freed, needed}
 use Rattle.ocr_rule.specs.Sums.{AreBelow, weigh, weigh_all, below, one_at, sum_of, made_sum, up_to, find, replace_all, remove_at, as_some, HasAll}
+use Rattle.ocr_rule.specs.Units.{claim_count, units}
 use Rattle.ocr_rule.specs.declared.answers.Committed.{Committed}
 use Rattle.ocr_rule.specs.declared.answers.Committed.TheVariants as committed
 use Rattle.ocr_rule.specs.declared.answers.Drawn.{Drawn}
@@ -76,6 +77,8 @@ module _ {G E P N F : Type 0} (m : Meaning G E P N F) (t : Terms G) where
     pub drawn : HasAll (m.makes e) v.drawn
     pub keeps : Keeps v e ps
     pub claims : Claims v (deed m t.limit v e ps ms)
+    pub unit : 1 ≤ units v
+    pub spares : needed (deed m t.limit v e ps ms) ≤ v.spares + freed v (deed m t.limit v e ps ms)
     pub legal : Legal v (deed m t.limit v e ps ms)
 
   -- the facts stand once the entry has come
@@ -86,6 +89,7 @@ module _ {G E P N F : Type 0} (m : Meaning G E P N F) (t : Terms G) where
   -- what a close asks of an entry, and of the facts that the clerk learns with it
   pub record MayClose (v : View G E P N F) (e : E) (fs : List F) : Type 0 where
     pub stops : m.stops e ≡ true
+    pub unit : 1 ≤ v.spares + claim_count v
     pub legal : MayStop v e
     pub facts : WillStand v e fs
 
@@ -182,6 +186,8 @@ pub record Finished {G E P N F : Type 0} (m : Meaning G E P N F) (t : Terms G) (
   pub once : (f : ℕ → ℕ) → weigh_all f logs ≡ below f (length history)
   pub of_run : LogsOf history logs
   pub rise : AllRise logs
+  -- where the root knows how many entries there were when nothing could come any more, it is these
+  pub quiet : MatchOption v.quiet (Unit {0}) (λ n. (length history ≡ n) × IsStill m t history)
   pub full : MatchOption v.reached (Unit {0}) (λ _. (f : ℕ → ℕ) → sum_of f v.drawn +
       (up_to f m.opened + made_sum m.makes f history) ≡ up_to f t.limit)
 

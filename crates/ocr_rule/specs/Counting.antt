@@ -12,12 +12,16 @@ use Rattle.ocr_rule.specs.declared.view.View.{View}
 use Rattle.ocr_rule.specs.declared.view.Terms.{Terms}
 
 -- THE WORDS of a table. The commit word comes first; the draw word, and the turn words from the
--- first on, are so far behind it that none shares a cache line of 64 bytes with it.
+-- first on, are so far behind it that none shares a cache line of 64 bytes with it, nor with the live word between them.
 abbrev pub DRAW : ℕ
 DRAW = 8
 
+-- the live word, of the third rule
+abbrev pub LIVE : ℕ
+LIVE = 16
+
 abbrev pub TURNS : ℕ
-TURNS = 16
+TURNS = 24
 
 -- THE WORD of an EDT
 abbrev pub READY : ℕ
@@ -102,7 +106,6 @@ module _ {G E P N F : Type 0} (m : Meaning G E P N F) (t : Terms G) where
         (k < d)
     pub rests : (n p : ℕ) → awaited past n ≡ Some p → (is_started past n ≡ false) ×
         (is_ended past n ≡ false) × ((d : ℕ) × (slots_of past n ≡ Some d))
-    pub ends : (n : ℕ) → is_ended past n ≡ true → is_started past n ≡ true
     pub facts : (n k x : ℕ) → payload_of past n k ≡ Some x → m.stands t.setting.value t.limit
         (reverse past) (m.counting.is_set n k x)
 
@@ -133,10 +136,12 @@ pub record CountingLaws {G E P N F : Type 0} (m : Meaning G E P N F) : Type 0 wh
       (one_at n) (m.counting.resumes t.setting.value t.limit (reverse past) e)
       → (sum_of (one_at n) (m.counting.resumes t.setting.value t.limit (reverse past) e) ≡ 1) ×
       ((p : ℕ) × (awaited m t past n ≡ Some p) × (1 ≤ m.touches t.limit e p))
-  -- an EDT that ends runs, and ends by an entry of its own
+  -- An EDT ends once, where it runs, by an entry of its own; or it is destroyed by an entry of
+  -- another, where it has neither started nor waits.
   pub ending : (t : Terms G) (past : List E) (e : E) (n : ℕ) → MayCome m t past e
-      → m.ends e n ≡ true → (m.runs e n ≡ true) × (is_started m t past n ≡ true) ×
-      (is_ended m t past n ≡ false)
+      → m.ends e n ≡ true → (is_ended m t past n ≡ false) × (((m.runs e n ≡ true) ×
+      (is_started m t past n ≡ true)) ⊎ ((m.runs e n ≡ false) × (is_started m t past n ≡ false) ×
+      (awaited m t past n ≡ None)))
 
 -- THE WORDS of an EDT, behind the turn words
 abbrev pub state_at : ℕ → ℕ → ℕ
@@ -181,11 +186,14 @@ pub record IsCounting (a : Account) : Type 0 where
   pub bare : a.claims + (a.resumes + (a.waits + a.started)) ≡ 0
   pub once : a.lasts ≡ is_free a.word
 
--- one view has its claim, or it has its end
+-- One view has its claim, or it has its end. It has both only where it was destroyed before it
+-- started.
 pub record IsBusy (a : Account) : Type 0 where
   pub word : a.word ≡ BUSY
   pub counted : a.making + (a.owed + a.unset) ≡ 0
-  pub held : a.claims + a.ended ≡ 1
+  pub held : 1 ≤ a.claims + a.ended
+  pub sole : a.claims ≤ 1
+  pub runs : 1 ≤ a.started → a.claims + a.ended ≡ 1
   pub none : a.resumes ≡ 0
   pub once : a.lasts ≡ 1
 
@@ -215,6 +223,7 @@ debts_by m e rs one = record {
   made = listed one;
   resumes = rs;
   lasts = [];
+  readied = [];
 }
 
 -- the EDT's first entry stands in one of the view's logs

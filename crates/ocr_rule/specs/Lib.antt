@@ -9,3 +9,5 @@ pub mod Owing
 pub mod Counting
 pub mod Words
 pub mod Beginning
+pub mod Units
+pub mod Living

@@ -7,7 +7,7 @@ use Rattle.ocr_rule.specs.Sums.{one_at, sum_of, less_one, remove_at}
 use Rattle.ocr_rule.specs.declared.debts.Debts.{Debts}
 
 abbrev pub no_debts : Debts
-no_debts = record { unput = []; put = []; made = []; resumes = []; lasts = [] }
+no_debts = record { unput = []; put = []; made = []; resumes = []; lasts = []; readied = [] }
 
 abbrev pub both_debts : Debts → Debts → Debts
 both_debts a b = record {
@@ -16,6 +16,7 @@ both_debts a b = record {
   made = a.made ++ b.made;
   resumes = a.resumes ++ b.resumes;
   lasts = a.lasts ++ b.lasts;
+  readied = a.readied ++ b.readied;
 }
 
 -- the numbers that fail a test
@@ -76,10 +77,21 @@ last_if (suc left) n ns = ns
 
 -- so much is left of its word then
 abbrev pub counted_debts : Debts → ℕ → ℕ → Debts
-counted_debts d n left = record d { put = remove_edt n d.put; lasts = last_if left n d.lasts }
+counted_debts d n left = record d {
+  put = remove_edt n d.put;
+  lasts = last_if left n d.lasts;
+  readied = last_if left n d.readied;
+}
 
 abbrev pub made_debts : Debts → ℕ → ℕ → Debts
-made_debts d n left = record d { made = remove_at n d.made; lasts = last_if left n d.lasts }
+made_debts d n left = record d {
+  made = remove_at n d.made;
+  lasts = last_if left n d.lasts;
+  readied = last_if left n d.readied;
+}
 
 abbrev pub resumed_debts : Debts → ℕ → Debts
-resumed_debts d n = record d { resumes = less_one n d.resumes }
+resumed_debts d n = record d {
+  resumes = less_one n d.resumes;
+  readied = d.readied ++ n ∷ [];
+}

@@ -5,10 +5,11 @@ use mathlib.Core.Option.{some}
 use lib.ListN.{get_elem?}
 use Rattle.atomic_table.specs.Table.{State}
 use Rattle.ocr_mail.specs.Mail.{tally, pending}
-use Rattle.ocr_rule.specs.Counting.{Counted, IsBegunIn, IsSet, tied_to, is_started, is_ended, DRAW, TURNS}
+use Rattle.ocr_rule.specs.Counting.{Counted, IsBegunIn, IsSet, tied_to, is_started, is_ended, awaited, DRAW, LIVE, TURNS}
 use Rattle.ocr_rule.specs.Meaning.{Meaning, Run, Open, Ended}
 use Rattle.ocr_rule.specs.Owing.{times}
 use Rattle.ocr_rule.specs.Sums.{total, weigh, weigh_all, below, one_at, sum_of, up_to, made_sum, is_free, picked, is_among, entries, load_of, Rises}
+use Rattle.ocr_rule.specs.Units.{MOST_RAISED, claim_count, ready_count, units}
 use Rattle.ocr_rule.specs.declared.view.View.{View}
 use Rattle.ocr_rule.specs.declared.view.Terms.{Terms}
 
@@ -79,12 +80,12 @@ module _ {G E P N F : Type 0} (m : Meaning G E P N F) (t : Terms G) where
     pub least : 1 ≤ n
     pub most : n ≤ t.limit
 
-  -- What a view may rely on of an EDT that it has claimed: all its slots are set, it has not ended,
-  -- its first entry stands in the view's logs where it has started, and the view keeps the place
+  -- What a view may rely on of an EDT that it has claimed: all its slots are set, it has not ended
+  -- where it has started, its first entry stands in the view's logs where it has started, and the view keeps the place
   -- that its claim ties it to.
   pub record Claimed (J : List E) (v : View G E P N F) (n : ℕ) : Type 0 where
     pub set : IsSet m t (reverse J) n
-    pub unended : is_ended m t (reverse J) n ≡ false
+    pub unended : is_started m t (reverse J) n ≡ true → is_ended m t (reverse J) n ≡ false
     pub begun : is_started m t (reverse J) n ≡ true → IsBegunIn m v n
     pub tied : (p : ℕ) → tied_to m t (reverse J) n ≡ Some p → 1 ≤ weigh (one_at p) v.parts
 
@@ -202,8 +203,39 @@ module _ {G E P N F : Type 0} (m : Meaning G E P N F) (t : Terms G) where
     pub roster : Roster s.views
     pub seated : (id : ℕ) (v : View G E P N F) → get_elem? s.views id ≡ some v → Seated s.homes J v
 
+  -- how a view stands to the live word
+  pub record Lively (J : List E) (word : ℕ) (v : View G E P N F) : Type 0 where
+    pub raised : v.raised ≤ MOST_RAISED
+    pub gained : 0 < v.root + v.seat → v.gained + MOST_RAISED ≤ v.seats * MOST_RAISED
+    -- whoever ended the run keeps a unit
+    pub stop : 1 ≤ v.ended → 1 ≤ v.spares + claim_count v
+    -- a view that knows the live word as 0 is right, and knows how many entries there are
+    pub still : v.live ≡ Some 0 → word ≡ 0
+    pub quiet : MatchOption v.quiet (Unit {0}) (λ n. (word ≡ 0) × (length J ≡ n))
+    pub spent : v.root + v.seat ≡ 0 → (units v ≡ 0) × (v.raised + v.gained ≡ 0)
+
+  -- the third rule: the live word
+  pub record Alive (J : List E) (s : State (Option P) (View G E P N F)) : Type 0 where
+    -- it counts the units of all views and the EDTs that are ready
+    pub word : slice_index s.words LIVE ≡ total units s.views + ready_count s.words
+        (length s.homes) t.limit
+    pub most : slice_index s.words LIVE ≤ 2 + total (λ v. v.raised + v.gained) s.views
+    -- an entry that ended the run stands in one of the views' logs
+    pub stopped : OPEN ≤ slice_index s.words 0 → 1 ≤ total (λ v. v.ended) s.views
+    pub each : (id : ℕ) (v : View G E P N F) → get_elem? s.views id ≡ some v → Lively J
+        (slice_index s.words LIVE) v
+
   -- the whole rule
   pub record Holds (s : State (Option P) (View G E P N F)) : Type 0 where
     pub history : List E
     pub kept : Kept history s
     pub counted : Counted m t (reverse history) s
+    pub alive : Alive history s
+
+  -- Nothing can come any more: the run has not ended, no message is undelivered, and each EDT of
+  -- which all slots are set has ended or waits for a part.
+  pub record IsStill (J : List E) : Type 0 where
+    pub unended : Open m.stops J
+    pub delivered : mail J ≡ []
+    pub each : (n : ℕ) → IsSet m t (reverse J) n → (is_ended m t (reverse J) n ≡ true) ⊎ ((p : ℕ) ×
+        (awaited m t (reverse J) n ≡ Some p))

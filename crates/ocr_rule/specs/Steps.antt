@@ -1,16 +1,22 @@
 -- How each kind of step changes the view of the seat that steps, and what the step tells.
-use Rattle.std.specs.Prelude.{◌≡◌, ◌≢◌, ℕ, Bool, ◌+◌, ◌-◌, ◌<◌, ◌≤◌, ◌⊎◌, List, [], ◌∷◌, ◌++◌, Option, Some, None}
+use Rattle.std.specs.Prelude.{◌≡◌, ◌≢◌, ℕ, Bool, ◌+◌, ◌-◌, ◌<◌, ◌≤◌, ◌⊎◌, List, [], ◌∷◌, ◌++◌, length, Option, Some, None}
 use Rattle.std.specs.Option.{option_or}
 use Rattle.atomic_table.specs.Table.{Me, Step, rest}
-use Rattle.ocr_mail.specs.Mail.{named, without}
+use Rattle.ocr_mail.specs.Mail.{named, tally, without}
 use Rattle.ocr_rule.specs.Meaning.{Meaning, Open}
 use Rattle.ocr_rule.specs.Rule.{Fits, Over, OPEN}
-use Rattle.ocr_rule.specs.Sums.{AreBelow, less_all, remove_at, replace_all}
-use Rattle.ocr_rule.specs.Counting.{TURNS, debts_by, leaves}
+use Rattle.ocr_rule.specs.Sums.{AreBelow, less_all, remove_at, replace_all, sum_of, weigh}
+use Rattle.ocr_rule.specs.Counting.{TURNS, debts_by, is_true, leaves}
 use Rattle.ocr_rule.specs.Owing.{no_debts, both_debts, without_all, AreInRange}
+use Rattle.ocr_rule.specs.Units.{one_each}
 use Rattle.ocr_rule.specs.declared.debts.Debts.{Debts}
 use Rattle.ocr_rule.specs.declared.view.View.{View}
 use Rattle.ocr_rule.specs.declared.view.Terms.{Terms}
+
+-- the unit of a message that is delivered
+abbrev pub delivered : Option (ℕ × ℕ) → ℕ
+delivered None = 0
+delivered (Some name) = 1
 
 abbrev pub limit_of : {G : Type 0} → Option (Terms G) → ℕ
 limit_of None = 0
@@ -29,6 +35,12 @@ pub record Deed (E P N F : Type 0) : Type 0 where
   -- what it adds to what is owed, and the EDTs whose claim it ends
   pub debts : Debts
   pub leaves : ℕ → Bool
+
+-- The units that an entry needs: for the messages that it sends, the slot that it sets, the EDT
+-- that it makes, and the EDTs that it resumes.
+abbrev pub needed : {E P N F : Type 0} → Deed E P N F → ℕ
+needed d = length d.sends + (tally one_each d.debts.unput + (weigh
+    one_each d.debts.made + sum_of one_each d.debts.resumes))
 
 abbrev pub deed : {G E P N F : Type 0} → Meaning G E P N F → ℕ → View G E P N F → E → List (ℕ × P)
     → List N → Deed E P N F
@@ -71,7 +83,16 @@ module _ {G E P N F : Type 0} where
     out = 0;
     debts = no_debts;
     claims = [];
+    spares = 1;
+    raised = 0;
+    gained = 0;
+    live = None;
+    quiet = None;
   }
+
+  -- the units that an entry ends: that of the message that it delivers, and those of claims
+  abbrev pub freed : View G E P N F → Deed E P N F → ℕ
+  freed v d = delivered d.delivers + sum_of (λ n. is_true (d.leaves n)) v.claims
 
   -- after an entry
   abbrev pub logged : View G E P N F → ℕ → Deed E P N F → View G E P N F
@@ -84,6 +105,7 @@ module _ {G E P N F : Type 0} where
     facts = v.facts ++ d.learns;
     debts = both_debts v.debts d.debts;
     claims = without_all d.leaves v.claims;
+    spares = v.spares + freed v d - needed d;
   }
 
   -- after an entry that ends the run, with the facts that it tells
@@ -136,10 +158,22 @@ module _ {G E P N F : Type 0} where
     out = 0;
     debts = no_debts;
     claims = [];
+    spares = 0;
+    raised = 0;
+    gained = 0;
+    live = None;
+    quiet = None;
   }
 
   abbrev pub parted : View G E P N F → View G E P N F
   parted v = record v { quota = v.quota - 1; out = v.out + 1 }
+
+  -- the same where one spare unit goes with the new seat
+  abbrev pub fresh_spare : View G E P N F → View G E P N F
+  fresh_spare v = record (fresh v) { spares = 1 }
+
+  abbrev pub parted_spare : View G E P N F → View G E P N F
+  parted_spare v = record (parted v) { spares = v.spares - 1 }
 
   -- of the root that a seat was joined into, and what is left of the other
   abbrev pub gathered : View G E P N F → View G E P N F → View G E P N F
@@ -159,6 +193,9 @@ module _ {G E P N F : Type 0} where
     out = v.out - 1;
     debts = both_debts v.debts w.debts;
     claims = v.claims ++ w.claims;
+    spares = v.spares + w.spares;
+    gained = v.gained + (w.raised + w.gained);
+    quiet = option_or v.quiet w.quiet;
   }
 
   abbrev pub spent_view : View G E P N F
@@ -185,6 +222,11 @@ module _ {G E P N F : Type 0} where
     out = 0;
     debts = no_debts;
     claims = [];
+    spares = 0;
+    raised = 0;
+    gained = 0;
+    live = None;
+    quiet = None;
   }
 
   -- WHAT A STEP TELLS of the history

@@ -13,4 +13,6 @@ pub struct Debts {
     pub resumes: LinkedList<u64>,
     /// the EDTs of which it counted the last unit
     pub lasts: LinkedList<u64>,
+    /// the EDTs that it made ready, as it counted the last unit or resumed them, in this order
+    pub readied: LinkedList<u64>,
 }

@@ -15,4 +15,4 @@ pub use debts::Debts;
 pub use laws::sole_laws;
 pub use machine::Machine;
 pub use view::{Terms, View};
-pub use words::WordStep;
+pub use words::{LiveStep, WordStep};

@@ -139,3 +139,12 @@ impl<G, E, P, N, F> Join<View<G, E, P, N, F>> for Cut {
 
     ghost spent = { steps.spent_view };
 }
+
+/// A new seat with a spare unit of the root's.
+pub struct CutSpare;
+
+impl<G, E, P, N, F> Split<View<G, E, P, N, F>> for CutSpare {
+    ghost left = { steps.parted_spare };
+
+    ghost right = { steps.fresh_spare };
+}

@@ -59,4 +59,14 @@ pub struct View<G, E, P, N, F> {
     pub debts: Debts,
     /// The EDTs that it has claimed.
     pub claims: LinkedList<u64>,
+    /// Its units that stand for nothing yet.
+    pub spares: u64,
+    /// What it raised the live word by.
+    pub raised: u64,
+    /// What the clerks that were joined into it raised it by.
+    pub gained: u64,
+    /// The live word, as it read it last.
+    pub live: Option<u64>,
+    /// How many entries it read once it had read the live word as 0.
+    pub quiet: Option<u64>,
 }

@@ -16,6 +16,7 @@ pub mod Own
 pub mod Parts
 pub mod Phases
 pub mod Places
+pub mod Readied
 pub mod Served
 pub mod Settled
 pub mod Shared

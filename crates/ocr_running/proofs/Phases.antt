@@ -14,6 +14,7 @@ use Rattle.ocr_parts.specs.Messages.{payload_of_end}
 use Rattle.ocr_parts.specs.Parts.{Parts}
 use Rattle.ocr_parts.specs.Taken.{as_face, face_in, is_within, look, parts_in}
 use Rattle.ocr_rule.specs.Contract.{SameRoom}
+use Rattle.ocr_rule.specs.Living.{raising}
 use Rattle.ocr_rule.specs.Steps.{deed, logged}
 use Rattle.ocr_rule.specs.Sums.{find, keys, one_at, replace, weigh}
 use Rattle.ocr_facts.specs.Clerks.{OcrTerms, OcrView}
@@ -128,7 +129,8 @@ kept_from t old mid new e h view hand kept once enters =
       later = r.later;
       sent = r.sent;
       step = r.step;
-      view = r.view ∙ ap (λ (v : OcrView). logged v r.number (deed meaning t.limit v e r.later r.sent)) view;
+      paid = r.paid;
+      view = r.view ∙ ap (λ (v : OcrView). logged (raising v r.paid) r.number (deed meaning t.limit v e r.later r.sent)) view;
       kept = r.kept;
       hand = r.hand;
       sees = r.sees;

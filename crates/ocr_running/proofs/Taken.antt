@@ -101,7 +101,7 @@ pub work_lifted : (table : OcrTable) (p : Checked) (old new : OcrKnown) (place :
 work_lifted table p old new place work rest replaced =
     let l = ap (λ (ps : List (ℕ × Option Part)). length ps) replaced ∙ replace_length place None old.parts in
     let room = rest.2.0 in let spare = rest.2.1 in
-    work_still table p old new old.view work rest.0 rest.1 (record { terms = refl; root = refl; seat = refl; out = refl; joined = refl; log = refl; weight = refl; drawn = refl; full = refl; reached = refl; closed = refl })
+    work_still table p old new old.view work rest.0 rest.1 (record { terms = refl; root = refl; seat = refl; out = refl; joined = refl; log = refl; weight = refl; drawn = refl; full = refl; reached = refl; closed = refl; stake = omega arith; raised = refl; ended = refl })
     (omega (arith, room)) (omega (arith, spare, l))
 
 -- a push that was not refused

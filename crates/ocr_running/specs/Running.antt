@@ -27,8 +27,6 @@ use Rattle.ocr_rule.specs.Steps.{Sees}
 use Rattle.ocr_rule.specs.Sums.{as_some, keys}
 use Rattle.ocr_facts.specs.Clerks.{OcrTerms, OcrView}
 use Rattle.ocr_facts.specs.Ocr.{beside, counts, meaning}
-use Rattle.ocr_steal.specs.declared.hand.Hand as deque
-use Rattle.ocr_steal.specs.Hand.{IsSame, knows, misses_of}
 use Rattle.ocr_clerks.specs.Entering.{Hand, OcrKnown}
 use Rattle.ocr_clerks.specs.Work.{HasTakenOn, RunsOnly, lifted, ready_with}
 use Rattle.ocr_running.specs.Calls.{home_for}
@@ -118,12 +116,6 @@ pub record HasEntered (t : OcrTerms) (edt : ℕ) (b : Body) (c : OcrKnown) (plac
 pub record IsCalled (edt : ℕ) (c : body.Call) (a : Answer) (old new : OcrKnown) : Type 0 where
   pub log : own_log new.view.log edt ≡ record { call = c; answer = a } ∷ own_log old.view.log edt
   pub holds : holds_at new ≡ after_call c a (holds_at old)
-
--- A HAND that was pushed to at most
-pub record IsPushed (old new : deque.Hand) : Type 0 where
-  pub same : IsSame old new
-  pub knows_same : knows new ≡ knows old
-  pub misses : misses_of new ≡ misses_of old
 
 -- THE START. The plan that the slots tell of whoever starts, and the parts that it keeps
 abbrev pub slots_in : Part → List Slot

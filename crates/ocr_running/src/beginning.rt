@@ -1,6 +1,7 @@
 // The Start of an EDT.
 ghost use Rattle.std.specs.Prelude.{◌≡◌, OnOk, OnErr};
 ghost use Rattle.ocr_clerks.specs.Entering.{Hand};
+ghost use Rattle.ocr_clerks.specs.Pushing.{ReadiesNone};
 ghost use Rattle.ocr_clerks.specs.Work.{AtWork, CanRun, IsGone, Stays};
 ghost use Rattle.ocr_running.specs.Running.{IsBegun, hand_at};
 
@@ -27,6 +28,7 @@ pub fn start<R: Wait, G: Gate>(
     requires work { AtWork job.now.turns.now job.now.program.now clerk.old }
     requires can { CanRun job.now.turns.now.1 edt payloads.now clerk.old }
     ensures stays { Stays clerk.old clerk.new }
+    ensures readied { OnOk result (ReadiesNone clerk.old clerk.new) }
     ensures work { OnOk result (AtWork job.now.turns.now job.now.program.now clerk.new) }
     ensures begun { OnOk result (IsBegun job.now.turns.now.1 edt payloads.now
         clerk.old clerk.new) }

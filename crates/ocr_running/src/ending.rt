@@ -10,6 +10,7 @@ ghost use Rattle.ocr_parts.specs.Messages.{payload_of_end};
 ghost use Rattle.ocr_parts.specs.Taken.{face_in, is_within};
 ghost use Rattle.ocr_rule.specs.Sums.{find};
 ghost use Rattle.ocr_clerks.specs.Entering.{Hand, OcrKnown};
+ghost use Rattle.ocr_clerks.specs.Pushing.{ReadiesNone};
 ghost use Rattle.ocr_clerks.specs.Work.{AtWork, IsGone, IsIdle, Stays, in_hand};
 ghost use Rattle.ocr_running.specs.Running.{HasTaken, IsNewest, Runs, held_at, returned_faces};
 ghost use Rattle.ocr_running.specs.Serving.{own_log};
@@ -46,6 +47,7 @@ pub fn end<R: Wait, G: Gate>(
     requires ends { says s.0 (own_log s.1.1.0.view.log edt) ≡ Ends returned s.1.0 }
     requires free { held_at s.1.1.0 ≡ [] }
     ensures stays { Stays clerk.old clerk.new }
+    ensures readied { OnOk result (ReadiesNone clerk.old clerk.new) }
     ensures work { OnOk result (AtWork job.now.turns.now job.now.program.now clerk.new) }
     ensures idle { OnOk result (IsIdle clerk.new) }
     ensures newest { OnOk result (IsNewest (an.End edt returned) clerk.old.view clerk.new.view) }

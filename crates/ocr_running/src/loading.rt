@@ -6,6 +6,7 @@ ghost use Rattle.ocr_meaning.specs.Body.{Body, says};
 ghost use Rattle.ocr_meaning.specs.Holds.{Entered, Refused, load_of};
 ghost use Rattle.ocr_meaning.specs.declared.call.BodyStop.{BodyStop};
 ghost use Rattle.ocr_clerks.specs.Entering.{OcrKnown};
+ghost use Rattle.ocr_clerks.specs.Pushing.{ReadiesNone};
 ghost use Rattle.ocr_clerks.specs.Work.{AtWork, IsGone, Stays};
 ghost use Rattle.ocr_running.specs.Accesses.{HasWord, IfFault, OnGoing, OnOver, second_in, word_at};
 ghost use Rattle.ocr_running.specs.Running.{IsCalled, Runs, holds_at};
@@ -39,6 +40,7 @@ pub fn load<R: Wait, G: Gate>(
     requires next { IsNextWhereEntered (load_of (holds_at clerk.old block) word)
         (Call.Load block word) (says b (own_log clerk.old.view.log edt)) }
     ensures stays { Stays clerk.old clerk.new }
+    ensures readied { OnGoing result (ReadiesNone clerk.old clerk.new) }
     ensures work { OnGoing result (AtWork job.now.turns.now job.now.program.now clerk.new) }
     ensures runs { OnGoing result (Runs job.now.turns.now.1 edt b clerk.new) }
     ensures ok { IfOk result (λ v. IsAccessed (load_of (holds_at clerk.old block) word)
@@ -76,6 +78,7 @@ fn load_shared<R: Wait, G: Gate>(
     requires next { IsNextWith (Call.Load block word) []
         (says s.0 (own_log clerk.old.view.log edt)) }
     ensures stays { Stays clerk.old clerk.new }
+    ensures readied { OnOk result (ReadiesNone clerk.old clerk.new) }
     ensures work { OnOk result (AtWork job.now.turns.now job.now.program.now clerk.new) }
     ensures runs { OnOk result (Runs job.now.turns.now.1 edt s.0 clerk.new) }
     ensures called { IfOk result (λ v. IsCalled edt (Call.Load block word) (answer_with v)

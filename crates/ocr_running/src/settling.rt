@@ -2,11 +2,12 @@
 // resumed are made ready.
 ghost use Rattle.std.specs.Prelude.{◌≡◌, ◌∷◌, [], List, ℕ, OnOk, OnErr};
 ghost use Rattle.ocr_meaning.specs.Body.{Body};
+ghost use Rattle.ocr_clerks.specs.Pushing.{IsPushed, PushesReady};
 ghost use Rattle.ocr_clerks.specs.Work.{AtWork, IsGone, Stays};
 ghost use Rattle.ocr_rule.specs.Owing.{listed};
-ghost use Rattle.ocr_running.specs.Running.{AreOthers, HasEntered, IsPushed, Runs, first_in, holds_at};
+ghost use Rattle.ocr_running.specs.Running.{AreOthers, HasEntered, Runs, first_in, holds_at};
 
-use ocr_clerks::{Gate, Job, Ocr, Over, close_memory, give_faces};
+use ocr_clerks::{Gate, Job, Ocr, Over, give_faces, push_ready};
 use ocr_count::{Down, count_made, resume};
 use ocr_guid::Guid;
 use ocr_steal::Hand;
@@ -33,13 +34,12 @@ pub(crate) fn resume_all<R: Wait, G: Gate>(
     ensures log { OnOk result (clerk.new.view.log ≡ clerk.old.view.log) }
     ensures parts { OnOk result (clerk.new.parts ≡ clerk.old.parts) }
     ensures hand { IsPushed hand.old hand.new }
+    ensures pushed { OnOk result (PushesReady clerk.old clerk.new hand.old hand.new) }
     ensures gone { OnErr result (IsGone job.now.turns.now worker clerk.new) }
 {
     for woken in resumed {
         resume(job.turns, clerk, *woken);
-        if hand.push(alloc, *woken).is_err() {
-            return Err(close_memory(job, worker, clerk));
-        }
+        push_ready(alloc, job, worker, clerk, hand, *woken)?;
     }
     Ok(())
 }
@@ -67,16 +67,12 @@ pub(crate) fn count_new<R: Wait, G: Gate>(
     ensures log { OnOk result (clerk.new.view.log ≡ clerk.old.view.log) }
     ensures parts { OnOk result (clerk.new.parts ≡ clerk.old.parts) }
     ensures hand { IsPushed hand.old hand.new }
+    ensures pushed { OnOk result (PushesReady clerk.old clerk.new hand.old hand.new) }
     ensures gone { OnErr result (IsGone job.now.turns.now worker clerk.new) }
 {
     match count_made(job.turns, clerk, new, slots) {
         Down::More(_) => Ok(()),
-        Down::Last => {
-            if hand.push(alloc, new).is_err() {
-                return Err(close_memory(job, worker, clerk));
-            }
-            Ok(())
-        }
+        Down::Last => push_ready(alloc, job, worker, clerk, hand, new),
     }
 }
 
@@ -100,6 +96,7 @@ fn count_any<R: Wait, G: Gate>(
     ensures log { OnOk result (clerk.new.view.log ≡ clerk.old.view.log) }
     ensures parts { OnOk result (clerk.new.parts ≡ clerk.old.parts) }
     ensures hand { IsPushed hand.old hand.new }
+    ensures pushed { OnOk result (PushesReady clerk.old clerk.new hand.old hand.new) }
     ensures gone { OnErr result (IsGone job.now.turns.now worker clerk.new) }
 {
     match made {
@@ -135,6 +132,7 @@ pub fn settle<R: Wait, G: Gate>(
     ensures holds { OnOk result (holds_at clerk.new ≡ holds_at clerk.old) }
     ensures core { OnOk result (first_in clerk.new.parts ≡ first_in clerk.old.parts) }
     ensures hand { IsPushed hand.old hand.new }
+    ensures pushed { OnOk result (PushesReady clerk.old clerk.new hand.old hand.new) }
     ensures gone { OnErr result (IsGone job.now.turns.now worker clerk.new) }
 {
     count_any(alloc, job, worker, clerk, hand, edt, made)?;

@@ -4,6 +4,7 @@ ghost use Rattle.ocr_api.specs.Serving.{answer_with};
 ghost use Rattle.ocr_meaning.specs.Behaviour.{IsNextWith};
 ghost use Rattle.ocr_meaning.specs.Body.{Body, says};
 ghost use Rattle.ocr_clerks.specs.Entering.{OcrKnown};
+ghost use Rattle.ocr_clerks.specs.Pushing.{ReadiesNone};
 ghost use Rattle.ocr_clerks.specs.Work.{AtWork, IsGone, Stays};
 ghost use Rattle.ocr_running.specs.Accesses.{EntersIn, HasWord, IsAccessOf, second_in};
 ghost use Rattle.ocr_running.specs.Running.{HasLifted, IsCalled, Runs, holds_at};
@@ -35,6 +36,7 @@ pub(crate) fn lift_shared<R: Wait, G: Gate>(
     requires runs { Runs job.now.turns.now.1 edt b clerk.old }
     requires entered { (word : ℕ) × EntersIn (holds_at clerk.old) block word }
     ensures stays { Stays clerk.old clerk.new }
+    ensures readied { OnOk result (ReadiesNone clerk.old clerk.new) }
     ensures work { OnOk result (AtWork job.now.turns.now job.now.program.now clerk.new) }
     ensures lifted { IfOk result (λ v. HasLifted job.now.turns.now.1 edt clerk.old clerk.new
         (block ∷ []) [] v.items) }
@@ -70,6 +72,7 @@ pub(crate) fn enter_access<R: Wait, G: Gate>(
     requires next { IsNextWith call [] (says s.0 (own_log s.1.view.log edt)) }
     requires access { IsAccessOf (holds_at s.1) block call value (second_in parts.items) }
     ensures stays { Stays clerk.old clerk.new }
+    ensures readied { OnOk result (ReadiesNone clerk.old clerk.new) }
     ensures work { OnOk result (AtWork job.now.turns.now job.now.program.now clerk.new) }
     ensures runs { OnOk result (Runs job.now.turns.now.1 edt s.0 clerk.new) }
     ensures called { OnOk result (IsCalled edt call (answer_with value) s.1 clerk.new) }

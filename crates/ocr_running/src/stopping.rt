@@ -1,9 +1,9 @@
 // A body that stops the run.
-ghost use Rattle.std.specs.Prelude.{◌≡◌};
+ghost use Rattle.std.specs.Prelude.{◌≡◌, ◌⊎◌, Some, is_some, true};
 ghost use Rattle.ocr_meaning.specs.Behaviour.{Stops};
 ghost use Rattle.ocr_meaning.specs.Body.{Body, says};
 ghost use Rattle.ocr_meaning.specs.Laws.{IsSaid};
-ghost use Rattle.ocr_clerks.specs.Work.{AtWork, IsGone, Stays};
+ghost use Rattle.ocr_clerks.specs.Work.{AtWork, IsGone, Stays, stop_in};
 ghost use Rattle.ocr_running.specs.Serving.{Serves, own_log};
 ghost use Rattle.ocr_running.specs.Stops.{stop_for};
 
@@ -14,7 +14,8 @@ use ocr_meaning::BodyStop;
 use ocr_turns::Clerk;
 use std::sync::Wait;
 
-/// Ends the run where the body of the EDT says so: a shutdown, an abort or a fault.
+/// Ends the run where the body of the EDT says so: a shutdown, an abort or a fault. This Stop is in
+/// the log then, unless the run had ended before.
 pub fn stop_run<R: Wait, G: Gate>(
     job: &Job<R, G>,
     worker: u32,
@@ -29,6 +30,8 @@ pub fn stop_run<R: Wait, G: Gate>(
     requires says { says b (own_log clerk.old.view.log edt) ≡ Stops stop }
     ensures stays { Stays clerk.old clerk.new }
     ensures gone { IsGone job.now.turns.now worker clerk.new }
+    ensures made { (is_some clerk.new.view.closed ≡ true)
+        ⊎ (stop_in clerk.new.view.log ≡ Some (stop_for edt stop)) }
 {
     close(job, worker, clerk, stop_of(edt, stop))
 }

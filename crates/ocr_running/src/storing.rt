@@ -6,6 +6,7 @@ ghost use Rattle.ocr_meaning.specs.Body.{Body, says};
 ghost use Rattle.ocr_meaning.specs.Holds.{Entered, Refused, Silent, after_store, store_of};
 ghost use Rattle.ocr_meaning.specs.declared.call.BodyStop.{BodyStop};
 ghost use Rattle.ocr_clerks.specs.Entering.{OcrKnown};
+ghost use Rattle.ocr_clerks.specs.Pushing.{ReadiesNone};
 ghost use Rattle.ocr_clerks.specs.Work.{AtWork, IsGone, Stays};
 ghost use Rattle.ocr_datablock.specs.Lent as lent;
 ghost use Rattle.ocr_parts.specs.Kinds.{kept_on, on_core};
@@ -46,6 +47,7 @@ pub fn store<R: Wait, G: Gate>(
     requires next { IsNextWhereEntered (store_of (holds_at clerk.old block) word)
         (Call.Store block word value) (says b (own_log clerk.old.view.log edt)) }
     ensures stays { Stays clerk.old clerk.new }
+    ensures readied { OnGoing result (ReadiesNone clerk.old clerk.new) }
     ensures work { OnGoing result (AtWork job.now.turns.now job.now.program.now clerk.new) }
     ensures runs { OnGoing result (Runs job.now.turns.now.1 edt b clerk.new) }
     ensures ok { OnOk result (IsAccessed (store_of (holds_at clerk.old block) word)
@@ -92,6 +94,7 @@ fn store_lent<R: Wait, G: Gate>(
     requires runs { Runs job.now.turns.now.1 edt b clerk.old }
     requires silent { (x : ℕ) × (store_of (holds_at clerk.old block) word ≡ Silent x) }
     ensures stays { Stays clerk.old clerk.new }
+    ensures readied { OnOk result (ReadiesNone clerk.old clerk.new) }
     ensures work { OnOk result (AtWork job.now.turns.now job.now.program.now clerk.new) }
     ensures runs { OnOk result (Runs job.now.turns.now.1 edt b clerk.new) }
     ensures log { OnOk result (clerk.new.view.log ≡ clerk.old.view.log) }
@@ -145,6 +148,7 @@ fn store_shared<R: Wait, G: Gate>(
     requires next { IsNextWith (Call.Store block word value) []
         (says s.0 (own_log clerk.old.view.log edt)) }
     ensures stays { Stays clerk.old clerk.new }
+    ensures readied { OnOk result (ReadiesNone clerk.old clerk.new) }
     ensures work { OnOk result (AtWork job.now.turns.now job.now.program.now clerk.new) }
     ensures runs { OnOk result (Runs job.now.turns.now.1 edt s.0 clerk.new) }
     ensures called { OnOk result (IsCalled edt (Call.Store block word value) (answer_with 0)

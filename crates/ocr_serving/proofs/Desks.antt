@@ -18,16 +18,18 @@ use Rattle.ocr_meaning.specs.declared.call.Call.TheVariants as call
 use Rattle.ocr_meaning.proofs.Makes.{served_law}
 use Rattle.ocr_steal.specs.declared.hand.Hand.{Hand}
 use Rattle.ocr_clerks.specs.Entering.{OcrKnown}
+use Rattle.ocr_clerks.specs.Pushing.{IsPushed, PushesReady, ReadiesNone}
 use Rattle.ocr_clerks.specs.Work.{AtWork, IsGone, OcrTable}
 use Rattle.ocr_clerks.specs.declared.over.Over.{Over}
+use Rattle.ocr_clerks.proofs.Pushing.{pushes_then, then_none}
 use Rattle.ocr_running.specs.Accesses.{OnOver}
 use Rattle.ocr_running.specs.Calls.{IsCoded}
 use Rattle.ocr_running.specs.declared.accessing.Refusal.{Refusal}
 use Rattle.ocr_running.specs.declared.accessing.Refusal.TheVariants as refusal
-use Rattle.ocr_running.specs.Running.{IsPushed, Runs, holds_at}
+use Rattle.ocr_running.specs.Running.{Runs, holds_at}
 use Rattle.ocr_running.specs.Serving.{own_log}
 use Rattle.ocr_running.proofs.Calls.{served_coded}
-use Rattle.ocr_serving.specs.Serving.{AtDesk, IsReady, holds_while, state_in}
+use Rattle.ocr_serving.specs.Serving.{AtDesk, IsReady, PushesSince, holds_while, state_in}
 use Rattle.ocr_facts.proofs.Lawful.{asked_call}
 
 -- WHAT IT SAYS NEXT is a call that a code answers
@@ -101,6 +103,16 @@ module _ {A : Type 0} where
 
   pub ready_gone : (o : Option A) (x : A) (table : OcrTable) (program : Checked) (worker edt : ℕ) (b : Body) (c : OcrKnown) (n : ℕ) → o ≡ Some x → IsReady o table program worker edt b c n → IsGone table worker c
   ready_gone o x table program worker edt b c n is ready = subst (λ (p : Option A). IsReady p table program worker edt b c n) is ready
+
+-- WHAT WAS PUSHED since the start of the body, and by one call more
+module _ {A : Type 0} where
+  pub since_then : (o : Option A) (old mid new : OcrKnown) (before between after : Hand) → PushesSince o old mid before between → PushesReady mid new between after → PushesSince o old new before after
+  since_then None old mid new before between after since more = pushes_then old mid new before between after since more
+  since_then (Some x) old mid new before between after since more = tt
+
+  pub since_none : (o : Option A) (old mid new : OcrKnown) (before after : Hand) → PushesSince o old mid before after → ReadiesNone mid new → PushesSince o old new before after
+  since_none None old mid new before after since none = then_none old mid new before after since none
+  since_none (Some x) old mid new before after since none = tt
 
 -- AN ACCESS that was not done
 pub fit_over : (A : Type 0) (r : Refusal) (over : Over) (P : Type 0) → r ≡ refusal.Over over → OnOver {A = A} (Err r) P → P

@@ -14,11 +14,14 @@ use Rattle.ocr_facts.specs.Clerks.{OcrView}
 use Rattle.ocr_facts.specs.Ocr.{wakes}
 use Rattle.ocr_facts.proofs.Places.{within_is}
 use Rattle.ocr_clerks.specs.Entering.{CanMake, OcrKnown}
-use Rattle.ocr_clerks.specs.Work.{AtWork, EntersKept, HasAllAtHand, OcrTable, Took, in_hand}
+use Rattle.ocr_clerks.specs.Pushing.{ReadiesNone}
+use Rattle.ocr_clerks.specs.Work.{AtWork, EntersKept, HasAllAtHand, HasFewDuties, OcrTable, Took, in_hand}
+use Rattle.ocr_clerks.proofs.Pushing.{kept_readies, took_readies}
 use Rattle.ocr_running.specs.Loans.{core_after}
 use Rattle.ocr_running.specs.Running.{AreOthers, HasEntered, HasTaken, Runs, first_in, held_at, holds_at}
 use Rattle.ocr_running.specs.Serving.{own_log}
 use Rattle.ocr_running.proofs.Asked.{took_is}
+use Rattle.ocr_running.proofs.Readied.{kept_duties}
 use Rattle.ocr_serving.specs.Serving.{HasReturned}
 use Rattle.ocr_starting.specs.Starting.{StepsCore}
 use Rattle.ocr_serving.proofs.Frees.{can_free, free_held, free_leaves, free_left, free_own, has_both, held_within, other_face}
@@ -48,6 +51,9 @@ module _ (table : OcrTable) (program : Checked) (edt d : ℕ) (b : Body) (c0 c1 
     taken : HasTaken table.1 edt c1 c2 (d ∷ [])
     taken = took_is table.1 edt b c1 c2 (d ∷ []) runs1 took
 
+    pub duties_then : HasFewDuties c2.view
+    duties_then = kept_duties table.1 edt b c1 c2 (d ∷ []) runs1 taken
+
     pub has_then : (places : List ℕ) → places ≡ (table.1.limit + edt) ∷ d ∷ [] → HasAllAtHand c2 places
     has_then places is = has_both table program edt d w b c1 c2 work2 runs1 taken low1 least1 places is
 
@@ -60,6 +66,10 @@ module _ (table : OcrTable) (program : Checked) (edt d : ℕ) (b : Body) (c0 c1 
     module _ (c3 : OcrKnown) (done : EntersKept table.1 c2 c3 (Free edt d w) (record { members = []; parts = in_hand c2.parts })) where
       pub entered_then : HasEntered table.1 edt b c3 (d ∷ []) [] (wakes table.1.limit (Free edt d w) c2.view.parts)
       entered_then = free_leaves table program edt d w b c1 c2 work2 runs1 taken low1 least1 c3 done
+
+      pub readied_then : ReadiesNone c0 c3
+      readied_then =
+          kept_readies table.1 c2 c3 _ _ done ∙ (took_readies c1 c2 (d ∷ []) took ∙ ap (λ (v : OcrView). v.debts.readied) steps.view)
 
       module _ (c4 : OcrKnown) (runs4 : Runs table.1 edt b c4) (log4 : c4.view.log ≡ c3.view.log) (core4 : first_in c4.parts ≡ first_in c3.parts) where
         pub held_then : held_at c4 ≡ without d (held_at c0)

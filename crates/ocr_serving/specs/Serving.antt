@@ -1,5 +1,5 @@
 -- A clerk that runs the body of an EDT, to its end.
-use Rattle.std.specs.Prelude.{◌≡◌, ℕ, List, [], ◌∷◌, ◌++◌, Bool, true, false, Option, Some, None, is_some}
+use Rattle.std.specs.Prelude.{◌≡◌, ℕ, List, [], ◌∷◌, ◌++◌, Bool, true, false, ◌⊎◌, Option, Some, None, is_some}
 use Rattle.ocr_acquire.specs.Mode.{mode_in}
 use Rattle.ocr_code.specs.declared.checked.Checked.{Checked}
 use Rattle.ocr_meaning.specs.Behaviour.{Behaviour, Ends}
@@ -10,10 +10,13 @@ use Rattle.ocr_meaning.specs.declared.call.BodyStop.TheVariants as stop
 use Rattle.ocr_history.specs.declared.entry.Entry.{Entry}
 use Rattle.ocr_history.specs.declared.entry.Entry.TheVariants as an
 use Rattle.ocr_facts.specs.Clerks.{OcrTerms}
+use Rattle.ocr_steal.specs.declared.hand.Hand as deque
 use Rattle.ocr_clerks.specs.Entering.{OcrKnown}
-use Rattle.ocr_clerks.specs.Work.{AtWork, IsGone, OcrTable}
+use Rattle.ocr_clerks.specs.Pushing.{PushesReady}
+use Rattle.ocr_clerks.specs.Work.{AtWork, IsGone, OcrTable, stop_in}
 use Rattle.ocr_running.specs.Running.{Runs, held_at, holds_at}
 use Rattle.ocr_running.specs.Serving.{own_log}
+use Rattle.ocr_running.specs.Stops.{stop_for}
 
 -- AT THE DESK, while the run was not found ended
 pub record AtDesk (table : OcrTable) (program : Checked) (edt : ℕ) (b : Body) (c : OcrKnown)
@@ -27,6 +30,12 @@ abbrev pub IsReady : {A : Type 0} → Option A → OcrTable → Checked → (wor
     → OcrKnown → ℕ → Type 0
 IsReady None table program worker edt b c closings = AtDesk table program edt b c closings
 IsReady (Some over) table program worker edt b c closings = IsGone table worker c
+
+-- and what was pushed since then, where it was not
+abbrev pub PushesSince : {A : Type 0} → Option A → (old new : OcrKnown)
+    → (before after : deque.Hand) → Type 0
+PushesSince None old new before after = PushesReady old new before after
+PushesSince (Some over) old new before after = Unit {0}
 
 -- the clerk now, or before the call in which the run was found ended
 abbrev pub state_in : {A : Type 0} → Option A → (now last : OcrKnown) → OcrKnown
@@ -42,6 +51,11 @@ holds_while (Some over) c = no_holds
 abbrev pub is_for_memory : BodyStop → Bool
 is_for_memory stop.NoMemory = true
 is_for_memory other = false
+
+-- STOPPED: else the log has the Stop that the body asked for, unless the run had ended before
+abbrev pub HasStopped : (edt : ℕ) → BodyStop → OcrKnown → Type 0
+HasStopped edt stop c = is_for_memory stop ≡ false
+    → (is_some c.view.closed ≡ true) ⊎ (stop_in c.view.log ≡ Some (stop_for edt stop))
 
 -- what the EDT holds where its body ends so
 abbrev pub end_holds : Behaviour → Holds

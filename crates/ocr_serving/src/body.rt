@@ -3,11 +3,11 @@ ghost use Rattle.std.specs.Prelude.{◌≡◌, ◌⊎◌, OnOk, OnErr, IfErr, If
 ghost use Rattle.ocr_meaning.specs.Behaviour.{Stops};
 ghost use Rattle.ocr_meaning.specs.Body.{Body, says};
 ghost use Rattle.ocr_meaning.specs.Laws.{IsSaid};
+ghost use Rattle.ocr_clerks.specs.Pushing.{IsPushed, PushesReady};
 ghost use Rattle.ocr_clerks.specs.Work.{AtWork, CanRun, IsGone, IsIdle, Stays};
-ghost use Rattle.ocr_running.specs.Running.{IsPushed};
 ghost use Rattle.ocr_running.specs.Serving.{Serves, own_log};
 ghost use Rattle.ocr_starting.specs.Given.{body_given};
-ghost use Rattle.ocr_serving.specs.Serving.{EndsNow, HasReturned, is_for_memory};
+ghost use Rattle.ocr_serving.specs.Serving.{EndsNow, HasReturned, HasStopped, is_for_memory};
 ghost use Rattle.ocr_starting.specs.Starting.{IsGiven};
 
 use crate::desk::Desk;
@@ -44,6 +44,7 @@ pub fn run_body<R: Wait, G: Gate>(
     ensures idle { OnOk result (IsIdle clerk.new) }
     ensures ended { OnOk result (EndsNow edt clerk.old clerk.new) }
     ensures hand { IsPushed hand.old hand.new }
+    ensures pushed { OnOk result (PushesReady clerk.old clerk.new hand.old hand.new) }
     ensures gone { OnErr result (IsGone job.now.turns.now worker clerk.new) }
 {
     let given = begin(alloc, job, worker, clerk, edt, payloads)?;
@@ -69,6 +70,7 @@ fn run_given<R: Wait, G: Gate>(
     ensures idle { OnOk result (IsIdle clerk.new) }
     ensures ended { OnOk result (EndsNow edt clerk.old clerk.new) }
     ensures hand { IsPushed hand.old hand.new }
+    ensures pushed { OnOk result (PushesReady clerk.old clerk.new hand.old hand.new) }
     ensures gone { OnErr result (IsGone job.now.turns.now worker clerk.new) }
 {
     let pushed = Snapshot::of(&*hand);
@@ -135,7 +137,9 @@ fn end_body<R: Wait, G: Gate>(
     ensures idle { OnOk result (IsIdle clerk.new) }
     ensures ended { OnOk result (EndsNow edt clerk.old clerk.new) }
     ensures hand { IsPushed hand.old hand.new }
+    ensures pushed { OnOk result (PushesReady clerk.old clerk.new hand.old hand.new) }
     ensures gone { OnErr result (IsGone job.now.turns.now worker clerk.new) }
+    ensures stopped { IfErr ending (λ stop. HasStopped edt stop clerk.new) }
 {
     let returned = match ending {
         Ok(returned) => returned,
@@ -160,6 +164,7 @@ fn stop_body<R: Wait, G: Gate>(
         ⊎ (IsSaid stop × (says b (own_log clerk.old.view.log edt) ≡ Stops stop)) }
     ensures stays { Stays clerk.old clerk.new }
     ensures gone { IsGone job.now.turns.now worker clerk.new }
+    ensures stopped { HasStopped edt stop clerk.new }
 {
     if is_memory(stop) {
         return close_memory(job, worker, clerk);

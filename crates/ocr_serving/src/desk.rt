@@ -8,7 +8,8 @@ ghost use Rattle.ocr_meaning.specs.Holds.{Refused, after_store, load_of, private
 ghost use Rattle.ocr_meaning.specs.declared.call.BodyStop.{BodyStop};
 ghost use Rattle.ocr_clerks.specs.Work.{AtWork, IsGone, Stays};
 ghost use Rattle.ocr_running.specs.Accesses.{IfFault, OnGoing, OnOver};
-ghost use Rattle.ocr_running.specs.Running.{IsCalled, IsPushed, Runs, holds_at};
+ghost use Rattle.ocr_clerks.specs.Pushing.{IsPushed, PushesReady, ReadiesNone};
+ghost use Rattle.ocr_running.specs.Running.{IsCalled, Runs, holds_at};
 ghost use Rattle.ocr_running.specs.Serving.{own_log};
 ghost use Rattle.ocr_starting.specs.Given.{body_given};
 
@@ -45,10 +46,10 @@ pub(crate) struct Desk<'a, 'j, R: Wait, G: Gate> {
 // Once the run has ended, the EDT holds nothing more, and its log stays as it was.
 impl<'a, 'j, R: Wait, G: Gate> Api for Desk<'a, 'j, R, G> {
     ghost use Rattle.ocr_clerks.specs.Work.{Stays};
-    ghost use Rattle.ocr_running.specs.Running.{IsPushed};
+    ghost use Rattle.ocr_clerks.specs.Pushing.{IsPushed};
     ghost use Rattle.ocr_running.specs.Serving.{own_log};
     ghost use Rattle.ocr_starting.specs.Given.{body_given};
-    ghost use Rattle.ocr_serving.specs.Serving.{IsReady, holds_while, state_in};
+    ghost use Rattle.ocr_serving.specs.Serving.{IsReady, PushesSince, holds_while, state_in};
 
     type Kept = (
         &'a Job<'j, R, G>,
@@ -66,7 +67,8 @@ impl<'a, 'j, R: Wait, G: Gate> Api for Desk<'a, 'j, R, G> {
 
     ghost is_ready = { λ d. IsReady d.over d.job.now.turns.now d.job.now.program.now d.worker d.edt
         (body_given d.job.now.program.now d.given.now) d.clerk.now d.closings
-        × Stays d.given.now.begun.value d.clerk.now × IsPushed d.pushed.value d.hand.now };
+        × Stays d.given.now.begun.value d.clerk.now × IsPushed d.pushed.value d.hand.now
+        × PushesSince d.over d.given.now.begun.value d.clerk.now d.pushed.value d.hand.now };
 
     ghost kept = { λ d. (
       d.job,
@@ -185,6 +187,7 @@ fn answer<R: Wait, G: Gate>(
     ensures runs { OnOk result (Runs job.now.turns.now.1 edt b clerk.new) }
     ensures called { IfOk result (λ a. IsCalled edt call.now a clerk.old clerk.new) }
     ensures hand { IsPushed hand.old hand.new }
+    ensures pushed { OnOk result (PushesReady clerk.old clerk.new hand.old hand.new) }
     ensures gone { OnErr result (IsGone job.now.turns.now worker clerk.new) }
 {
     make_call(alloc, job, worker, clerk, hand, edt, call)
@@ -208,6 +211,7 @@ fn load_word<R: Wait, G: Gate>(
     requires next { IsNextWhereEntered (load_of (holds_at clerk.old block) word)
         (Call.Load block word) (says b (own_log clerk.old.view.log edt)) }
     ensures stays { Stays clerk.old clerk.new }
+    ensures readied { OnGoing result (ReadiesNone clerk.old clerk.new) }
     ensures work { OnGoing result (AtWork job.now.turns.now job.now.program.now clerk.new) }
     ensures runs { OnGoing result (Runs job.now.turns.now.1 edt b clerk.new) }
     ensures ok { IfOk result (λ v. IsAccessed (load_of (holds_at clerk.old block) word)
@@ -242,6 +246,7 @@ fn store_word<R: Wait, G: Gate>(
     requires next { IsNextWhereEntered (store_of (holds_at clerk.old block) word)
         (Call.Store block word value) (says b (own_log clerk.old.view.log edt)) }
     ensures stays { Stays clerk.old clerk.new }
+    ensures readied { OnGoing result (ReadiesNone clerk.old clerk.new) }
     ensures work { OnGoing result (AtWork job.now.turns.now job.now.program.now clerk.new) }
     ensures runs { OnGoing result (Runs job.now.turns.now.1 edt b clerk.new) }
     ensures ok { OnOk result (IsAccessed (store_of (holds_at clerk.old block) word)

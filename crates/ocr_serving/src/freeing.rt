@@ -8,9 +8,10 @@ ghost use Rattle.ocr_history.specs.declared.entry.Entry.TheVariants as an;
 ghost use Rattle.ocr_parts.specs.declared.part.Core.{Core};
 ghost use Rattle.ocr_parts.specs.Taken.{is_within};
 ghost use Rattle.ocr_clerks.specs.Entering.{OcrKnown};
+ghost use Rattle.ocr_clerks.specs.Pushing.{IsPushed, PushesReady, ReadiesNone};
 ghost use Rattle.ocr_clerks.specs.Work.{AtWork, IsGone, IsIdle, Stays};
 ghost use Rattle.ocr_running.specs.Loans.{core_after};
-ghost use Rattle.ocr_running.specs.Running.{IsNewest, IsPushed, held_at, holds_at};
+ghost use Rattle.ocr_running.specs.Running.{IsNewest, held_at, holds_at};
 ghost use Rattle.ocr_starting.specs.Starting.{HasCore, StepsCore};
 ghost use Rattle.ocr_serving.specs.Serving.{HasReturned};
 
@@ -44,6 +45,7 @@ pub(crate) fn free_all<R: Wait, G: Gate>(
         → HasReturned job.now.turns.now.1 edt b g clerk.new) }
     ensures free { OnOk result (held_at clerk.new ≡ []) }
     ensures hand { IsPushed hand.old hand.new }
+    ensures pushed { OnOk result (PushesReady clerk.old clerk.new hand.old hand.new) }
     ensures gone { OnErr result (IsGone job.now.turns.now worker clerk.new) }
 {
     let place = job.turns.limit() + edt.0;
@@ -84,6 +86,7 @@ fn free<R: Wait, G: Gate>(
         → HasReturned job.now.turns.now.1 edt b g clerk.new) }
     ensures held { OnOk result (held_at clerk.new ≡ without block (held_at clerk.old)) }
     ensures hand { IsPushed hand.old hand.new }
+    ensures pushed { OnOk result (PushesReady clerk.old clerk.new hand.old hand.new) }
     ensures gone { OnErr result (IsGone job.now.turns.now worker clerk.new) }
 {
     let place = job.turns.limit() + edt.0;
@@ -142,6 +145,7 @@ pub(crate) fn finish<R: Wait, G: Gate>(
     requires returned { HasReturned job.now.turns.now.1 edt s.0 returned clerk.old }
     requires free { held_at clerk.old ≡ [] }
     ensures stays { Stays clerk.old clerk.new }
+    ensures readied { OnOk result (ReadiesNone clerk.old clerk.new) }
     ensures work { OnOk result (AtWork job.now.turns.now job.now.program.now clerk.new) }
     ensures idle { OnOk result (IsIdle clerk.new) }
     ensures newest { OnOk result (IsNewest (an.End edt returned) clerk.old.view clerk.new.view) }

@@ -7,6 +7,7 @@ ghost use Rattle.ocr_parts.specs.Kinds.{is_running};
 ghost use Rattle.ocr_slots.specs.Slots.{slot_at};
 ghost use Rattle.ocr_slots.specs.declared.Slot.{Slot};
 ghost use Rattle.ocr_rule.specs.Sums.{find};
+ghost use Rattle.ocr_clerks.specs.Pushing.{ReadiesNone};
 ghost use Rattle.ocr_clerks.specs.Work.{AtWork, CanRun, IsGone, Stays};
 ghost use Rattle.ocr_starting.specs.Given.{are_used, is_used, value_by, values_by};
 ghost use Rattle.ocr_starting.specs.Starting.{HasCore, IsGiven, IsRead, StepsCore};
@@ -48,6 +49,7 @@ pub fn begin<R: Wait, G: Gate>(
     requires work { AtWork job.now.turns.now job.now.program.now clerk.old }
     requires can { CanRun job.now.turns.now.1 edt payloads.now clerk.old }
     ensures stays { Stays clerk.old clerk.new }
+    ensures readied { OnOk result (ReadiesNone clerk.old clerk.new) }
     ensures work { OnOk result (AtWork job.now.turns.now job.now.program.now clerk.new) }
     ensures given { IfOk result (λ g. IsGiven job.now.turns.now.1 job.now.program.now edt g
         clerk.new) }

@@ -1,7 +1,7 @@
 // What is known of a deque, and the rule that every step on it keeps.
 ghost use Rattle.std.specs.Prelude.{◌≡◌, []};
 
-use crossbeam_deque::protocol::{Join, Outcome, Protocol, Split};
+use crossbeam_deque::protocol::{Join, Lesson, Outcome, Protocol, Split};
 use crossbeam_deque::{Pass, Stealer, Worker};
 use ocr_guid::Guid;
 use std::alloc::Global;
@@ -83,6 +83,13 @@ impl Outcome<Guid, Account> for Steals {
     ghost then = { λ v xs w. (port : ℕ) × TakesFirst port v xs w };
 
     ghost empty = { λ v. (port : ℕ) × IsFound port [] v };
+}
+
+/// The owner looks at the deque, and learns nothing for sure.
+pub struct Looks;
+
+impl Lesson<Guid, Account> for Looks {
+    ghost fact = { λ _ _. Unit {0} };
 }
 
 /// A deque, for its owner.

@@ -3,6 +3,7 @@
 #![tactic(auto)]
 
 mod account;
+mod bell;
 mod hand;
 mod making;
 mod moves;
@@ -10,6 +11,7 @@ mod pool;
 mod remainder;
 
 pub use account::Account;
+pub use bell::Bell;
 pub use hand::{Hand, Steal};
 pub use pool::Pool;
 pub use remainder::gather;

@@ -5,11 +5,11 @@ ghost use Rattle.ocr_steal.specs.Parts.{AreFirstInFirstOut, IsNewOwner, IsNewPas
 ghost use Rattle.ocr_steal.specs.Pool.{deques_in, hands_in, AreFresh};
 
 use crate::account::{Known, OnePart, Own, Theirs};
+use crate::bell::Bell;
 use crate::hand::Hand;
 use crate::pool::Pool;
 use ocr_base::NoMemory;
 use std::alloc::Global;
-use std::sync::atomic::AtomicU64;
 
 impl Pool {
     /// A pool and its hands, as many as are asked for, by their numbers. Each has a deque with room
@@ -22,8 +22,8 @@ impl Pool {
         let (mut owners, stealers) = deques(alloc, hands, room)?;
         let rows = rows_of(alloc, &mut owners)?;
         let hands = hands_of(alloc, owners, rows)?;
-        let resting = AtomicU64::new(0);
-        Ok((Pool { stealers, resting }, hands))
+        let bell = Bell::new();
+        Ok((Pool { stealers, bell }, hands))
     }
 
     /// How many hands the pool was made for.

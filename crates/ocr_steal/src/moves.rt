@@ -4,7 +4,7 @@ ghost use Rattle.ocr_steal.specs.Deque.{IsFound, TakesFirst};
 ghost use Rattle.ocr_steal.specs.Hand.{own, knows, misses_of, missed, pool_of, room, IsSame, HasNoMisses, IsMissed, OnSteal};
 ghost use Rattle.ocr_steal.specs.Pool.{IsOf, hands_in};
 
-use crate::account::{Pushes, Steals, Takes};
+use crate::account::{Looks, Pushes, Steals, Takes};
 use crate::hand::{Hand, Steal};
 use crate::pool::Pool;
 use crossbeam_deque::Steal as Stolen;
@@ -35,6 +35,16 @@ impl Hand {
             Ok(()) => Ok(()),
             Err(_) => Err(NoMemory),
         }
+    }
+
+    /// Whether the hand's deque has an EDT: a hint, of which no clause tells anything.
+    #[inline(always)]
+    pub fn has_any(&mut self) -> bool
+        ensures same { IsSame self.old self.new × (knows self.new ≡ knows self.old) }
+        ensures own { own self.new ≡ own self.old }
+        ensures misses { misses_of self.new ≡ misses_of self.old }
+    {
+        self.own.len_as::<Looks>() != 0
     }
 
     /// Takes the first EDT of the hand's deque. `None` exactly where the deque was found empty.

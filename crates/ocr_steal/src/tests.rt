@@ -26,18 +26,22 @@ fn hand_without_a_push_has_nothing(rt: HostRuntime) -> Result<(), Fail> {
 }
 
 #[test]
-fn all_rest_once_each_hand_rests(rt: HostRuntime) -> Result<(), Fail> {
+fn bell_wakes_one_at_a_time(rt: HostRuntime) -> Result<(), Fail> {
     let Ok((pool, _)) = Pool::new(rt.alloc(), 2, 4) else {
         assert!(rt; false);
         return Ok(())
     };
-    assert!(rt; !pool.all_rest());
-    pool.begin_rest();
-    assert!(rt; !pool.all_rest());
-    pool.begin_rest();
-    assert!(rt; pool.all_rest());
-    pool.end_rest();
-    assert!(rt; !pool.all_rest());
+    let bell = &pool.bell;
+    bell.ring();
+    assert!(rt; !bell.end_search());
+    let rung = bell.lie_down();
+    bell.ring();
+    bell.ring();
+    bell.sleep(&rt, rung, 60_000); // it rang since, so this is no sleep
+    bell.get_up();
+    assert_eq!(rt; bell.lie_down(), rung.wrapping_add(1));
+    assert!(rt; bell.end_search());
+    assert!(rt; !bell.end_search());
     Ok(())
 }
 

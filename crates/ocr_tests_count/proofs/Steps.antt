@@ -9,6 +9,7 @@ use Rattle.ocr_rule.specs.Contract.{MayCommit, MayGive, OpensWith, TermsAre, fac
 use Rattle.ocr_rule.specs.Rule.{FactsOf, PartsOf}
 use Rattle.ocr_rule.specs.Sums.{find, one_at, replace_all, sum_of, weigh}
 use Rattle.ocr_rule.specs.Owing.{times}
+use Rattle.ocr_rule.specs.Units.{one_each}
 use Rattle.ocr_rule.specs.Words.{HasSlot, Waits}
 use Rattle.ocr_rule.specs.declared.view.Terms.{Terms}
 use Rattle.ocr_rule.specs.declared.view.View.{View}
@@ -47,7 +48,7 @@ filled past zero x lt = refl
 filled past (suc zero) x lt = refl
 filled past (suc (suc k)) x lt = absurd (omega (arith, lt))
 
-one_part : (f : ℕ → ℕ) (q y : ℕ) → f q ≡ y → PartsOf (λ p x. x) f ((q, y) ∷ [])
+pub one_part : (f : ℕ → ℕ) (q y : ℕ) → f q ≡ y → PartsOf (λ p x. x) f ((q, y) ∷ [])
 one_part f q y is zero p x at = let same = some-injective (q, y) (p, x) at in ap f (sym (ap (λ (z : ℕ × ℕ). z.0) same)) ∙ is ∙ ap (λ (z : ℕ × ℕ). z.1) same
 one_part f q y is (suc k) p x at = absurd (some-ne-none (p, x) (sym at))
 
@@ -55,9 +56,11 @@ one_fact : (standing : ℕ × ℕ × ℕ → Type 0) (f : ℕ × ℕ × ℕ) →
 one_fact standing f is zero g at = subst standing (some-injective f g at) is
 one_fact standing f is (suc k) g at = absurd (some-ne-none g (sym at))
 
-pub may_set : (t : Terms ℕ) (v : Sight) (k x : ℕ) → v.parts ≡ (3 + k, 1) ∷ [] → k < 2 → v.weight + 1 ≤ t.share → MayCommit meaning t v (Set k x) ((3 + k, 2) ∷ []) []
+pub may_set : (t : Terms ℕ) (v : Sight) (k x : ℕ) → v.parts ≡ (3 + k, 1) ∷ [] → k < 2 → v.weight + 1 ≤ t.share → 1 ≤ v.spares → MayCommit meaning t v (Set k x) ((3 + k, 2) ∷ []) []
 unfolding legal part stands
-may_set t v k x are lt light = record {
+may_set t v k x are lt light pays = record {
+  unit = omega arith;
+  spares = omega arith;
   goes = refl;
   share = light;
   owes = tt;
@@ -85,9 +88,11 @@ two_parts f a b first second (suc k) p x at = one_part f 4 b second k p x at
 opened : (made : Bool) (x : Option ℕ) → slot_part made x ≡ 0 → slot_part true x ≡ 1
 opened made x is = ap (slot_part true) (is_unmade made x is)
 
-pub may_make : (t : Terms ℕ) (v : Sight) → v.parts ≡ (3, 0) ∷ (4, 0) ∷ [] → v.weight + 1 ≤ t.share → 1 ≤ sum_of (one_at 2) v.drawn → MayCommit meaning t v Make ((3, 1) ∷ (4, 1) ∷ []) []
+pub may_make : (t : Terms ℕ) (v : Sight) → v.parts ≡ (3, 0) ∷ (4, 0) ∷ [] → v.weight + 1 ≤ t.share → 1 ≤ sum_of (one_at 2) v.drawn → 1 ≤ v.spares → MayCommit meaning t v Make ((3, 1) ∷ (4, 1) ∷ []) []
 unfolding legal part stands
-may_make t v are light drawn = record {
+may_make t v are light drawn pays = record {
+  unit = omega arith;
+  spares = omega arith;
   goes = refl;
   share = light;
   owes = tt;
@@ -127,11 +132,11 @@ has_slot t v i k x at J knows =
     (2, slots_are t (reverse J) is.made, is.within)
 
 -- the same where the change is so
-pub set_may : (t : Terms ℕ) (v : Sight) (ps : List (ℕ × ℕ)) (ms : List ℕ) (k x : ℕ) → ps ≡ (3 + k, 2) ∷ [] → ms ≡ [] → v.parts ≡ (3 + k, 1) ∷ [] → k < 2 → v.weight + 1 ≤ t.share → MayCommit meaning t v (Set k x) ps ms
-set_may t v ps ms k x parts sends are lt light = subst (λ l. MayCommit meaning t v (Set k x) l ms) (sym parts) (subst (λ l. MayCommit meaning t v (Set k x) ((3 + k, 2) ∷ []) l) (sym sends) (may_set t v k x are lt light))
+pub set_may : (t : Terms ℕ) (v : Sight) (ps : List (ℕ × ℕ)) (ms : List ℕ) (k x : ℕ) → ps ≡ (3 + k, 2) ∷ [] → ms ≡ [] → v.parts ≡ (3 + k, 1) ∷ [] → k < 2 → v.weight + 1 ≤ t.share → 1 ≤ v.spares → MayCommit meaning t v (Set k x) ps ms
+set_may t v ps ms k x parts sends are lt light pays = subst (λ l. MayCommit meaning t v (Set k x) l ms) (sym parts) (subst (λ l. MayCommit meaning t v (Set k x) ((3 + k, 2) ∷ []) l) (sym sends) (may_set t v k x are lt light pays))
 
-pub make_may : (t : Terms ℕ) (v : Sight) (ps : List (ℕ × ℕ)) (ms : List ℕ) → ps ≡ (3, 1) ∷ (4, 1) ∷ [] → ms ≡ [] → v.parts ≡ (3, 0) ∷ (4, 0) ∷ [] → v.weight + 1 ≤ t.share → 1 ≤ sum_of (one_at 2) v.drawn → MayCommit meaning t v Make ps ms
-make_may t v ps ms parts sends are light drawn = subst (λ l. MayCommit meaning t v Make l ms) (sym parts) (subst (λ l. MayCommit meaning t v Make ((3, 1) ∷ (4, 1) ∷ []) l) (sym sends) (may_make t v are light drawn))
+pub make_may : (t : Terms ℕ) (v : Sight) (ps : List (ℕ × ℕ)) (ms : List ℕ) → ps ≡ (3, 1) ∷ (4, 1) ∷ [] → ms ≡ [] → v.parts ≡ (3, 0) ∷ (4, 0) ∷ [] → v.weight + 1 ≤ t.share → 1 ≤ sum_of (one_at 2) v.drawn → 1 ≤ v.spares → MayCommit meaning t v Make ps ms
+make_may t v ps ms parts sends are light drawn pays = subst (λ l. MayCommit meaning t v Make l ms) (sym parts) (subst (λ l. MayCommit meaning t v Make ((3, 1) ∷ (4, 1) ∷ []) l) (sym sends) (may_make t v are light drawn pays))
 
 -- WHAT IS FOUND among parts
 module _ {A : Type 0} where
@@ -192,6 +197,8 @@ may_wait t v x y ps ms e1 e2 are claims light zeroth first = subst (λ l. MayCom
   owes = tt;
   drawn = tt;
   keeps = λ p. (refl, omega (arith, ap (weigh (one_at p)) are));
+  unit = omega (arith, ap (sum_of one_each) claims);
+  spares = omega arith;
   claims = record {
     starts = λ n is. absurd (cc is);
     waits = λ n p is. subst (λ ns. 1 ≤ times n ns) (sym claims) (grind (arith, (place_if (n == 2) p is).0));
@@ -214,14 +221,16 @@ may_wait t v x y ps ms e1 e2 are claims light zeroth first = subst (λ l. MayCom
       };
 }))
 
-pub may_wake : (t : Terms ℕ) (v : Sight) (ps : List (ℕ × ℕ)) (ms : List ℕ) → ps ≡ (2, 0) ∷ [] → ms ≡ [] → v.parts ≡ (2, 1) ∷ [] → v.claims ≡ [] → v.weight + 1 ≤ t.share → MayCommit meaning t v Wake ps ms
+pub may_wake : (t : Terms ℕ) (v : Sight) (ps : List (ℕ × ℕ)) (ms : List ℕ) → ps ≡ (2, 0) ∷ [] → ms ≡ [] → v.parts ≡ (2, 1) ∷ [] → v.claims ≡ [] → v.weight + 1 ≤ t.share → 1 ≤ v.spares → MayCommit meaning t v Wake ps ms
 unfolding legal part stands
-may_wake t v ps ms e1 e2 are claims light = subst (λ l. MayCommit meaning t v Wake l ms) (sym e1) (subst (λ l. MayCommit meaning t v Wake ((2, 0) ∷ []) l) (sym e2) (record {
+may_wake t v ps ms e1 e2 are claims light pays = subst (λ l. MayCommit meaning t v Wake l ms) (sym e1) (subst (λ l. MayCommit meaning t v Wake ((2, 0) ∷ []) l) (sym e2) (record {
   goes = refl;
   share = light;
   owes = tt;
   drawn = tt;
   keeps = λ p. (refl, omega (arith, ap (weigh (one_at p)) are));
+  unit = omega arith;
+  spares = omega arith;
   claims = record { starts = λ n is. absurd (cc is); waits = λ n p is. absurd (cc is); resumes = λ n is. ap (times n) claims };
   legal = λ J goes fits.
       let was : part_at (reverse J) 2 ≡ 1 = fits.parts 0 2 1 (ap (λ ps. get_elem? ps 0) are) in

@@ -38,13 +38,15 @@ pub record CanMake (t : TableId × Terms ℕ) (old new : Hand) : Type 0 where
   pub facts : new.view.facts ≡ old.view.facts
   pub weight : new.view.weight ≡ old.view.weight
   pub root : (new.view.root ≡ old.view.root) × (new.view.quota ≡ old.view.quota)
+  pub units : (new.view.spares ≡ old.view.spares) × (new.view.ended ≡ old.view.ended)
   pub room : (new.room ≡ old.room) × (new.spare + 2 ≡ old.spare) × (new.space ≡ old.space)
 
--- an idle clerk that may set the slot
+-- an idle clerk that may set the slot, with a unit to spare for it
 pub record CanSet (t : TableId × Terms ℕ) (k : ℕ) (c : Hand) : Type 0 where
   pub idle : IsIdle t c
   pub light : c.view.weight + 1 ≤ t.1.share
   pub slot : k < 2
+  pub unit : 1 ≤ c.view.spares
 
 -- a clerk that has claimed the EDT, knows its payloads, and keeps nothing
 pub record CanWait (t : TableId × Terms ℕ) (x y : ℕ) (c : Hand) : Type 0 where
@@ -58,7 +60,7 @@ pub record CanWait (t : TableId × Terms ℕ) (x y : ℕ) (c : Hand) : Type 0 wh
   pub spare : 1 ≤ c.spare
   pub light : c.view.weight + 2 ≤ t.1.share
 
--- a clerk that let the EDT wait, and has parked it
+-- a clerk that let the EDT wait, and has parked it, with a unit to spare
 pub record CanWake (t : TableId × Terms ℕ) (c : Hand) : Type 0 where
   pub table : IsOf t c
   pub limit : t.1.limit ≡ 2
@@ -66,3 +68,4 @@ pub record CanWake (t : TableId × Terms ℕ) (c : Hand) : Type 0 where
   pub parts : c.view.parts ≡ (2, 1) ∷ []
   pub claims : c.view.claims ≡ []
   pub light : c.view.weight + 1 ≤ t.1.share
+  pub unit : 1 ≤ c.view.spares

@@ -1,3 +1,6 @@
 pub mod Toy
 pub mod Laws
 pub mod Clerks
+pub mod Solo
+pub mod SoloLaws
+pub mod SoloClerks

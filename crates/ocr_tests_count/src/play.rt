@@ -7,6 +7,7 @@ use crate::toy::{Entry, FILLED, OPEN, SLOTS, Toy, UNMADE, WAITING, WAITS};
 use ocr_base::NoMemory;
 use ocr_count::{Claimed, Down, claim, count_down, count_made, park, payload, put_payload, resume};
 use ocr_guid::Guid;
+use ocr_live::{raise, split_live};
 use ocr_turns::{Change, Clerk, Committed, Drawn, Taken, Turns};
 use std::alloc::{AllocError, Global};
 use std::sync::Wait;
@@ -16,14 +17,17 @@ use std::thread::Threads;
 /// The EDT that the toy makes.
 pub const EDT: Guid = Guid(2);
 
-/// A table of the toy for two clerks besides the root.
+/// A table of the toy for two clerks besides the root, which has six units to spare.
 pub fn open(alloc: Global) -> Result<(Turns<Toy>, Clerk<Toy>), NoMemory>
     ensures { IfOk result (λ t. IsIdle t.0 t.1 × (t.1.view.root ≡ 1) × (t.1.view.quota ≡ 2)
-        × (t.1.view.weight ≡ 0) × (t.1.view.facts ≡ []) × (t.0.1.share ≡ 16)) }
+        × (t.1.view.weight ≡ 0) × (t.1.view.facts ≡ []) × (t.0.1.share ≡ 16)
+        × (t.1.view.spares ≡ 6) × (t.1.view.ended ≡ 0)) }
 {
     let setting = 0;
     let opening = vec![in alloc; (1, UNMADE)]?;
-    Turns::new(alloc, &setting, opening, 2, 16, 3)
+    let (turns, mut root) = Turns::new(alloc, &setting, opening, 2, 16, 3)?;
+    raise(&turns, &mut root, 5);
+    Ok((turns, root))
 }
 
 /// Makes the EDT, and counts its making. `None`, where it is made.
@@ -35,11 +39,14 @@ pub fn make<R: Wait>(
 ) -> Result<Option<Down>, NoMemory>
     requires idle { IsIdle turns.now clerk.old }
     requires light { clerk.old.view.weight + 1 ≤ turns.now.1.share }
+    requires unit { 1 ≤ clerk.old.view.spares }
     ensures idle { IfOk result (λ r. MatchOption r (Unit {0}) (λ _. IsIdle turns.now clerk.new
         × (clerk.new.view.weight ≡ clerk.old.view.weight + 1)
         × (clerk.new.view.facts ≡ clerk.old.view.facts)
         × (clerk.new.view.root ≡ clerk.old.view.root)
-        × (clerk.new.view.quota ≡ clerk.old.view.quota))) }
+        × (clerk.new.view.quota ≡ clerk.old.view.quota)
+        × (clerk.old.view.spares ≤ clerk.new.view.spares + 1)
+        × (clerk.new.view.ended ≡ clerk.old.view.ended))) }
 {
     let parts = vec![in alloc; (SLOTS, OPEN), (SLOTS + 1, OPEN)]?;
     turns.reserve(alloc, clerk, 0)?;
@@ -87,7 +94,8 @@ pub fn fill<R: Wait>(
     requires { CanSet turns.now slot clerk.old }
     ensures { IfOk result (λ done. done ≡ true → Owes turns.now ((2, slot, payload) ∷ []) clerk.new
         × (clerk.new.view.weight ≡ clerk.old.view.weight + 1)
-        × (clerk.new.view.facts ≡ clerk.old.view.facts ++ (2, slot, payload) ∷ [])) }
+        × (clerk.new.view.facts ≡ clerk.old.view.facts ++ (2, slot, payload) ∷ [])
+        × (clerk.old.view.spares ≤ clerk.new.view.spares + 1)) }
 {
     let place = SLOTS + slot as u64;
     let parts = vec![in alloc; (place, FILLED)]?;
@@ -122,7 +130,8 @@ pub fn set<R: Wait>(
     requires { CanSet turns.now slot clerk.old }
     ensures { IfOk result (λ r. MatchOption r (Unit {0}) (λ _. IsIdle turns.now clerk.new
         × (clerk.new.view.weight ≡ clerk.old.view.weight + 1)
-        × (clerk.new.view.facts ≡ clerk.old.view.facts ++ (2, slot, payload) ∷ []))) }
+        × (clerk.new.view.facts ≡ clerk.old.view.facts ++ (2, slot, payload) ∷ [])
+        × (clerk.old.view.spares ≤ clerk.new.view.spares + 1))) }
 {
     if !fill(rt, alloc, turns, clerk, slot, payload)? {
         return Ok(None);
@@ -170,8 +179,8 @@ pub fn race<R: Threads + Wait + Sync>(
     let Some(_) = make(rt, alloc, &turns, &mut root)? else {
         return Ok(None);
     };
-    let first = turns.split(alloc, &mut root)?;
-    let second = turns.split(alloc, &mut root)?;
+    let first = split_live(&turns, alloc, &mut root)?;
+    let second = split_live(&turns, alloc, &mut root)?;
     let setters = vec![in alloc;
         Setter {
             slot: 0,

@@ -42,7 +42,7 @@ struct Row {
 
 const NONE: [char; 7] = ['-', '-', '-', '-', '-', '-', '-'];
 
-static RUNS: [Row; 21] = [
+static RUNS: [Row; 22] = [
     Row {
         line: "run",
         workers: 4,
@@ -204,11 +204,19 @@ static RUNS: [Row; 21] = [
         args: &[],
     },
     Row {
-        line: "run --summary --left --stale --refused --blocks --journal",
+        line: "run --races",
         workers: 4,
         objects: 4096,
         events: 200_000,
-        reports: ['s', 'l', 't', 'r', '-', 'b', 'j'],
+        reports: ['-', '-', '-', '-', 'c', '-', '-'],
+        args: &[],
+    },
+    Row {
+        line: "run --summary --left --stale --refused --races --blocks --journal",
+        workers: 4,
+        objects: 4096,
+        events: 200_000,
+        reports: ['s', 'l', 't', 'r', 'c', 'b', 'j'],
         args: &[],
     },
 ];
@@ -271,7 +279,7 @@ static REFUSED: [&str; 33] = [
     "run --workers 1 --events 16000001",
     "run --summary --summary",
     "run --summary=true",
-    "run --races",
+    "run --races --races",
     "run --workers=",
     "run --workers -- 1",
     // `--`, and what follows it

@@ -9,6 +9,8 @@ mod journals;
 #[cfg(test)]
 mod outputs;
 #[cfg(test)]
+mod quiet;
+#[cfg(test)]
 mod runs;
 #[cfg(test)]
 mod scopes;

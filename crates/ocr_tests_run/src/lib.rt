@@ -8,4 +8,6 @@ pub use examples::{EXAMPLES, Example, MORE_EXAMPLES};
 pub use outcomes::{CREWS, Faults, NO_FAULTS, Outcome, outcome_at, outcome_of, run, run_by};
 
 #[cfg(test)]
+mod races;
+#[cfg(test)]
 mod runs;

@@ -1,11 +1,12 @@
 -- Clerks of the toy that are made and come home.
 use Rattle.std.proofs.Common.{◌≡◌, ℕ, ◌+◌, ◌-◌, ◌≤◌, [], ap, ◌∙◌, arith}
 use Rattle.atomic_table.specs.Seated.{TableId}
-use Rattle.ocr_rule.specs.Steps.{fresh, gathered, parted}
+use Rattle.ocr_rule.specs.Living.{raising}
+use Rattle.ocr_rule.specs.Steps.{fresh_spare, gathered, parted_spare}
 use Rattle.ocr_rule.specs.declared.view.Terms.{Terms}
-use Rattle.ocr_tests_turns.specs.Clerks.{Hand, IsIdle, IsRoot}
+use Rattle.ocr_tests_turns.specs.Clerks.{Hand, HasUnit, IsIdle, IsRoot}
 
-pub hired : (t : TableId × Terms ℕ) (root clerk : Hand) (n : ℕ) → IsRoot t root n → clerk.table ≡ root.table → clerk.view ≡ fresh root.view → clerk.parts ≡ [] → 1 ≤ clerk.room → 64 ≤ clerk.spare → IsIdle t clerk
+pub hired : (t : TableId × Terms ℕ) (root clerk : Hand) (n : ℕ) → IsRoot t root n → clerk.table ≡ root.table → clerk.view ≡ fresh_spare root.view → clerk.parts ≡ [] → 1 ≤ clerk.room → 64 ≤ clerk.spare → IsIdle t clerk
 hired t root clerk n is table view parts room spare = record {
   limit = is.limit;
   out = ((table ∙ is.of.0, ap (λ v. v.terms) view ∙ is.of.1), ap (λ v. v.root) view);
@@ -14,9 +15,11 @@ hired t root clerk n is table view parts room spare = record {
   claims = ap (λ v. v.claims) view;
   spare = omega (arith, spare);
   room = room;
+  pays = (let one = ap (λ v. v.spares) view in omega arith);
+  raised = omega (arith, ap (λ v. v.raised) view);
 }
 
-pub hires : (t : TableId × Terms ℕ) (root after : Hand) (n : ℕ) → IsRoot t root n → after.table ≡ root.table → after.view ≡ parted root.view → IsRoot t after (n + 1)
+pub hires : (t : TableId × Terms ℕ) (root after : Hand) (n : ℕ) → IsRoot t root n → after.table ≡ root.table → after.view ≡ parted_spare root.view → IsRoot t after (n + 1)
 hires t root after n is table view = record {
   limit = is.limit;
   of = (table ∙ is.of.0, ap (λ v. v.terms) view ∙ is.of.1);
@@ -30,4 +33,20 @@ gathers t root clerk after n m is table view less = record {
   of = (table ∙ is.of.0, ap (λ v. v.terms) view ∙ is.of.1);
   root = ap (λ v. v.root) view ∙ is.root;
   out = ap (λ v. v.out) view ∙ (ap (λ x. x - 1) is.out ∙ omega (arith, less));
+}
+
+-- it raised one unit, and gave one to the new clerk
+pub stays : (root after : Hand) (n : ℕ) → HasUnit root n → after.view ≡ parted_spare (raising root.view 1) → HasUnit after (n + 1)
+stays root after n has view = record {
+  spares = ap (λ v. v.spares) view ∙ (let one = has.spares in omega arith);
+  raised = ap (λ v. v.raised) view ∙ ap (λ x. x + 1) has.raised;
+  goes = ap (λ v. v.ended) view ∙ has.goes;
+}
+
+pub raises : (t : TableId × Terms ℕ) (root after : Hand) (n k : ℕ) → IsRoot t root n → after.table ≡ root.table → after.view ≡ raising root.view k → IsRoot t after n
+raises t root after n k is table view = record {
+  limit = is.limit;
+  of = (table ∙ is.of.0, ap (λ v. v.terms) view ∙ is.of.1);
+  root = ap (λ v. v.root) view ∙ is.root;
+  out = ap (λ v. v.out) view ∙ is.out;
 }

@@ -2,10 +2,12 @@
 #![tactic(auto)]
 
 mod play;
+mod queue;
 mod threads;
 mod toy;
 
 pub use play::{Job, Worked, work, work_all};
+pub use queue::deliver_many;
 pub use threads::{Plan, Ran, run};
 pub use toy::{Entry, Toy};
 

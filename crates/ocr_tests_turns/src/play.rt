@@ -1,11 +1,13 @@
 // What clerks do with the toy's counters.
-ghost use Rattle.std.specs.Prelude.{◌≡◌, ◌<◌, ◌≤◌, ◌+◌, ◌*◌, [], All, IfOk, IsTrue, vec_len};
+ghost use Rattle.std.specs.Prelude.{◌≡◌, ◌<◌, ◌≤◌, ◌+◌, ◌*◌, [], All, IfNone, IfOk, IfSome, IsTrue, vec_len};
 ghost use Rattle.ocr_mail.specs.Mail as mail;
+ghost use Rattle.ocr_rule.specs.Steps as steps;
 ghost use Rattle.ocr_rule.specs.Contract.{IsOf};
-ghost use Rattle.ocr_tests_turns.specs.Clerks.{IsIdle, IsOut};
+ghost use Rattle.ocr_tests_turns.specs.Clerks.{Adds, IsIdle, IsOut};
 
 use crate::toy::{Entry, Toy};
 use ocr_base::NoMemory;
+use ocr_live::raise;
 use ocr_turns::{Change, Clerk, Committed, Taken, Turns};
 use std::alloc::{AllocError, Global};
 use std::sync::Wait;
@@ -34,19 +36,69 @@ pub struct Worked {
     pub is_whole: bool,
 }
 
-// The name of a message that the clerk owes.
-fn owed_message(clerk: &Clerk<Toy>) -> Option<(u64, u32)>
-    ensures { mail.Has result clerk.now.view.owed }
+// The name of the message that the clerk has owed for longest.
+pub(crate) fn owed_message(clerk: &Clerk<Toy>) -> Option<(u64, u32)>
+    ensures has { mail.Has result clerk.now.view.owed }
+    ensures none { IfNone result (clerk.now.view.owed ≡ []) }
 {
     let owed = clerk.owed();
     if owed.is_empty() {
         return None;
     }
-    Some((owed[0].0, owed[0].1))
+    let (number, index, _) = owed.first();
+    Some((*number, *index))
 }
 
-/// Takes a place, adds to its counter by one entry, which delivers a message that the clerk owes,
-/// and gives the place back. False where the run has ended, or counter or log are full.
+/// Takes a place, adds to its counter by one entry, which may deliver a message that the clerk
+/// owes, and gives the place back: the entry's number. `None`, where the run has ended, or counter
+/// or log are full.
+pub fn add<R: Wait>(
+    rt: &R,
+    alloc: Global,
+    turns: &Turns<Toy>,
+    clerk: &mut Clerk<Toy>,
+    place: u64,
+    count: u64,
+    delivered: Option<(u64, u32)>,
+) -> Result<Option<u64>, NoMemory>
+    requires idle { IsIdle turns.now clerk.old }
+    requires place { (1 ≤ place) × (place ≤ 2 * turns.now.1.limit) }
+    requires owes { mail.Has delivered clerk.old.view.owed }
+    requires unit { 1 ≤ clerk.old.view.spares + steps.delivered delivered }
+    ensures out { IsOut turns.now clerk.new }
+    ensures added { IfOk result (λ r. IfSome r (λ n. Adds turns.now n count delivered
+        clerk.old clerk.new)) }
+{
+    if clerk.weight() >= turns.share() {
+        return Ok(None);
+    }
+    turns.reserve(alloc, clerk, 1)?;
+    let Taken::Mine = turns.take(rt, clerk, place) else {
+        return Ok(None);
+    };
+    let found = *clerk.part(place);
+    let Some(after) = found.checked_add(count) else {
+        return Ok(None);
+    };
+    let change = Change {
+        parts: vec![in alloc; (place, after)]?,
+        messages: vec![in alloc; count]?,
+    };
+    let entry = Entry::Add {
+        place,
+        found,
+        count,
+        delivered,
+    };
+    let Committed::At(number) = turns.commit(clerk, entry, change) else {
+        return Ok(None);
+    };
+    turns.give_back(clerk, place);
+    Ok(Some(number))
+}
+
+/// The same, where the entry delivers the message that the clerk has owed for longest. False where
+/// it was refused.
 pub fn turn<R: Wait>(
     rt: &R,
     alloc: Global,
@@ -60,32 +112,9 @@ pub fn turn<R: Wait>(
     ensures out { IsOut turns.now clerk.new }
     ensures idle { IfOk result (λ goes. IsTrue goes → IsIdle turns.now clerk.new) }
 {
-    if clerk.weight() >= turns.share() {
-        return Ok(false);
-    }
-    turns.reserve(alloc, clerk, 1)?;
-    let Taken::Mine = turns.take(rt, clerk, place) else {
-        return Ok(false);
-    };
-    let found = *clerk.part(place);
-    let Some(after) = found.checked_add(count) else {
-        return Ok(false);
-    };
-    let change = Change {
-        parts: vec![in alloc; (place, after)]?,
-        messages: vec![in alloc; count]?,
-    };
-    let entry = Entry::Add {
-        place,
-        found,
-        count,
-        delivered: owed_message(clerk),
-    };
-    let Committed::At(_) = turns.commit(clerk, entry, change) else {
-        return Ok(false);
-    };
-    turns.give_back(clerk, place);
-    Ok(true)
+    let delivered = owed_message(clerk);
+    let number = add(rt, alloc, turns, clerk, place, count, delivered)?;
+    Ok(number.is_some())
 }
 
 // So many turns, one place after the other. False where one was refused.
@@ -135,11 +164,12 @@ fn make_visits<R: Wait>(rt: &R, turns: &Turns<Toy>, clerk: &mut Clerk<Toy>, coun
     true
 }
 
-// Ends the run. False where it had ended.
+// Ends the run, by a unit of its own to spare. False where it had ended.
 fn stop(turns: &Turns<Toy>, clerk: &mut Clerk<Toy>) -> bool
     requires { IsIdle turns.now clerk.old }
     ensures { IsOut turns.now clerk.new }
 {
+    raise(turns, clerk, 1);
     matches!(turns.close(clerk, Entry::Stop, &[]), Committed::At(_))
 }
 

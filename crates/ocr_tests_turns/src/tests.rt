@@ -1,7 +1,7 @@
 ghost use Rattle.std.specs.Prelude.{◌<◌};
 
 use crate::play::PLACES;
-use crate::{Entry, Plan, Ran, run};
+use crate::{Entry, Plan, Ran, deliver_many, run};
 use ocr_base::NoMemory;
 use ocr_turns::Log;
 use std::alloc::Global;
@@ -236,6 +236,12 @@ fn eight_entries_of_one_clerk(rt: HostRuntime) -> Result<(), Fail> {
         return Ok(())
     };
     assert_eq!(rt; delivered, Some((5, 0)));
+    Ok(())
+}
+
+#[test]
+fn ten_thousand_owed_messages_are_delivered(rt: HostRuntime) -> Result<(), Fail> {
+    assert!(rt; matches!(deliver_many(&rt, rt.alloc()), Ok(true)));
     Ok(())
 }
 

@@ -1,11 +1,12 @@
 // Runs of the toy in threads.
 ghost use Rattle.std.specs.Prelude.{◌≡◌, ◌≤◌, ◌<◌, ◌+◌, ◌∷◌, [], All, IfOk, length, map, vec_len};
 ghost use Rattle.ocr_rule.specs.Contract.{TermsAre};
-ghost use Rattle.ocr_tests_turns.specs.Clerks.{IsIdle, IsOneRun, IsOut, IsRoot};
+ghost use Rattle.ocr_tests_turns.specs.Clerks.{HasUnit, IsIdle, IsOneRun, IsOut, IsRoot};
 
 use crate::play::{Job, Worked, work_all};
 use crate::toy::{Entry, Toy};
 use ocr_base::NoMemory;
+use ocr_live::{raise, split_live};
 use ocr_turns::{Clerk, Log, Turns};
 use std::alloc::Global;
 use std::sync::Wait;
@@ -34,16 +35,16 @@ pub struct Ran {
 }
 
 // A table for so many clerks besides the root.
-fn open(alloc: Global, clerks: u32) -> Result<(Turns<Toy>, Clerk<Toy>), NoMemory>
+pub(crate) fn open(alloc: Global, clerks: u32) -> Result<(Turns<Toy>, Clerk<Toy>), NoMemory>
     requires { clerks < 128 }
-    ensures { IfOk result (λ t. IsRoot t.0 t.1 0 × (t.1.view.quota ≡ clerks)) }
+    ensures { IfOk result (λ t. IsRoot t.0 t.1 0 × (t.1.view.quota ≡ clerks) × HasUnit t.1 0) }
 {
     let setting = 0;
     let opening = vec![in alloc; (1, 0)]?;
     Turns::new(alloc, &setting, opening, 2, 1_000_000, clerks + 1)
 }
 
-// A clerk for each thread, with its job.
+// A clerk for each thread, with its job and a unit.
 fn hire(
     alloc: Global,
     turns: &Turns<Toy>,
@@ -52,12 +53,14 @@ fn hire(
 ) -> Result<Vec<Job>, NoMemory>
     requires root { IsRoot turns.now root.old 0 }
     requires quota { plan.now.threads ≤ root.old.view.quota }
+    requires unit { HasUnit root.old 0 }
     ensures root { IfOk result (λ jobs. IsRoot turns.now root.new (vec_len jobs)) }
     ensures jobs { IfOk result (λ jobs. All (λ job. IsIdle turns.now job.clerk) jobs.items) }
 {
     let mut jobs = Vec::new(alloc);
     for k in 0..plan.threads {
-        let clerk = turns.split(alloc, root)?;
+        raise(turns, root, 1);
+        let clerk = split_live(turns, alloc, root)?;
         jobs.push(job(plan, k, clerk))?;
     }
     Ok(jobs)

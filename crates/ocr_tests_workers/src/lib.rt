@@ -6,7 +6,13 @@ mod events;
 #[cfg(test)]
 mod gates;
 #[cfg(test)]
+mod races;
+#[cfg(test)]
+mod resumes;
+#[cfg(test)]
 mod scopes;
+#[cfg(test)]
+mod sleepers;
 #[cfg(test)]
 mod stencil;
 #[cfg(test)]

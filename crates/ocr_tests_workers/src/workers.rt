@@ -7,6 +7,7 @@ use std::test::Fail;
 use std::thread::Threads;
 
 /// Words after `run --workers N`, and a text, and what comes of them.
+#[derive(Clone, Copy)]
 pub struct Row {
     pub words: &'static [&'static str],
     pub text: &'static [u8],
@@ -46,6 +47,21 @@ fn is_told<R: Threads + Wait + Sync>(
             && done.err.bytes() == row.err
             && done.ended.journal.is_some(),
     )
+}
+
+/// The first of the rows of which something else comes by so many workers.
+pub fn first_wrong_by<R: Threads + Wait + Sync>(
+    rt: &R,
+    alloc: Global,
+    workers: &str,
+    rows: &[Row],
+) -> Result<Option<usize>, Fail> {
+    for i in 0..rows.len() {
+        if !is_told(rt, alloc, workers, &rows[i])? {
+            return Ok(Some(i));
+        }
+    }
+    Ok(None)
 }
 
 /// The first of the rows of which something else comes, and by how many workers.

@@ -13,9 +13,9 @@ module _ {G E P N F : Type 0} where
   pub found : {was old : Known G E P N F} (p : ℕ) → was ≡ old → (x : P) × (find p old.parts ≡ Some (Some x)) → (x : Option P) × (find p was.parts ≡ Some x)
   found p same at = (Some at.0, ap (λ k. find p k.parts) same ∙ at.1)
 
-  pub swapped_true : {me : Me (Option P) (View G E P N F)} {log : List (ℕ × E)} {joined : List (List (ℕ × E))} {parts parts' : List (ℕ × Option P)} {owed : List (ℕ × ℕ × N)} {weight : ℕ} {closed full : Option ℕ}
-      (p : ℕ) (a : Option P) → parts' ≡ replace p a parts → IsTrueTo me log joined parts owed weight closed full → IsTrueTo me log joined parts' owed weight closed full
-  swapped_true {parts = parts} p a new old = record { log_is = old.log_is; joined_are = old.joined_are; keeps = ap keys new ∙ (keys_replace p a parts ∙ old.keeps); owed_are = old.owed_are; weight_is = old.weight_is; closed_is = old.closed_is; full_is = old.full_is; past_end = old.past_end; past_limit = old.past_limit; ranges = old.ranges; rests = old.rests; seat = old.seat }
+  pub swapped_true : {me : Me (Option P) (View G E P N F)} {log : List (ℕ × E)} {joined : List (List (ℕ × E))} {parts parts' : List (ℕ × Option P)} {owed : List (ℕ × ℕ × N)} {weight : ℕ} {closed full : Option ℕ} {count : ℕ}
+      (p : ℕ) (a : Option P) → parts' ≡ replace p a parts → IsTrueTo me log joined parts owed weight closed full count → IsTrueTo me log joined parts' owed weight closed full count
+  swapped_true {parts = parts} p a new old = record { log_is = old.log_is; joined_are = old.joined_are; keeps = ap keys new ∙ (keys_replace p a parts ∙ old.keeps); owed_are = old.owed_are; weight_is = old.weight_is; closed_is = old.closed_is; full_is = old.full_is; fewer = old.fewer; exact = old.exact; past_end = old.past_end; past_limit = old.past_limit; ranges = old.ranges; rests = old.rests; seat = old.seat }
 
   -- it has the same room, since its list is as long as before
   pub swapped_rest : {was old : Known G E P N F} {parts' : List (ℕ × Option P)} {capacity capacity' : ℕ}

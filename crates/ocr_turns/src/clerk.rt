@@ -6,8 +6,10 @@ ghost use lib.ListN.{get_elem?};
 ghost use Rattle.ocr_rule.specs.Clerks.{IsFirst};
 ghost use Rattle.ocr_rule.specs.Sums.{find, replace};
 ghost use Rattle.ocr_rule.specs.Contract.{SameRoom};
+ghost use Rattle.ocr_rule.specs.Units.{units};
 
 use crate::log::Log;
+use crate::owed::Owed;
 use atomic_table::Seat;
 use ocr_rule::{Machine, View};
 use std::marker::Model;
@@ -26,10 +28,11 @@ pub struct Clerk<M: Machine> {
     pub(crate) log: Log<M::Entry>,
     pub(crate) joined: Vec<Log<M::Entry>>,
     pub(crate) parts: Hand<M::Part>,
-    pub(crate) owed: Vec<(u64, u32, M::Message)>,
+    pub(crate) owed: Owed<M::Message>,
     pub(crate) weight: u64,
     pub(crate) closed: Option<u64>,
     pub(crate) full: Option<u64>,
+    pub(crate) units: u64,
 }
 
 impl<M: Machine> Model for Clerk<M> {
@@ -47,11 +50,11 @@ impl<M: Machine> Model for Clerk<M> {
       parts = c.parts.items;
       room = c.log.room;
       spare = vec_capacity c.parts - length c.parts.items;
-      space = vec_capacity c.owed - length c.owed.items;
+      space = c.owed.room;
     } };
 
     ghost invariant = { λ c. IsTrueTo c.seat.me c.log.items (map
-        (λ l. l.items) c.joined.items) c.parts.items c.owed.items c.weight c.closed c.full };
+        (λ l. l.items) c.joined.items) c.parts.items c.owed.items c.weight c.closed c.full c.units };
 }
 
 impl<M: Machine> Clerk<M> {
@@ -69,12 +72,35 @@ impl<M: Machine> Clerk<M> {
         self.weight
     }
 
-    /// The undelivered messages that it owes, each with the number of its entry and its index
-    /// there.
-    pub fn owed(&self) -> &[(u64, u32, M::Message)]
-        ensures { result.now ≡ self.now.view.owed }
+    /// How many units it has. The root may have more, once clerks were joined into it.
+    pub fn units(&self) -> u64
+        ensures fewer { result ≤ units self.now.view }
+        ensures exact { self.now.view.seat ≡ 1 → result ≡ units self.now.view }
     {
-        self.owed.as_slice()
+        self.units
+    }
+
+    /// The undelivered messages that it owes.
+    pub fn owed(&self) -> &Owed<M::Message>
+        ensures { result.now.items ≡ self.now.view.owed }
+    {
+        &self.owed
+    }
+
+    /// How many undelivered messages it owes.
+    pub fn owed_len(&self) -> usize
+        ensures { result ≡ length self.now.view.owed }
+    {
+        self.owed.len()
+    }
+
+    /// The undelivered message that it has owed for longest, with the number of its entry and its
+    /// index there.
+    pub fn first_owed(&self) -> &(u64, u32, M::Message)
+        requires { 1 ≤ length self.now.view.owed }
+        ensures { get_elem? self.now.view.owed 0 ≡ some result.now }
+    {
+        self.owed.first()
     }
 
     /// The part of a place that it keeps and has not lifted.

@@ -81,6 +81,7 @@ impl<M: Machine> Turns<M> {
             parts: _,
             owed: _,
             weight: _,
+            units: _,
             closed: _,
             full: _,
         } = root;

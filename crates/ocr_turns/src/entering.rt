@@ -2,12 +2,12 @@
 ghost use Rattle.std.specs.Prelude.{◌≡◌, ◌<◌, ◌≤◌, ◌+◌, ◌^◌, ◌++◌, ℕ, None, Some, vec_len, vec_capacity, length, IfOk};
 ghost use Rattle.ocr_mail.specs.Mail as mail;
 ghost use Rattle.ocr_rule.specs.Steps as steps;
-ghost use Rattle.ocr_rule.specs.Clerks.{HasKeys, IsFirstNamed};
+ghost use Rattle.ocr_rule.specs.Clerks.{HasKeys};
 ghost use Rattle.ocr_rule.specs.Sums.{as_some, replace_all};
 ghost use Rattle.ocr_rule.specs.Contract.{CommitTells, IsOf, MayCommit};
 
-use crate::clerk::{Clerk, Hand, swap_part, take_out};
-use crate::log::has_room;
+use crate::clerk::{Clerk, Hand, swap_part};
+use crate::owed::Owed;
 use crate::turns::{COMMIT, ENDED, Turns};
 use atomic_table::Seat;
 use ocr_base::NoMemory;
@@ -37,7 +37,7 @@ impl<M: Machine> Turns<M> {
         ensures room { IfOk result (λ _. (2 ≤ clerk.new.room) × (messages ≤ clerk.new.space)) }
     {
         // Room that is there already costs a look at the capacities.
-        if clerk.log.has_room(LOG_STEP) && has_room(&clerk.owed, messages) {
+        if clerk.log.has_room(LOG_STEP) && clerk.owed.has_room(messages) {
             return Ok(());
         }
         self.reserve_more(clerk, messages)
@@ -130,60 +130,29 @@ fn put_all<P: Drop>(hand: &mut Hand<P>, parts: Vec<(u64, P)>)
 // Most entries deliver nothing and send nothing, and then neither call is made.
 #[inline(always)]
 pub(crate) fn owe_anew<N: Drop>(
-    owed: &mut Vec<(u64, u32, N)>,
+    owed: &mut Owed<N>,
     delivered: Option<(u64, u32)>,
     number: u64,
     messages: Vec<N>,
 )
     requires has { mail.Has delivered owed.old.items }
     requires room { (length messages.items < 2 ^ 32)
-        × (length owed.old.items + length messages.items ≤ vec_capacity owed.old) }
+        × (length messages.items ≤ owed.old.room) }
     ensures owed { owed.new.items ≡ mail.without delivered owed.old.items
         ++ mail.named number 0 messages.items }
 {
-    if delivered.is_some() {
-        forget(owed, delivered);
+    if let Some((number, index)) = delivered {
+        owed.forget(number, index);
     }
     if !messages.is_empty() {
         owe_all(owed, number, messages);
     }
 }
 
-// Owes a message no more.
-fn forget<N: Drop>(owed: &mut Vec<(u64, u32, N)>, delivered: Option<(u64, u32)>)
-    requires { mail.Has delivered owed.old.items }
-    ensures owed { owed.new.items ≡ mail.without delivered owed.old.items }
-    ensures room { (vec_capacity owed.new ≡ vec_capacity owed.old)
-        × (length owed.new.items ≤ length owed.old.items) }
-{
-    if let Some((number, index)) = delivered {
-        let i = message_position(owed.as_slice(), number, index);
-        drop(take_out(owed, i));
-    }
-}
-
-// Where the message of this name stands first.
-fn message_position<N>(owed: &[(u64, u32, N)], number: u64, index: u32) -> usize
-    requires { mail.Has (Some (number, index)) owed.now }
-    ensures { IsFirstNamed (number, index) owed.now result }
-{
-    let mut i = 0;
-    while !is_named(&owed[i], number, index) {
-        i += 1;
-    }
-    i
-}
-
-fn is_named<N>(message: &(u64, u32, N), number: u64, index: u32) -> bool
-    ensures { result ≡ mail.same_name (number, index) message.now }
-{
-    number == message.0 && index == message.1
-}
-
 // Owes the messages of the entry of this number.
-fn owe_all<N: Drop>(owed: &mut Vec<(u64, u32, N)>, number: u64, messages: Vec<N>)
+fn owe_all<N: Drop>(owed: &mut Owed<N>, number: u64, messages: Vec<N>)
     requires { (length messages.items < 2 ^ 32)
-        × (length owed.old.items + length messages.items ≤ vec_capacity owed.old) }
+        × (length messages.items ≤ owed.old.room) }
     ensures owed { owed.new.items ≡ owed.old.items ++ mail.named number 0 messages.items }
 {
     let mut index = 0;

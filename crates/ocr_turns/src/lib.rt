@@ -8,8 +8,10 @@ mod ending;
 mod entering;
 mod entering_at_hand;
 mod giving;
+mod living;
 mod log;
 mod opening;
+mod owed;
 mod seats;
 mod taking;
 mod turns;
@@ -19,6 +21,7 @@ pub use clerk::Clerk;
 pub use closing::{Closing, Remains};
 pub use log::Log;
 pub use ocr_rule::{
-    Change, Committed, Debts, Drawn, Machine, Taken, Terms, View, WordStep, sole_laws,
+    Change, Committed, Debts, Drawn, LiveStep, Machine, Taken, Terms, View, WordStep, sole_laws,
 };
+pub use owed::Owed;
 pub use turns::Turns;

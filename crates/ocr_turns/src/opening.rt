@@ -10,8 +10,9 @@ ghost use Rattle.ocr_rule.specs.Openings.{placed};
 
 use crate::clerk::Clerk;
 use crate::log::Log;
+use crate::owed::Owed;
 use crate::taking::TURNS;
-use crate::turns::{DRAW, Turns};
+use crate::turns::{DRAW, LIVE, Turns};
 use atomic_table::{Seat, Table};
 use ocr_base::NoMemory;
 use ocr_rule::{Machine, Terms};
@@ -66,10 +67,11 @@ impl<M: Machine> Turns<M> {
                     log,
                     joined: Vec::new(alloc),
                     parts: kept,
-                    owed: Vec::new(alloc),
+                    owed: Owed::new(alloc),
                     weight: 0,
                     closed: None,
                     full: None,
+                    units: 1,
                 },
             )),
             Err(_) => Err(NoMemory),
@@ -118,6 +120,8 @@ fn bare_words(alloc: Global, limit: usize, drawn: u64) -> Result<Vec<u64>, Alloc
     unmade[0] = 33;
     let mut words = vec![in alloc; 0; DRAW]?;
     words.push(drawn)?;
+    words.resize(LIVE, 0)?;
+    words.push(2)?;
     words.resize(TURNS + 2 * limit + 1, 0)?;
     for _ in 0..limit {
         words.extend_from_slice(&unmade)?;

@@ -2,14 +2,16 @@
 ghost use Rattle.std.specs.Prelude.{◌≡◌, ◌<◌, ◌≤◌, ◌+◌, ◌++◌, [], length, vec_len, vec_capacity, IfOk, IfErr, OnErr};
 ghost use Rattle.ocr_rule.specs.Steps as steps;
 ghost use Rattle.ocr_rule.specs.Contract.{IsOf, SameHand};
+ghost use Rattle.ocr_rule.specs.Living.{MayLower};
 
 use crate::clerk::Clerk;
 use crate::log::Log;
 use crate::opening::KEPT;
+use crate::owed::Owed;
 use crate::turns::Turns;
 use ocr_base::NoMemory;
 use ocr_rule::Machine;
-use ocr_rule::rule::Cut;
+use ocr_rule::rule::{Cut, CutSpare};
 use std::alloc::{AllocError, AllocFailed, Global};
 
 impl<M: Machine> Turns<M> {
@@ -32,10 +34,40 @@ impl<M: Machine> Turns<M> {
             log,
             joined: Vec::new(alloc),
             parts,
-            owed: Vec::new(alloc),
+            owed: Owed::new(alloc),
             weight: 0,
             closed: None,
             full: None,
+            units: 0,
+        })
+    }
+
+    /// The same, and the new clerk has a spare unit of the root's.
+    pub fn split_spare(&self, alloc: Global, root: &mut Clerk<M>) -> Result<Clerk<M>, NoMemory>
+        requires table { IsOf self.now root.old }
+        requires root { (root.old.view.root ≡ 1) × (0 < root.old.view.quota) }
+        requires spare { MayLower root.old.view 1 }
+        ensures root { IfOk result (λ _. SameHand root.old root.new
+            × (root.new.view ≡ steps.parted_spare root.old.view)) }
+        ensures clerk { IfOk result (λ c. (c.table ≡ root.old.table)
+            × (c.view ≡ steps.fresh_spare root.old.view) × (c.parts ≡ []) × (1 ≤ c.room)
+            × (64 ≤ c.spare)) }
+        ensures err { OnErr result (root.new ≡ root.old) }
+    {
+        let log = Log::with_capacity(alloc, 1)?;
+        let parts = Vec::with_capacity(alloc, KEPT)?;
+        let seat = self.table.shared.split_seat::<CutSpare>(&mut root.seat);
+        root.units = root.units.saturating_sub(1);
+        Ok(Clerk {
+            seat,
+            log,
+            joined: Vec::new(alloc),
+            parts,
+            owed: Owed::new(alloc),
+            weight: 0,
+            closed: None,
+            full: None,
+            units: 1,
         })
     }
 
@@ -72,17 +104,19 @@ impl<M: Machine> Turns<M> {
             log,
             joined,
             mut parts,
-            mut owed,
+            owed,
             weight: _,
             closed,
             full: _,
+            units,
         } = clerk;
         self.table.shared.join_seat::<Cut>(&mut root.seat, seat);
         root.joined.push_reserved(log);
         drop(joined);
         append(&mut root.parts, &mut parts);
-        append(&mut root.owed, &mut owed);
+        root.owed.append(owed);
         root.closed = root.closed.or(closed);
+        root.units = root.units.saturating_add(units);
         Ok(())
     }
 }
@@ -91,7 +125,7 @@ impl<M: Machine> Turns<M> {
 fn make_room<L: Drop, P: Drop, N: Drop>(
     joined: &mut Vec<L>,
     parts: &mut Vec<P>,
-    owed: &mut Vec<N>,
+    owed: &mut Owed<N>,
     more_parts: usize,
     more_owed: usize,
 ) -> Result<(), AllocError>
@@ -99,7 +133,7 @@ fn make_room<L: Drop, P: Drop, N: Drop>(
         × (owed.new.items ≡ owed.old.items) }
     ensures room { IfOk result (λ _. (vec_len joined.new < vec_capacity joined.new)
         × (length parts.new.items + more_parts ≤ vec_capacity parts.new)
-        × (length owed.new.items + more_owed ≤ vec_capacity owed.new)) }
+        × (more_owed ≤ owed.new.room)) }
 {
     joined.reserve(1)?;
     parts.reserve(more_parts)?;

@@ -14,7 +14,7 @@ use std::sync::Wait;
 use std::thread;
 
 /// The first turn word. It shares no cache line with the commit word.
-pub(crate) const TURNS: usize = 16;
+pub(crate) const TURNS: usize = 24;
 
 impl<M: Machine> Turns<M> {
     /// Waits for the turn of a part, and reads the commit word before each try.

@@ -15,6 +15,8 @@ pub(crate) const ENDED: u64 = 1 << 48;
 pub(crate) const COMMIT: usize = 0;
 /// The word that counts the draws, on a cache line of its own.
 pub(crate) const DRAW: usize = 8;
+/// The live word, on a cache line of its own.
+pub(crate) const LIVE: usize = 16;
 
 /// A table that clerks share: the parts of a machine, each with its turn, and one history.
 #[derive(Drop)]

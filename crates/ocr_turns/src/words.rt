@@ -1,8 +1,8 @@
 // The words that count an EDT's open slots, behind the turn words.
-ghost use Rattle.std.specs.Prelude.{◌≡◌, ◌<◌, ◌≤◌, ◌+◌, ◌*◌, ◌-◌, Some};
+ghost use Rattle.std.specs.Prelude.{◌≡◌, ◌<◌, ◌≤◌, ◌+◌, ◌*◌, ◌-◌, ◌^◌, Some};
 ghost use Rattle.ocr_rule.specs.Counting.{state_at};
 ghost use Rattle.ocr_rule.specs.Owing.{IsNumber};
-ghost use Rattle.ocr_rule.specs.Words.{FitsSlots, MayStep, StepTells, steps_word};
+ghost use Rattle.ocr_rule.specs.Words.{FitsSlots, MayStep, StepTells, count_after, steps_word};
 ghost use Rattle.ocr_rule.specs.Contract.{IsOf, SameHand};
 
 use crate::clerk::Clerk;
@@ -57,7 +57,9 @@ impl<M: Machine> Turns<M> {
         ensures hand { SameHand clerk.old clerk.new }
         ensures told { StepTells M.meaning edt step clerk.old.view result clerk.new.view }
     {
-        self.take_step::<Brand>(&mut clerk.seat, edt, step)
+        let found = self.take_step::<Brand>(&mut clerk.seat, edt, step);
+        clerk.units = units_after(step, found, clerk.units);
+        found
     }
 
     fn take_step<W: Chosen>(
@@ -99,6 +101,10 @@ impl<M: Machine> Turns<M> {
                 words.store::<Counts<M, W>>(seat, state, READY);
                 READY
             }
+            WordStep::Drop => {
+                words.store::<Counts<M, W>>(seat, state, BUSY);
+                BUSY
+            }
         }
     }
 
@@ -110,5 +116,20 @@ impl<M: Machine> Turns<M> {
     {
         let slots = 2 * self.limit as usize + 1;
         TURNS + slots + 33 * (edt as usize - 1)
+    }
+}
+
+// How many units a clerk has after a step that found this word.
+fn units_after(step: WordStep, found: u64, units: u64) -> u64
+    requires slots { FitsSlots step }
+    ensures fewer { result ≤ count_after step found units }
+    ensures exact { count_after step found units < 2 ^ 64 → result ≡ count_after step found units }
+{
+    match step {
+        WordStep::Claim if found == READY => units.saturating_add(1),
+        WordStep::Count if found <= 1 => units.saturating_sub(1),
+        WordStep::CountMade { slots } if found <= UNMADE - slots as u64 => units.saturating_sub(1),
+        WordStep::Resume => units.saturating_sub(1),
+        _ => units,
     }
 }

@@ -1,5 +1,5 @@
 -- What a worker knows of its EDT by its face.
-use Rattle.std.proofs.Common.{◌≡◌, ◌≢◌, ℕ, ◌+◌, ◌≤◌, ◌==◌, true, false, not, nat_lt, List, [], ◌∷◌, ◌++◌, length, reverse, take, Option, Some, None, is_some, refl, ap, sym, ◌∙◌, subst}
+use Rattle.std.proofs.Common.{◌≡◌, ◌≢◌, ℕ, ◌+◌, ◌≤◌, ◌==◌, true, false, not, nat_lt, List, [], ◌∷◌, ◌++◌, length, reverse, take, Option, Some, None, is_some, refl, ap, sym, ◌∙◌}
 use Rattle.std.proofs.lemmas.List.Elements.{All-cons, All-nil}
 use lib.ListN.{get_elem?}
 use Rattle.ocr_base.proofs.Booleans.{same as number_same}
@@ -30,9 +30,9 @@ use Rattle.ocr_facts.specs.Ocr.{meaning}
 use Rattle.ocr_facts.proofs.Runs.{run_is}
 use Rattle.ocr_rule.specs.Contract.{SameHand}
 use Rattle.ocr_rule.specs.Steps.{Sees}
-use Rattle.ocr_rule.specs.Sums.{as_some, entries, find, is_among, replace}
+use Rattle.ocr_rule.specs.Sums.{as_some, entries, find, is_among}
 use Rattle.ocr_clerks.specs.Entering.{OcrKnown}
-use Rattle.ocr_clerks.specs.Work.{AtWork, CanRun, KeepsFaces, KnowsPayloads, OcrTable, Took, ready_with}
+use Rattle.ocr_clerks.specs.Work.{AtWork, CanRun, KeepsFaces, OcrTable, Took}
 use Rattle.ocr_clerks.proofs.Hands.{apart_is}
 use Rattle.ocr_clerks.proofs.Seen.{core_apart, core_is}
 use Rattle.ocr_parking.proofs.Parked.{has_claim}

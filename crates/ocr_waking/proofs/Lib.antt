@@ -9,6 +9,7 @@ pub mod Learning
 pub mod Learnt
 pub mod Letting
 pub mod Parks
+pub mod Readied
 pub mod Standing
 pub mod Taking
 pub mod Three

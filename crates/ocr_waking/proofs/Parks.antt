@@ -76,7 +76,7 @@ module _ (t : OcrTerms) (edt d : ℕ) (first : Bool) (payloads : List ℕ) (a : 
       (ap (λ (l : List ℕ). (t.limit + edt) ∷ l) (pair_places first edt d))
 
   pub entered : EntersKept t mid new (entry_by a edt d) h
-  entered = record { number = enters.number; later = enters.later; sent = enters.sent; step = enters.step; view = enters.view; kept = enters.kept; hand = enters.hand; sees = enters.sees }
+  entered = record { number = enters.number; later = enters.later; sent = enters.sent; step = enters.step; paid = enters.paid; view = enters.view; kept = enters.kept; hand = enters.hand; sees = enters.sees }
 
   pub has : HasTakenOn t edt mid
   has = let m = carries.can.knows.three.taken in record { number = m.number; claims = m.claims; drawn = m.drawn; owes = m.owes; only = m.only }
@@ -231,7 +231,7 @@ module _ (t : OcrTerms) (edt d : ℕ) (first : Bool) (payloads : List ℕ) (h : 
       }
 
 -- and the newest entry says so
-pub has_waited : (t : OcrTerms) (edt d : ℕ) (h : Hand) (old new last : OcrKnown) → EntersKept t old new (Wait edt d) h → last.view ≡ record new.view { parts = []; claims = [] } → HasWaited old last edt
+pub has_waited : (t : OcrTerms) (edt d : ℕ) (h : Hand) (old new last : OcrKnown) → EntersKept t old new (Wait edt d) h → last.view ≡ record new.view { parts = []; claims = []; spares = new.view.spares + 1 } → HasWaited old last edt
 has_waited t edt d h old new last enters view = record {
   more = [];
   number = enters.number;
@@ -286,7 +286,7 @@ let_wait_by t edt d first payloads act.Wait h old new off wd is carries enters =
 let_wait_by t edt d first payloads act.Acquire h old new off wd is carries enters = cc is
 let_wait_by t edt d first payloads act.Pass h old new off wd is carries enters = cc is
 
-pub has_waited_by : (t : OcrTerms) (edt d : ℕ) (a : Act) (h : Hand) (old new last : OcrKnown) → lets_wait a ≡ true → EntersKept t old new (entry_by a edt d) h → last.view ≡ record new.view { parts = []; claims = [] } → HasWaited old last edt
+pub has_waited_by : (t : OcrTerms) (edt d : ℕ) (a : Act) (h : Hand) (old new last : OcrKnown) → lets_wait a ≡ true → EntersKept t old new (entry_by a edt d) h → last.view ≡ record new.view { parts = []; claims = []; spares = new.view.spares + 1 } → HasWaited old last edt
 has_waited_by t edt d act.Wait h old new last is enters view = has_waited t edt d h old new last enters view
 has_waited_by t edt d act.Acquire h old new last is enters view = cc is
 has_waited_by t edt d act.Pass h old new last is enters view = cc is
@@ -322,4 +322,4 @@ done_act table program edt d first payloads a h old new off wd unbegun stays wor
 
 pub gave_stays : (old new : OcrKnown) → GaveFaces old new → Stays old new
 gave_stays old new gave = stays_still old new (record old.view { parts = take 1 old.view.parts }) gave.table gave.view
-    (record { terms = refl; root = refl; seat = refl; out = refl; joined = refl; log = refl; weight = refl; drawn = refl; full = refl; reached = refl; closed = refl })
+    (record { terms = refl; root = refl; seat = refl; out = refl; joined = refl; log = refl; weight = refl; drawn = refl; full = refl; reached = refl; closed = refl; stake = omega arith; raised = refl; ended = refl })

@@ -4,6 +4,7 @@ ghost use Rattle.ocr_facts.specs.Ocr.{meaning};
 ghost use Rattle.ocr_parts.specs.Taken.{is_within};
 ghost use Rattle.ocr_rule.specs.Steps.{Sees};
 ghost use Rattle.ocr_rule.specs.Words.{SeesReady};
+ghost use Rattle.ocr_clerks.specs.Pushing.{ReadiesNone};
 ghost use Rattle.ocr_clerks.specs.Work.{AtWork, HasTakenOn, IsGone, IsIdle, KeepsFaces, Stays};
 ghost use Rattle.ocr_parking.specs.Parking.{IsLetWait};
 ghost use Rattle.ocr_waking.specs.Meeting.{CanAct, HasThree, HoldsCore, IsUnbegun, KnowsThree, WantsNext};
@@ -41,6 +42,7 @@ pub(crate) fn take_two<R: Wait, G: Gate>(
     ensures three { IfOk result (λ first. HasThree job.now.turns.now.1 edt block first clerk.new) }
     ensures wants { OnOk result (IsWanted job.now.turns.now.1 edt block clerk.new) }
     ensures ready { OnOk result (SeesReady meaning clerk.new.view edt) }
+    ensures readied { OnOk result (ReadiesNone clerk.old clerk.new) }
     ensures gone { OnErr result (IsGone job.now.turns.now worker clerk.new) }
 {
     let first = block < edt;
@@ -66,6 +68,7 @@ pub(crate) fn block_round<R: Wait, G: Gate>(
     ensures stays { Stays clerk.old clerk.new }
     ensures work { OnOk result (AtWork job.now.turns.now job.now.program.now clerk.new) }
     ensures after { IfOk result (λ s. IsAfter job.now.turns.now.1 edt s clerk.old clerk.new) }
+    ensures readied { OnOk result (ReadiesNone clerk.old clerk.new) }
     ensures gone { OnErr result (IsGone job.now.turns.now worker clerk.new) }
 {
     let first = take_two(job, worker, clerk, edt, block)?;
@@ -95,6 +98,7 @@ fn meet<R: Wait, G: Gate>(
     ensures stays { Stays clerk.old clerk.new }
     ensures work { OnOk result (AtWork job.now.turns.now job.now.program.now clerk.new) }
     ensures after { IfOk result (λ s. IsAfter job.now.turns.now.1 edt s clerk.old clerk.new) }
+    ensures readied { OnOk result (ReadiesNone clerk.old clerk.new) }
     ensures gone { OnErr result (IsGone job.now.turns.now worker clerk.new) }
 {
     let Some(act) = decide(alloc, job, worker, clerk, edt, block, first, payloads)? else {
@@ -125,6 +129,7 @@ fn act_at_block<R: Wait, G: Gate>(
     ensures stays { Stays clerk.old clerk.new }
     ensures work { OnOk result (AtWork job.now.turns.now job.now.program.now clerk.new) }
     ensures after { IfOk result (λ s. IsAfter job.now.turns.now.1 edt s clerk.old clerk.new) }
+    ensures readied { OnOk result (ReadiesNone clerk.old clerk.new) }
     ensures gone { OnErr result (IsGone job.now.turns.now worker clerk.new) }
 {
     carry_out(alloc, job, worker, clerk, edt, block, first, act, payloads)?;
@@ -182,7 +187,12 @@ fn park_two<R: Wait, G: Gate>(
     ensures work { AtWork job.now.turns.now job.now.program.now clerk.new }
     ensures idle { IsIdle clerk.new }
     ensures table { clerk.new.table ≡ clerk.old.table }
-    ensures view { clerk.new.view ≡ record clerk.old.view { parts = []; claims = [] } }
+    ensures view { clerk.new.view ≡ record clerk.old.view {
+      parts = [];
+      claims = [];
+      spares
+          = clerk.old.view.spares + 1;
+    } }
 {
     let place = job.turns.limit() + edt.0;
     if first {
@@ -206,6 +216,7 @@ pub(crate) fn face_round<R: Wait, G: Gate>(
     ensures stays { Stays clerk.old clerk.new }
     ensures work { OnOk result (AtWork job.now.turns.now job.now.program.now clerk.new) }
     ensures after { IfOk result (λ s. IsAfter job.now.turns.now.1 edt s clerk.old clerk.new) }
+    ensures readied { OnOk result (ReadiesNone clerk.old clerk.new) }
     ensures gone { OnErr result (IsGone job.now.turns.now worker clerk.new) }
 {
     take_part(job, worker, clerk, edt.0)?;
@@ -234,6 +245,7 @@ fn read_face<R: Wait, G: Gate>(
     ensures work { OnOk result (AtWork job.now.turns.now job.now.program.now clerk.new) }
     ensures knows { IfOk result (λ v. KnowsFace job.now.turns.now.1 edt v.items clerk.new) }
     ensures sees { OnOk result (Sees meaning clerk.new.view) }
+    ensures readied { OnOk result (ReadiesNone clerk.old clerk.new) }
     ensures gone { OnErr result (IsGone job.now.turns.now worker clerk.new) }
 {
     let Part::Edt(slots) = clerk.part(edt.0) else {

@@ -2,6 +2,7 @@
 ghost use Rattle.std.specs.Prelude.{◌≡◌, ◌+◌, [], true, None, Some, IfNone, IfOk, OnOk, OnErr};
 ghost use Rattle.ocr_facts.specs.Ocr.{meaning};
 ghost use Rattle.ocr_rule.specs.Words.{SeesReady};
+ghost use Rattle.ocr_clerks.specs.Pushing.{ReadiesNone};
 ghost use Rattle.ocr_clerks.specs.Work.{AtWork, HasTakenOn, IsGone, Stays};
 ghost use Rattle.ocr_waking.specs.Meeting.{HoldsCore};
 ghost use Rattle.ocr_waking.specs.Rounds.{IsAfter, IsAwoken, IsWantedIf, next_block};
@@ -51,6 +52,7 @@ pub fn wake<R: Wait, G: Gate>(
     ensures stays { Stays clerk.old clerk.new }
     ensures work { OnOk result (AtWork job.now.turns.now job.now.program.now clerk.new) }
     ensures awoken { IfOk result (λ w. IsAwoken job.now.turns.now.1 edt w clerk.old clerk.new) }
+    ensures readied { OnOk result (ReadiesNone clerk.old clerk.new) }
     ensures gone { OnErr result (IsGone job.now.turns.now worker clerk.new) }
 {
     let place = job.turns.limit() + edt.0;
@@ -72,6 +74,7 @@ fn rounds<R: Wait, G: Gate>(
     ensures stays { Stays clerk.old clerk.new }
     ensures work { OnOk result (AtWork job.now.turns.now job.now.program.now clerk.new) }
     ensures awoken { IfOk result (λ w. IsAwoken job.now.turns.now.1 edt w clerk.old clerk.new) }
+    ensures readied { OnOk result (ReadiesNone clerk.old clerk.new) }
     ensures gone { OnErr result (IsGone job.now.turns.now worker clerk.new) }
 {
     // Most EDTs start at the first round, and a loop that may go on for ever costs more to begin.
@@ -98,6 +101,7 @@ fn further_rounds<R: Wait, G: Gate>(
     ensures stays { Stays clerk.old clerk.new }
     ensures work { OnOk result (AtWork job.now.turns.now job.now.program.now clerk.new) }
     ensures awoken { IfOk result (λ w. IsAwoken job.now.turns.now.1 edt w clerk.old clerk.new) }
+    ensures readied { OnOk result (ReadiesNone clerk.old clerk.new) }
     ensures gone { OnErr result (IsGone job.now.turns.now worker clerk.new) }
 {
     for _ in job.rt.forever() {
@@ -126,6 +130,7 @@ fn round<R: Wait, G: Gate>(
     ensures stays { Stays clerk.old clerk.new }
     ensures work { OnOk result (AtWork job.now.turns.now job.now.program.now clerk.new) }
     ensures after { IfOk result (λ s. IsAfter job.now.turns.now.1 edt s clerk.old clerk.new) }
+    ensures readied { OnOk result (ReadiesNone clerk.old clerk.new) }
     ensures gone { OnErr result (IsGone job.now.turns.now worker clerk.new) }
 {
     let place = job.turns.limit() + edt.0;

@@ -84,8 +84,6 @@ pub record IsRunOptions (t : Texts) (options : Options) : Type 0 where
   pub events_to : options.events ≤ 16000000
   pub share : options.workers * options.events ≤ 16000000
   pub reports : options.reports ≡ t.reports
-  -- until that report is built
-  pub no_races : options.reports.races ≡ false
 
 -- `run`
 pub record IsRun (t : Texts) (options : Options) (args : List ℕ) : Type 0 where

@@ -43,7 +43,7 @@ fn run_options(given: &Given<'_>) -> Option<Options>
     let workers = number_within(given.workers, DEFAULT_WORKERS, 1, MAX_WORKERS)?;
     let objects = number_within(given.objects, DEFAULT_OBJECTS, 2, MAX_OBJECTS)?;
     let events = number_within(given.events, DEFAULT_EVENTS, 1, MAX_EVENTS)?;
-    if workers * events > MAX_EVENTS || given.reports.races {
+    if workers * events > MAX_EVENTS {
         return None;
     }
     Some(Options {
@@ -84,8 +84,8 @@ fn is_check(given: &Given<'_>) -> bool
 
 /// What the words after the program's name ask for. Two forms are taken,
 /// `run [--workers N] [--objects N] [--events N] [REPORT..] [NUMBER..]` and `check`; `Refused`
-/// comes exactly where the words are in neither. The form `load NUMBER [--workers N] [REPORT..]`
-/// and the report `--races` are not built yet, and are refused.
+/// comes exactly where the words are in neither. The form `load NUMBER [--workers N] [REPORT..]` is
+/// not built yet, and is refused.
 pub fn command(alloc: Global, words: &[String]) -> Result<Wanted, WordsStop>
     ensures ok { IfOk result (λ w. IsAsked (texts_of words.now) w) }
     ensures only { IfOk result

@@ -1,3 +1,4 @@
+pub mod Idle
 pub mod Missed
 pub mod Rounds
 pub mod Still

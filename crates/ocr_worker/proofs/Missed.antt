@@ -1,5 +1,5 @@
 -- A round of steals that get nothing.
-use Rattle.std.proofs.Common.{◌≡◌, ◌≢◌, ℕ, ◌+◌, ◌-◌, ◌^◌, ◌<◌, ◌≤◌, ◌==◌, nat_lt, min, Bool, true, false, List, [], ◌∷◌, length, get_or, set, refl, sym, ◌∙◌, ap, subst, arith}
+use Rattle.std.proofs.Common.{inr, ◌≡◌, ◌≢◌, ℕ, ◌+◌, ◌-◌, ◌^◌, ◌<◌, ◌==◌, nat_lt, min, Bool, true, false, List, [], ◌∷◌, length, get_or, set, refl, sym, ◌∙◌, ap, subst, arith}
 use Rattle.std.specs.List.{slice_index_or}
 use Rattle.std.proofs.lemmas.Grind.{common_steps}
 use Rattle.std.proofs.lemmas.Bool.{eqb-true, eqb-false}
@@ -7,11 +7,11 @@ use Rattle.std.proofs.lemmas.List.{get_or-set_same, get_or-set_other}
 use Rattle.ocr_steal.specs.declared.account.Account.{Account}
 use Rattle.ocr_steal.specs.declared.hand.Hand.{Hand}
 use Rattle.ocr_steal.specs.declared.pool.Pool.{Pool}
-use Rattle.ocr_steal.specs.Deque.{TakesFirst, newcomer}
-use Rattle.ocr_steal.specs.Hand.{Gets, IsMissed, IsSame, known, knows, missed, misses_of}
+use Rattle.ocr_steal.specs.Deque.{IsFound, TakesFirst, newcomer}
+use Rattle.ocr_steal.specs.Hand.{Gets, IsMissed, IsSame, known, knows, missed, misses_of, own}
 use Rattle.ocr_steal.specs.Pool.{IsOf, hands_in}
 use Rattle.ocr_steal.proofs.Passes.{same_length}
-use Rattle.ocr_worker.specs.Stealing.{HasMissed, HasMissedMore}
+use Rattle.ocr_worker.specs.Stealing.{HasGot, HasGotNone, HasMissedMore}
 
 pub of_pool : (pool : Pool) (a b : Hand) → IsSame a b → IsOf pool a → IsOf pool b
 of_pool pool a b same is = same.pool ∙ is
@@ -77,11 +77,20 @@ gets_from a b new victim edt same gets = record {
   misses = gets.misses;
 }
 
--- ROUNDS
-least_more : (m rounds : ℕ) → rounds ≤ m → rounds + 1 < 2 ^ 64 → rounds + 1 ≤ min (m + 1) (2 ^ 64 - 1)
-least_more m rounds le few = omega (arith, le, few)
+-- A HAND that took nothing from its own deque, and then tried each other hand
+pub found_none : (pool : Pool) (old mid new : Hand) → IsSame old mid × (knows mid ≡ knows old) → IsFound 0 [] (own old) × (own mid ≡ own old) × (misses_of mid ≡ misses_of old) → own new ≡ own mid → (knows new ≡ knows mid) × HasMissedMore (hands_in pool) mid new → HasGotNone pool old new
+found_none pool old mid new same took own_kept stole = record {
+  own_empty = took.0;
+  own_same = own_kept ∙ took.1;
+  knows_same = stole.0 ∙ same.1;
+  missed_all = λ v lt other. stole.1 v lt (λ is. other (is ∙ same.0.number)) ∙ ap (λ (l : List ℕ). min (get_or l v 0 + 1) (2 ^ 64 - 1)) took.2;
+}
 
-pub missed_round : (hands rounds : ℕ) (old new : Hand) → new.number ≡ old.number → rounds + 1 < 2 ^ 64 → HasMissed hands old rounds → HasMissedMore hands old new → HasMissed hands new (rounds + 1)
-missed_round hands rounds old new number few had more_now v lt other =
-    let here : v ≢ old.number = λ same. other (same ∙ sym number) in
-    subst (λ (k : ℕ). rounds + 1 ≤ k) (sym (more_now v lt here)) (least_more (missed old v) rounds (had v lt here) few)
+pub found_stolen : (pool : Pool) (old mid new : Hand) (edt : ℕ) → IsSame old mid × (knows mid ≡ knows old) → own mid ≡ own old → own new ≡ own mid → (victim : ℕ) × (victim < hands_in pool) × (victim ≢ mid.number) × Gets mid new victim edt → HasGot pool old new edt
+found_stolen pool old mid new edt same took own_kept stole = inr (record {
+  own_same = own_kept ∙ took;
+  victim = stole.0;
+  of_pool = stole.1;
+  other = λ is. stole.2 (is ∙ sym same.0.number);
+  gets = gets_from old mid new stole.0 edt same.1 stole.3;
+})

@@ -6,13 +6,9 @@ use Rattle.ocr_clerks.specs.Entering.{OcrKnown}
 use Rattle.ocr_clerks.specs.Work.{OcrTable}
 use Rattle.ocr_drained.specs.Drained.{IsUnready}
 use Rattle.ocr_facts.specs.Ocr.{meaning}
-use Rattle.ocr_steal.specs.declared.hand.Hand.{Hand}
-use Rattle.ocr_steal.specs.declared.pool.Pool.{Pool}
-use Rattle.ocr_steal.specs.Pool.{IsOf, hands_in}
 use Rattle.ocr_rule.specs.Counting.{READY}
 use Rattle.ocr_rule.specs.Words.{SeesWord}
 use Rattle.ocr_worker.specs.Leaving.{AllUnready}
-use Rattle.ocr_worker.specs.Stealing.{HasMissed}
 
 -- in a quiet run nothing changes
 abbrev pub Rests : OcrTable → OcrKnown → OcrKnown → Type 0
@@ -21,12 +17,6 @@ Rests table old now = IsAtRest table old → now ≡ old
 pub rests_next : (table : OcrTable) (old now new : OcrKnown) → Rests table old now → (IsAtRest table now → new ≡ now) → Rests table old new
 rests_next table old now new was next rest =
     let same = was rest in next (subst (IsAtRest table) (sym same) rest) ∙ same
-
--- the rounds in succession that found nothing
-pub record IsResting (pool : Pool) (hand : Hand) (idle : ℕ) : Type 0 where
-  pub of_pool : IsOf pool hand
-  pub missed : HasMissed (hands_in pool) hand idle
-  pub few : idle < 64
 
 -- no EDT up to this number was ready, or one was
 pub record IsPassing (limit number : ℕ) (any : Bool) (old now : OcrKnown) : Type 0 where

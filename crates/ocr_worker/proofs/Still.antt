@@ -38,7 +38,7 @@ owes_nothing table program c between delivered = record {
 
 sees_quiet : (table : OcrTable) (program : Checked) (c : OcrKnown) → IsBetween table program c → IsAlone c → HasDelivered c → AllUnready table.1.limit c → SeesOpen meaning c.view → SeesQuiet table c
 sees_quiet table program c between alone delivered unready sees =
-    let seen = sees table.1 between.work.of_table.1 between.work.is_open in record {
+    let seen = sees table.1 between.rests.of_table.1 between.rests.is_open in record {
       history = seen.0;
       fits = seen.1;
       goes_on = seen.2;
@@ -75,9 +75,9 @@ told_end (Some w) n old new is told = cc is
 pub never_closed : (table : OcrTable) (program : Checked) (word : ℕ) (c new : OcrKnown) → IsBetween table program c → IsAtRest table c → ClosedBy meaning word c new → ⊥
 never_closed table program word c new between rest told =
     let t = table.1 in let alone = rest.alone in let quiet = rest.quiet in
-    let shut = told_end c.view.closed word c.view new.view between.work.is_open told.2 in
+    let shut = told_end c.view.closed word c.view new.view between.rests.is_open told.2 in
     let same = shut.0 in
-    let seen = shut.1 t (ap (λ (v : OcrView). v.terms) same ∙ between.work.of_table.1) in
+    let seen = shut.1 t (ap (λ (v : OcrView). v.terms) same ∙ between.rests.of_table.1) in
     let one : quiet.history ≡ seen.0 = same_end meaning t c.view new.view quiet.history seen.0 (sym (ap (λ (v : OcrView). v.log) same)) (sym (ap (λ (v : OcrView). v.joined) same)) alone.root alone.nobody_out
     (ap (λ (v : OcrView). v.root) same ∙ alone.root) (ap (λ (v : OcrView). v.out) same ∙ alone.nobody_out) quiet.fits seen.1 in
     ended_open quiet.history quiet.goes_on (subst (Ended meaning.stops) (sym one) seen.1.ended)

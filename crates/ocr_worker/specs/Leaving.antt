@@ -1,32 +1,46 @@
 -- What a worker that leaves has.
-use Rattle.std.specs.Prelude.{ℕ}
+use Rattle.std.specs.Prelude.{◌≡◌, ℕ, Some}
 pub use Rattle.ocr_advancing.specs.Resting.{HasDelivered, IsAlone, SeesQuiet}
 pub use Rattle.ocr_advancing.specs.Working.{IsBetween, IsClosed}
 use Rattle.ocr_clerks.specs.Entering.{OcrKnown}
 use Rattle.ocr_clerks.specs.Work.{OcrTable}
 use Rattle.ocr_code.specs.declared.checked.Checked.{Checked}
 use Rattle.ocr_drained.specs.Drained.{IsUnready}
-use Rattle.ocr_steal.specs.declared.hand.Hand.{Hand}
-use Rattle.ocr_steal.specs.declared.pool.Pool.{Pool}
+use Rattle.ocr_facts.specs.Ocr.{meaning}
+use Rattle.ocr_rule.specs.Living.{SeesStill}
 use Rattle.ocr_rule.specs.Owing.{IsNumber}
-use Rattle.ocr_worker.specs.Stealing.{HasFoundNothing}
+use Rattle.ocr_rule.specs.Units.{units}
+use Rattle.ocr_worker.specs.declared.draining.Drained.{Drained}
+use Rattle.ocr_worker.specs.declared.draining.Drained.TheVariants as drained
 use Rattle.ocr_worker.specs.declared.leaving.Leave.{Leave}
 use Rattle.ocr_worker.specs.declared.leaving.Leave.TheVariants as leave
 
--- a worker that finds nothing so often leaves
-abbrev pub IDLE_ROUNDS : ℕ
-IDLE_ROUNDS = 64
+-- a clerk that the root made
+abbrev pub IsWorker : OcrKnown → Type 0
+IsWorker c = c.view.seat ≡ 1
 
-abbrev pub WorkLeaves : OcrTable → Checked → Pool → ℕ → Leave → OcrKnown → Hand → Type 0
-WorkLeaves table program pool worker leave.Idle c h =
-    IsBetween table program c × HasDelivered c × HasFoundNothing pool h IDLE_ROUNDS
-WorkLeaves table program pool worker (leave.Closed word) c h = IsClosed table worker word c
+-- it owes no message, and gave up all its units
+pub record HasGivenUp (table : OcrTable) (program : Checked) (c : OcrKnown) : Type 0 where
+  pub between : IsBetween table program c
+  pub delivered : HasDelivered c
+  pub none : units c.view ≡ 0
+
+-- QUIET: so many entries there are, and nothing can come any more
+pub record LeavesQuiet (table : OcrTable) (program : Checked) (n : ℕ) (c : OcrKnown)
+    : Type 0 where
+  pub given : HasGivenUp table program c
+  pub quiet : c.view.quiet ≡ Some n
+  pub still : SeesStill meaning c.view n
+
+abbrev pub WorkLeaves : OcrTable → Checked → ℕ → Leave → OcrKnown → Type 0
+WorkLeaves table program worker (leave.Quiet n) c = LeavesQuiet table program n c
+WorkLeaves table program worker (leave.Closed word) c = IsClosed table worker word c
 
 -- THE LAST WORKER. It found no EDT ready
 abbrev pub AllUnready : ℕ → OcrKnown → Type 0
 AllUnready limit c = (n : ℕ) → IsNumber limit n → IsUnready c.view n
 
-abbrev pub DrainLeaves : OcrTable → Checked → ℕ → Leave → OcrKnown → Type 0
-DrainLeaves table program worker leave.Idle c =
+abbrev pub DrainLeaves : OcrTable → Checked → ℕ → Drained → OcrKnown → Type 0
+DrainLeaves table program worker drained.Quiet c =
     IsBetween table program c × HasDelivered c × SeesQuiet table c
-DrainLeaves table program worker (leave.Closed word) c = IsClosed table worker word c
+DrainLeaves table program worker (drained.Closed word) c = IsClosed table worker word c

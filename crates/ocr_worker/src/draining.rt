@@ -4,13 +4,13 @@ ghost use Rattle.ocr_clerks.specs.Work.{HasLeft, IsGone, Stays};
 ghost use Rattle.ocr_drained.specs.Drained.{IsUnready};
 ghost use Rattle.ocr_steal.specs.Hand.{IsSame};
 ghost use Rattle.ocr_rule.specs.Owing.{IsNumber};
-ghost use Rattle.ocr_worker.specs.declared.leaving.Leave.TheVariants as leave;
+ghost use Rattle.ocr_worker.specs.declared.draining.Drained.TheVariants as drained;
 ghost use Rattle.ocr_worker.specs.Leaving.{AllUnready, DrainLeaves};
 ghost use Rattle.ocr_advancing.specs.Resting.{HasDelivered, HasRested};
 ghost use Rattle.ocr_advancing.specs.Resting.{IsAlone, IsAtRest, SeesQuiet};
 ghost use Rattle.ocr_advancing.specs.Working.{IsBetween};
 
-use crate::leaving::{Leave, Worked, look_on};
+use crate::leaving::look_on;
 use ocr_advancing::{Advanced, advance, advance_found, closing_word, deliver_all};
 use ocr_clerks::{Gate, Job, Ocr, Over};
 use ocr_guid::Guid;
@@ -19,30 +19,37 @@ use ocr_turns::Clerk;
 use std::alloc::Global;
 use std::sync::Wait;
 
+/// How a drain ended.
+#[derive(Clone, Copy, PartialEq, Eq, Debug)]
+pub enum Drained {
+    /// Nothing is left to do.
+    Quiet,
+    /// The run has ended: the commit word that the clerk read, at least 2^48.
+    Closed(u64),
+}
+
 /// Works with nobody else at work: takes on the EDTs that are given, delivers what its clerk owes,
 /// takes on what its deque has, and then claims each EDT of the table, until no claim is won. It
-/// leaves with `Idle` exactly where the history is quiet, else with `Closed`, as the run has ended.
+/// ends with `Quiet` exactly where the history is quiet, else with `Closed`, as the run has ended.
 pub fn drain<R: Wait, G: Gate>(
     alloc: Global,
     job: &Job<R, G>,
     worker: u32,
-    mut clerk: Clerk<Ocr>,
-    mut hand: Hand,
-    ready: Vec<Guid>,
-) -> Worked
-    requires between { IsBetween job.now.turns.now job.now.program.now clerk }
-    requires alone { IsAlone clerk }
-    ensures stays { Stays clerk result.clerk × IsSame hand result.hand }
-    ensures own { HasLeft job.now.turns.now worker result.clerk }
-    ensures exact { SeesQuiet job.now.turns.now clerk → result.leave ≡ leave.Idle }
-    ensures leaves { DrainLeaves job.now.turns.now job.now.program.now worker result.leave
-        result.clerk }
+    clerk: &mut Clerk<Ocr>,
+    hand: &mut Hand,
+    ready: &[Guid],
+) -> Drained
+    requires between { IsBetween job.now.turns.now job.now.program.now clerk.old }
+    requires alone { IsAlone clerk.old }
+    ensures stays { Stays clerk.old clerk.new × IsSame hand.old hand.new }
+    ensures own { HasLeft job.now.turns.now worker clerk.new }
+    ensures exact { SeesQuiet job.now.turns.now clerk.old → result ≡ drained.Quiet }
+    ensures leaves { DrainLeaves job.now.turns.now job.now.program.now worker result clerk.new }
 {
-    let leave = match drain_on(alloc, job, worker, &mut clerk, &mut hand, ready.as_slice()) {
-        Ok(()) => Leave::Idle,
-        Err(_) => Leave::Closed(closing_word(job.turns, &mut clerk)),
-    };
-    Worked { clerk, hand, leave }
+    match drain_on(alloc, job, worker, clerk, hand, ready) {
+        Ok(()) => Drained::Quiet,
+        Err(_) => Drained::Closed(closing_word(job.turns, clerk)),
+    }
 }
 
 fn drain_on<R: Wait, G: Gate>(

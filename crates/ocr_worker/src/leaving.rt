@@ -14,8 +14,8 @@ use std::sync::Wait;
 /// Why a worker leaves.
 #[derive(Clone, Copy, PartialEq, Eq, Debug)]
 pub enum Leave {
-    /// It found nothing to do.
-    Idle,
+    /// Nothing can come any more: so many entries the run has.
+    Quiet { entries: u64 },
     /// The run has ended: the commit word that the clerk read, at least 2^48.
     Closed(u64),
 }

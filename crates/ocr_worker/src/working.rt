@@ -1,33 +1,28 @@
 // A worker's rounds.
-ghost use Rattle.std.specs.Prelude.{◌≡◌, ◌+◌, ◌^◌, ◌<◌, ◌≤◌, ℕ, false, IfOk, OnErr, OnOk};
+ghost use Rattle.std.specs.Prelude.{◌≡◌, false, true, IfNone, IfOk, IfSome, MatchOption, OnErr, OnOk};
 ghost use Rattle.ocr_clerks.specs.Work.{HasLeft, IsGone, Stays};
 ghost use Rattle.ocr_steal.specs.Hand.{IsSame};
-ghost use Rattle.ocr_steal.specs.Pool.{IsOf, hands_in};
+ghost use Rattle.ocr_steal.specs.Pool.{IsOf};
 ghost use Rattle.ocr_advancing.specs.Resting.{HasDelivered};
-ghost use Rattle.ocr_worker.specs.Leaving.{IDLE_ROUNDS, WorkLeaves};
-ghost use Rattle.ocr_worker.specs.Stealing.{HasFoundNothing, HasMissed};
 ghost use Rattle.ocr_advancing.specs.Working.{IsBetween};
+ghost use Rattle.ocr_worker.specs.Leaving.{HasGivenUp, IsWorker, LeavesQuiet, WorkLeaves};
+ghost use Rattle.ocr_worker.specs.Stealing.{HasDone, HasGot, HasGotNone};
 
 use crate::leaving::{Leave, Worked, look_on};
 use crate::stealing::steal_once;
+use crate::waiting::Waiting;
 use ocr_advancing::{advance_found, closing_word, deliver_all};
-use ocr_clerks::{Gate, Job, Ocr, Over};
-use ocr_steal::Hand;
+use ocr_clerks::{Gate, Job, Ocr, Over, read_idle};
+use ocr_guid::Guid;
+use ocr_live::LiveRead;
+use ocr_steal::{Hand, Pool};
 use ocr_turns::Clerk;
 use std::alloc::Global;
 use std::sync::Wait;
-use std::thread;
 
-/// How many rounds in succession a worker finds nothing before it leaves.
-const IDLE_ROUNDS: u32 = 64;
-
-/// How often a worker yields after its first idle round. After the second it yields twice as often,
-/// and so on.
-const YIELDS: u32 = 16;
-
-/// Works until it has found nothing for 64 rounds in succession. In each round it delivers what its
-/// clerk owes, takes an EDT from its deque, or tries to steal one from each other hand. It leaves
-/// earlier, with `Closed`, only where the run has ended.
+/// Works until nothing can come any more, or the run has ended. In each round it delivers what its
+/// clerk owes, takes an EDT from its deque, or tries to steal one from each other hand. Where there
+/// is nothing of all this, it gives up its units of the live word, and waits while that is not 0.
 pub fn work<R: Wait, G: Gate>(
     alloc: Global,
     job: &Job<R, G>,
@@ -36,46 +31,47 @@ pub fn work<R: Wait, G: Gate>(
     mut hand: Hand,
 ) -> Worked
     requires between { IsBetween job.now.turns.now job.now.program.now clerk }
+    requires seat { IsWorker clerk }
     requires pool { IsOf job.now.pool.now hand }
     ensures stays { Stays clerk result.clerk × IsSame hand result.hand }
     ensures own { HasLeft job.now.turns.now worker result.clerk }
-    ensures leaves { WorkLeaves job.now.turns.now job.now.program.now job.now.pool.now worker
-        result.leave result.clerk result.hand }
+    ensures leaves { WorkLeaves job.now.turns.now job.now.program.now worker result.leave
+        result.clerk }
 {
     let leave = match work_on(alloc, job, worker, &mut clerk, &mut hand) {
-        Ok(()) => Leave::Idle,
+        Ok(entries) => Leave::Quiet { entries },
         Err(_) => Leave::Closed(closing_word(job.turns, &mut clerk)),
     };
+    // Those that sleep are to see it, too.
+    job.pool.bell.ring_all();
     Worked { clerk, hand, leave }
 }
 
+/// Works until nothing can come any more: how many entries there are then.
 fn work_on<R: Wait, G: Gate>(
     alloc: Global,
     job: &Job<R, G>,
     worker: u32,
     clerk: &mut Clerk<Ocr>,
     hand: &mut Hand,
-) -> Result<(), Over>
+) -> Result<u64, Over>
     requires between { IsBetween job.now.turns.now job.now.program.now clerk.old }
+    requires seat { IsWorker clerk.old }
     requires pool { IsOf job.now.pool.now hand.old }
     ensures stays { Stays clerk.old clerk.new × IsSame hand.old hand.new }
-    ensures idle { OnOk result (IsBetween job.now.turns.now job.now.program.now clerk.new
-        × HasDelivered clerk.new × HasFoundNothing job.now.pool.now hand.new IDLE_ROUNDS) }
+    ensures quiet { IfOk result (λ n. LeavesQuiet job.now.turns.now job.now.program.now n
+        clerk.new) }
     ensures left { OnErr result (IsGone job.now.turns.now worker clerk.new) }
 {
-    let mut idle = 0;
+    let mut waiting = Waiting::new();
     for _ in job.rt.forever() {
-        if round(alloc, job, worker, clerk, hand)? {
-            idle = 0;
+        if round(alloc, job, worker, clerk, hand, &mut waiting)? {
             continue;
         }
-        idle += 1;
-        if idle == IDLE_ROUNDS {
-            // It rests for good.
-            job.pool.begin_rest();
-            return Ok(());
+        if let Some(entries) = find_end(job, worker, clerk)? {
+            return Ok(entries);
         }
-        rest(job, worker, clerk, idle)?;
+        waiting.wait(job.rt, &job.pool.bell);
     }
     unreachable!()
 }
@@ -87,54 +83,63 @@ fn round<R: Wait, G: Gate>(
     worker: u32,
     clerk: &mut Clerk<Ocr>,
     hand: &mut Hand,
+    waiting: &mut Waiting,
 ) -> Result<bool, Over>
     requires between { IsBetween job.now.turns.now job.now.program.now clerk.old }
     requires pool { IsOf job.now.pool.now hand.old }
     ensures stays { Stays clerk.old clerk.new × IsSame hand.old hand.new }
     ensures done { OnOk result (IsBetween job.now.turns.now job.now.program.now clerk.new) }
-    ensures idle { IfOk result (λ found. found ≡ false → HasDelivered clerk.new
-        × ((rounds : ℕ) → rounds + 1 < 2 ^ 64
-        → HasMissed (hands_in job.now.pool.now) hand.old rounds
-        → HasFoundNothing job.now.pool.now hand.new (rounds + 1))) }
+    ensures busy { IfOk result (λ found. found ≡ true → HasDone job.now.turns.now
+        job.now.program.now job.now.pool.now worker clerk.old clerk.new hand.old hand.new) }
+    ensures idle { IfOk result (λ found. found ≡ false → HasDelivered clerk.old
+        × (clerk.new ≡ clerk.old) × HasGotNone job.now.pool.now hand.old hand.new) }
     ensures left { OnErr result (IsGone job.now.turns.now worker clerk.new) }
 {
     if deliver_all(alloc, job, worker, clerk, hand)? {
         return Ok(true);
     }
-    let found = match hand.take() {
-        Some(edt) => Some(edt),
-        None => steal_once(job.pool, hand),
-    };
-    let Some(edt) = found else {
-        job.gate.pass(job.rt, worker, clerk);
+    waiting.look(&job.pool.bell);
+    let Some(edt) = find(job.pool, hand) else {
         return Ok(false);
     };
+    waiting.end(&job.pool.bell);
     advance_found(alloc, job, worker, clerk, hand, edt)?;
     Ok(true)
 }
 
-/// Looks whether the run has ended, and lets the other threads go on, for longer the more rounds
-/// were idle, while one of them is at work.
-fn rest<R: Wait, G: Gate>(
+/// An EDT of its own deque, or else one that it steals.
+fn find(pool: &Pool, hand: &mut Hand) -> Option<Guid>
+    requires { IsOf pool.now hand.old }
+    ensures same { IsSame hand.old hand.new }
+    ensures none { IfNone result (HasGotNone pool.now hand.old hand.new) }
+    ensures some { IfSome result (HasGot pool.now hand.old hand.new) }
+{
+    match hand.take() {
+        Some(edt) => Some(edt),
+        None => steal_once(pool, hand),
+    }
+}
+
+/// Whether nothing can come any more, for a worker that found nothing to do: how many entries there
+/// are then.
+fn find_end<R: Wait, G: Gate>(
     job: &Job<R, G>,
     worker: u32,
     clerk: &mut Clerk<Ocr>,
-    idle: u32,
-) -> Result<(), Over>
+) -> Result<Option<u64>, Over>
     requires between { IsBetween job.now.turns.now job.now.program.now clerk.old }
-    requires idle { idle ≤ IDLE_ROUNDS }
+    requires delivered { HasDelivered clerk.old }
+    requires seat { IsWorker clerk.old }
     ensures stays { Stays clerk.old clerk.new }
-    ensures same { OnOk result (clerk.new ≡ clerk.old) }
+    ensures told { IfOk result (λ end. MatchOption end
+        (HasGivenUp job.now.turns.now job.now.program.now clerk.new)
+        (λ n. LeavesQuiet job.now.turns.now job.now.program.now n clerk.new)) }
     ensures left { OnErr result (IsGone job.now.turns.now worker clerk.new) }
 {
+    job.gate.pass(job.rt, worker, clerk);
     look_on(job, worker, clerk)?;
-    job.pool.begin_rest();
-    for _ in 0..idle * YIELDS {
-        if job.pool.all_rest() {
-            break; // nobody is left who could bring something to do
-        }
-        thread::yield_now();
+    match read_idle(job.turns, job.program, clerk) {
+        LiveRead::Quiet { entries } => Ok(Some(entries)),
+        LiveRead::Busy(_) => Ok(None),
     }
-    job.pool.end_rest();
-    Ok(())
 }

@@ -1,5 +1,5 @@
 // What a run writes.
-ghost use Rattle.std.specs.Prelude.{◌≡◌, ◌++◌, ◌≤◌, length, IfOk, OnOk};
+ghost use Rattle.std.specs.Prelude.{◌≡◌, ◌++◌, ◌≤◌, length, ℕ, List, true, IfOk, OnOk};
 ghost use Rattle.ocr_code.specs.Checked.{checked_tree};
 ghost use Rattle.ocr_facts.specs.Ocr.{setting_of};
 ghost use Rattle.ocr_tree.specs.View.{tree_of};
@@ -10,10 +10,11 @@ ghost use Rattle.ocr_journal.specs.JournalText as journals;
 ghost use Rattle.ocr_parts.specs.Legal.{IsRun};
 ghost use Rattle.ocr_report.specs.Blocks as made;
 ghost use Rattle.ocr_report.specs.Left as lefts;
+ghost use Rattle.ocr_report.specs.Races.{IsRacesText};
 ghost use Rattle.ocr_report.specs.Refused as refusals;
 ghost use Rattle.ocr_report.specs.Stale as stales;
 ghost use Rattle.ocr_report.specs.Summary as summaries;
-ghost use Rattle.ocr_writing.specs.Output.{asked_if, output_of};
+ghost use Rattle.ocr_writing.specs.Output.{asked_if, IsOutput};
 
 use itoa::Buffer;
 use ocr_base::NoMemory;
@@ -21,7 +22,7 @@ use ocr_facts::Setting;
 use ocr_history::{Entry, Journal};
 use ocr_journal::journal_text;
 use ocr_meaning::Call;
-use ocr_report::{blocks_text, left_text, refused_text, stale_text, summary_text};
+use ocr_report::{blocks_text, left_text, push_races, refused_text, stale_text, summary_text};
 use ocr_tree::Program;
 use ocr_words::Reports;
 use std::alloc::Global;
@@ -38,14 +39,15 @@ pub fn output_of(
     requires args { length setting.now.args.items ≤ 32 }
     requires limit { (2 ≤ limit) × (limit ≤ 65536) }
     requires run { IsRun (setting_of setting.now limit) (history_of journal.now) }
-    ensures { IfOk result (λ text.
-        text.items ≡ output_of (setting_of setting.now limit) (history_of journal.now) reports) }
+    ensures { IfOk result (λ text. IsOutput (setting_of setting.now limit)
+        (history_of journal.now) reports text.items) }
 {
     let mut text = prints(alloc, journal.entries())?;
     summary(alloc, &mut text, journal, reports.summary)?;
     left(alloc, &mut text, journal, reports.left)?;
     stale(alloc, &mut text, journal, reports.stale)?;
     refused(alloc, &mut text, journal, reports.refused)?;
+    races(alloc, &mut text, setting, limit, journal, reports.races)?;
     blocks(alloc, &mut text, setting, limit, journal, reports.blocks)?;
     let program = setting.program.program();
     entries(alloc, &mut text, journal, program, reports.journal)?;
@@ -135,6 +137,27 @@ fn refused(
     if is_asked {
         let report = refused_text(alloc, journal)?;
         text.extend_from_slice(&report)?;
+    }
+    Ok(())
+}
+
+fn races(
+    alloc: Global,
+    text: &mut Vec<u8>,
+    setting: &Setting,
+    limit: u64,
+    journal: &Journal,
+    is_asked: bool,
+) -> Result<(), NoMemory>
+    requires args { length setting.now.args.items ≤ 32 }
+    requires limit { (2 ≤ limit) × (limit ≤ 65536) }
+    requires run { IsRun (setting_of setting.now limit) (history_of journal.now) }
+    ensures { OnOk result ((report : List ℕ) × (is_asked ≡ true
+        → IsRacesText (setting_of setting.now limit) (history_of journal.now) report)
+        × (text.new.items ≡ text.old.items ++ asked_if is_asked report)) }
+{
+    if is_asked {
+        push_races(alloc, text, setting, limit, journal)?;
     }
     Ok(())
 }

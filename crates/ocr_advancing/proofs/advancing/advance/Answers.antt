@@ -2,6 +2,7 @@ use Rattle.std.proofs.Common.{subst}
 use Rattle.ocr_facts.specs.Ocr.{meaning}
 use Rattle.ocr_facts.specs.Clerks.{OcrView}
 use Rattle.ocr_rule.specs.Words.{SeesReady}
+use Rattle.ocr_advancing.proofs.Resting.{claimed_work}
 use Rattle.ocr_advancing.proofs.advancing.advance.Goals as goal
 
 pub returns-in-Err-clause-told : goal.returns-in-Err-clause-told
@@ -14,3 +15,7 @@ returns-in-Err-clause-told g c =
         left = c.closing_word.ensures.left c.args.worker c.in-Err.ensures.left.0;
       },
     )
+
+pub go_on-requires-clause-work : goal.go_on-requires-clause-work
+go_on-requires-clause-work g c =
+    claimed_work c.args.job.now.turns.now c.args.job.now.program.now c.args.edt c.args.clerk.now c.claim.new.clerk c.requires.between c.claim.ensures.hand c.in_default.ensures.told.0

@@ -1,10 +1,9 @@
-use Rattle.std.proofs.Common.{◌≡◌}
 use Rattle.ocr_advancing.proofs.Rounds.{GoesOn}
-use Rattle.ocr_steal.specs.Hand.{knows, misses_of}
+use Rattle.ocr_clerks.specs.Pushing.{IsPushed, PushesReady}
 use Rattle.ocr_advancing.proofs.delivering.deliver_owing.Given as goal
 
 abbrev pub invariant-loop : goal.invariant-loop
 invariant-loop g l =
     (goal.iterator-loop g).can_next l.iterator' × (goal.iterator-loop g).is_finite l.iterator'
     × GoesOn l.job.turns.now l.job.program.now l.fn.clerk l.clerk l.fn.hand l.hand
-    × (knows l.hand ≡ knows l.fn.hand) × (misses_of l.hand ≡ misses_of l.fn.hand)
+    × IsPushed l.fn.hand l.hand × PushesReady l.fn.clerk l.clerk l.fn.hand l.hand

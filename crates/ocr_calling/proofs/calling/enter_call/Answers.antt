@@ -2,11 +2,14 @@ use Rattle.std.proofs.Common.{◌≡◌, ◌++◌, ℕ, List, [], sym, subst}
 use Rattle.ocr_meaning.specs.Holds.{private_of}
 use Rattle.ocr_history.specs.declared.entry.Entry.TheVariants.{Call}
 use Rattle.ocr_facts.specs.Ocr.{wakes}
+use Rattle.ocr_clerks.specs.Pushing.{ReadiesNone}
 use Rattle.ocr_clerks.specs.Work.{EntersAs}
+use Rattle.ocr_clerks.proofs.Pushing.{entered_readies}
 use Rattle.ocr_running.specs.Calls.{faces_of}
 use Rattle.ocr_running.specs.Running.{AreOthers, HasEntered, IsCalled, holds_at, made_by, places_made}
 use Rattle.ocr_running.proofs.Called.{can_call, others_are}
 use Rattle.ocr_running.proofs.Entered.{call_done, call_leaves, ok_both, ok_then}
+use Rattle.ocr_running.proofs.Readied.{lifted_duties}
 use Rattle.ocr_calling.proofs.calling.enter_call.Goals as goal
 
 pub enter_at_work-requires : goal.enter_at_work-requires
@@ -17,11 +20,21 @@ enter_at_work-requires g c = λ κs lives.
         lives.1,
         (
           r.0,
-          can_call c.args.job.now.turns.now c.args.job.now.program.now c.args.edt g.s.0 g.s.1 c.args.clerk.now c.args.home c.args.call c.args.answer (private_of c.args.call (holds_at g.s.1)) c.args.writes c.args.parts.items
-              r.0 r.1.0 r.1.1.1.1.0 r.1.1.0 r.1.1.1.0 r.1.1.1.1.1.0 r.1.1.1.1.1.1.0 r.1.1.1.1.1.1.1.0 r.1.1.1.1.1.1.1.1,
+          (
+            lifted_duties c.args.job.now.turns.now.1 c.args.edt g.s.0 g.s.1 c.args.clerk.now _ _ c.args.parts.items r.1.0 r.1.1.0,
+            can_call c.args.job.now.turns.now c.args.job.now.program.now c.args.edt g.s.0 g.s.1 c.args.clerk.now c.args.home c.args.call c.args.answer (private_of c.args.call (holds_at g.s.1)) c.args.writes c.args.parts.items
+                r.0 r.1.0 r.1.1.1.1.0 r.1.1.0 r.1.1.1.0 r.1.1.1.1.1.0 r.1.1.1.1.1.1.0 r.1.1.1.1.1.1.1.0 r.1.1.1.1.1.1.1.1,
+          ),
         ),
       ),
     )
+
+pub returns-clause-readied : goal.returns-clause-readied
+returns-clause-readied g c =
+    let t = c.args.job.now.turns.now.1 in let new = c.enter_at_work.new.clerk in
+    let e = Call c.args.edt c.args.home c.args.call c.args.answer c.args.writes in
+    ok_then c.enter_at_work.result (EntersAs t c.args.clerk.now new e (record { members = []; parts = c.args.parts.items })) (ReadiesNone c.args.clerk.now new) c.enter_at_work.ensures.entered
+    (entered_readies t c.args.clerk.now new e (record { members = []; parts = c.args.parts.items }))
 
 pub returns-clause-entered : goal.returns-clause-entered
 returns-clause-entered g c =

@@ -7,6 +7,7 @@ use Rattle.ocr_parts.specs.declared.part.Part.{Part}
 use Rattle.ocr_parts.specs.Legal.{carried}
 use Rattle.ocr_rule.specs.Owing.{listed}
 use Rattle.ocr_facts.specs.Ocr.{counts}
+use Rattle.ocr_clerks.proofs.Pushing.{pushes_ok}
 use Rattle.ocr_running.specs.Calls.{faces_of}
 use Rattle.ocr_calling.specs.Making.{IsLet}
 use Rattle.ocr_running.specs.Running.{AreOthers, HasEntered, made_by, places_made}
@@ -84,6 +85,10 @@ settle-requires g c = λ κs within.
         ),
       ),
     )
+
+pub returns-clause-pushed : goal.returns-clause-pushed
+returns-clause-pushed g c =
+    pushes_ok c.settle.result c.args.clerk.now c.enter_call.new.clerk c.settle.new.clerk c.args.hand.now c.settle.new.hand c.in_ok-resumed.ensures.readied c.settle.ensures.pushed
 
 pub returns-clause-called : goal.returns-clause-called
 returns-clause-called g c =

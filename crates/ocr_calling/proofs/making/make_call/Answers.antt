@@ -6,6 +6,9 @@ use Rattle.ocr_meaning.specs.Holds.{private_of}
 use Rattle.ocr_meaning.specs.declared.call.Call as body
 use Rattle.ocr_running.specs.Running.{IsCalled, holds_at}
 use Rattle.ocr_running.specs.Serving.{own_log}
+use Rattle.ocr_clerks.specs.Pushing.{PushesReady, ReadiesNone}
+use Rattle.ocr_clerks.proofs.Pushing.{pushes_none}
+use Rattle.ocr_running.proofs.Entered.{ok_then}
 use Rattle.ocr_calling.proofs.making.make_call.Goals as goal
 
 pub print-requires : goal.print-requires
@@ -31,3 +34,7 @@ make_from-requires g c = λ κs within.
 pub returns-in-Print-clause-called : goal.returns-in-Print-clause-called
 returns-in-Print-clause-called g c =
     subst (λ (k : body.Call). IfOk c.print.result (λ a. IsCalled c.args.edt k a c.args.clerk.now c.print.new.clerk)) (sym c.in-Print.is) c.print.ensures.called
+
+pub returns-in-Print-clause-pushed : goal.returns-in-Print-clause-pushed
+returns-in-Print-clause-pushed g c =
+    ok_then c.print.result (ReadiesNone c.args.clerk.now c.print.new.clerk) (PushesReady c.args.clerk.now c.print.new.clerk c.args.hand.now c.args.hand.now) c.print.ensures.readied (pushes_none c.args.clerk.now c.print.new.clerk c.args.hand.now)

@@ -5,7 +5,9 @@ use Rattle.ocr_meaning.specs.Holds.{private_of}
 use Rattle.ocr_meaning.specs.declared.call.Call as body
 use Rattle.ocr_parts.specs.Codes.{code_of}
 use Rattle.ocr_parts.specs.Taken.{face_in}
+use Rattle.ocr_facts.specs.Clerks.{OcrView}
 use Rattle.ocr_clerks.specs.Entering.{OcrKnown}
+use Rattle.ocr_clerks.proofs.Pushing.{none_then}
 use Rattle.ocr_running.specs.Calls.{IsAnswer, IsCoded, drawn_for, faces_of}
 use Rattle.ocr_running.specs.Running.{HasLifted, IsCalled, Runs, holds_at, home_at, places_made}
 use Rattle.ocr_running.specs.Serving.{own_log}
@@ -105,6 +107,11 @@ enter_asked-requires g c = λ κs within.
         ),
       ),
     )
+
+pub returns-clause-pushed : goal.returns-clause-pushed
+returns-clause-pushed g c =
+    let kept = ap (λ (v : OcrView). v.debts.readied) c.in_ok-given.ensures.lifted.view ∙ ap (λ (k : OcrKnown). k.view.debts.readied) c.requires.1.1.0 in
+    none_then c.args.clerk.now c.answer.new.clerk c.enter_asked.new.clerk c.args.hand.now c.enter_asked.new.hand kept c.in_ok-enter_asked.ensures.pushed
 
 pub returns-clause-called : goal.returns-clause-called
 returns-clause-called g c =

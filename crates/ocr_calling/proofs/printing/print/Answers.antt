@@ -1,11 +1,14 @@
-use Rattle.std.proofs.Common.{[], List, length, ap, sym, subst, arith}
+use Rattle.std.proofs.Common.{◌≡◌, [], List, length, refl, ap, sym, subst, arith}
 use Rattle.ocr_meaning.specs.declared.call.Answer.{Answer}
 use Rattle.ocr_meaning.specs.declared.call.Call.TheVariants as call
 use Rattle.ocr_history.specs.declared.entry.Entry.{Entry}
 use Rattle.ocr_history.specs.declared.entry.What.{What}
 use Rattle.ocr_facts.specs.Clerks.{IsStep}
+use Rattle.ocr_facts.specs.Ocr.{wakes}
 use Rattle.ocr_clerks.specs.Entering.{CanMake}
 use Rattle.ocr_clerks.specs.Work.{EntersAs, in_hand}
+use Rattle.ocr_clerks.proofs.Pushing.{entered_readies}
+use Rattle.ocr_clerks.proofs.Units.{taken_duties}
 use Rattle.ocr_running.specs.Running.{IsCalled}
 use Rattle.ocr_calling.proofs.Printed.{at_hand, can_print, leaves_all, plain_hand, print_done, print_runs}
 use Rattle.ocr_calling.proofs.printing.print.Goals as goal
@@ -26,13 +29,23 @@ enter_at_hand-requires g c = λ κs within.
               (
                 subst (λ (l : List What). IsStep table.1.limit c.print_entry-entry.result [] (in_hand clerk.parts) (in_hand clerk.parts) l) (sym none)
                     (subst (λ (e : Entry). IsStep table.1.limit e [] (in_hand clerk.parts) (in_hand clerk.parts) []) is (leaves_all table.1.limit c.args.edt c.args.value (in_hand clerk.parts))),
-                (let l = ap (λ (l : List What). length l) none in omega (arith, l)),
+                (
+                  (let l = ap (λ (l : List What). length l) none in omega (arith, l)),
+                  (
+                    taken_duties table.1 c.args.edt clerk r.1.0.taken,
+                    subst (λ (e : Entry). wakes table.1.limit e clerk.view.parts ≡ []) is refl,
+                  ),
+                ),
               ),
             ),
           ),
         ),
       ),
     )
+
+pub returns-clause-readied : goal.returns-clause-readied
+returns-clause-readied g c =
+    entered_readies c.args.job.now.turns.now.1 c.args.clerk.now c.enter_at_hand.new.clerk c.print_entry-entry.result (plain_hand c.args.clerk.now) c.in_ok-enter_at_hand.ensures.entered
 
 pub returns-clause-runs : goal.returns-clause-runs
 returns-clause-runs g c =

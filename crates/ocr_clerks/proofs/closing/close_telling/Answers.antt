@@ -1,5 +1,5 @@
 use Rattle.ocr_clerks.proofs.Ending.{may_close}
-use Rattle.ocr_clerks.proofs.Going.{close_left, close_stays}
+use Rattle.ocr_clerks.proofs.Going.{close_left, close_made, close_stays}
 use Rattle.ocr_clerks.proofs.closing.close_telling.Goals as goal
 
 pub close-requires-clause-may : goal.close-requires-clause-may
@@ -16,3 +16,9 @@ returns-in-Closed-clause-stays g c = close_stays c.args.job.now.turns.now c.args
 
 pub returns-in-Closed-clause-gone : goal.returns-in-Closed-clause-gone
 returns-in-Closed-clause-gone g c = close_left c.args.job.now.turns.now c.args.job.now.program.now c.args.worker c.args.why c.args.learns.now c.close.result c.args.clerk.now c.close.new.clerk c.requires.work c.requires.own c.close.ensures
+
+pub returns-in-At-clause-made : goal.returns-in-At-clause-made
+returns-in-At-clause-made g c = close_made c.args.job.now.turns.now c.args.job.now.program.now c.args.why c.args.learns.now c.close.result c.args.clerk.now c.close.new.clerk c.requires.work c.close.ensures
+
+pub returns-in-Closed-clause-made : goal.returns-in-Closed-clause-made
+returns-in-Closed-clause-made g c = close_made c.args.job.now.turns.now c.args.job.now.program.now c.args.why c.args.learns.now c.close.result c.args.clerk.now c.close.new.clerk c.requires.work c.close.ensures

@@ -1,13 +1,14 @@
-use Rattle.std.proofs.Common.{List, ℕ, length, Option, ap, ◌≡◌, ◌∙◌, subst, IfOk}
+use Rattle.std.proofs.Common.{List, ℕ, length, Option, ap, sym, ◌≡◌, ◌∙◌, subst, IfOk}
 use Rattle.ocr_parts.specs.declared.part.Part.{Part}
 use Rattle.ocr_facts.specs.Clerks.{OcrView}
 use Rattle.ocr_facts.specs.Ocr.{wakes}
+use Rattle.ocr_clerks.specs.Work.{HasFewDuties}
 use Rattle.ocr_clerks.proofs.Whole.{kept_on, lifted_can, lifted_length, lifted_work, whole_once}
 use Rattle.ocr_clerks.proofs.keeping.enter_kept.Goals as goal
 
 pub lift_parts-requires-clause-once : goal.lift_parts-requires-clause-once
 lift_parts-requires-clause-once g c =
-    let r = c.requires.1.1 in whole_once c.args.job.now.turns.now.1 c.args.clerk.now c.args.entry g.h c.args.places.now r.1.0 r.1.1
+    let r = c.requires.1.1 in whole_once c.args.job.now.turns.now.1 c.args.clerk.now c.args.entry g.h c.args.places.now r.1.0 r.1.1.1
 
 pub enter_at_work-requires : goal.enter_at_work-requires
 enter_at_work-requires g c =
@@ -18,7 +19,10 @@ enter_at_work-requires g c =
         lives.1,
         (
           lifted_work c.args.job.now.turns.now c.args.job.now.program.now c.args.clerk.now c.lift_parts.new.clerk r.0 e.same.0 e.same.1 e.same.2 (ap (λ (l : List (ℕ × Option Part)). length l) e.left ∙ lifted_length c.args.clerk.now.parts),
-          lifted_can c.args.job.now.turns.now.1 c.args.clerk.now c.lift_parts.new.clerk c.args.entry g.h c.in-Ok.parts.items e.same.1 e.parts r.1.1,
+          (
+            subst HasFewDuties (sym e.same.1) r.1.1.0,
+            lifted_can c.args.job.now.turns.now.1 c.args.clerk.now c.lift_parts.new.clerk c.args.entry g.h c.in-Ok.parts.items e.same.1 e.parts r.1.1.1,
+          ),
         ),
       ),
     )
@@ -26,7 +30,7 @@ enter_at_work-requires g c =
 pub returns-clause-entered : goal.returns-clause-entered
 returns-clause-entered g c =
     let r = c.requires.1.1 in let e = c.in-Ok.ensures in
-    kept_on c.args.job.now.turns.now.1 c.args.clerk.now c.lift_parts.new.clerk c.enter_at_work.new.clerk c.args.entry g.h c.args.places.now r.1.0 r.1.1 e.same.1 e.left c.enter_at_work.result c.enter_at_work.ensures.entered
+    kept_on c.args.job.now.turns.now.1 c.args.clerk.now c.lift_parts.new.clerk c.enter_at_work.new.clerk c.args.entry g.h c.args.places.now r.1.0 r.1.1.1 e.same.1 e.left c.enter_at_work.result c.enter_at_work.ensures.entered
 
 pub returns-clause-resumed : goal.returns-clause-resumed
 returns-clause-resumed g c =

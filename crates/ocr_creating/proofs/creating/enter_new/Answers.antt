@@ -1,4 +1,4 @@
-use Rattle.std.proofs.Common.{◌≡◌, ◌+◌, ◌∷◌, [], ℕ, List, length, Some, refl, ap, sym, subst, arith}
+use Rattle.std.proofs.Common.{◌≡◌, ◌∙◌, ◌+◌, ◌∷◌, [], ℕ, List, length, Some, refl, ap, sym, subst, arith}
 use Rattle.std.specs.Prelude.{OnOk}
 use Rattle.ocr_meaning.specs.Behaviour.{IsNextWith}
 use Rattle.ocr_meaning.specs.Body.{says}
@@ -9,13 +9,15 @@ use Rattle.ocr_history.specs.declared.entry.What.{What}
 use Rattle.ocr_parts.specs.declared.part.Part.{Part}
 use Rattle.ocr_parts.specs.declared.part.Part.TheVariants as part
 use Rattle.ocr_rule.specs.Sums.{find}
-use Rattle.ocr_facts.specs.Clerks.{IsStep}
+use Rattle.ocr_facts.specs.Clerks.{IsStep, OcrView}
+use Rattle.ocr_facts.specs.Ocr.{wakes}
 use Rattle.ocr_clerks.specs.Entering.{CanMake, OcrKnown}
 use Rattle.ocr_clerks.specs.Work.{EntersAs, in_hand}
+use Rattle.ocr_clerks.proofs.Pushing.{entered_readies, pushes_ok}
 use Rattle.ocr_running.specs.Running.{AreOthers, HasEntered, IsCalled, holds_at, home_at}
 use Rattle.ocr_running.specs.Serving.{own_log}
 use Rattle.ocr_creating.specs.Creating.{HasAtHand, IsMadeOf, call_of, made_answer, made_entry}
-use Rattle.ocr_creating.proofs.Created.{called, core_found, face_found, has_entered, mid_at_hand, mid_can, mid_step, others_at}
+use Rattle.ocr_creating.proofs.Created.{called, core_found, face_found, has_entered, mid_at_hand, mid_can, mid_duties, mid_step, others_at}
 use Rattle.ocr_calling.proofs.Makes.{called_so}
 use Rattle.ocr_clerks.proofs.Whole.{lifted_work}
 use Rattle.ocr_creating.proofs.creating.enter_new.Goals as goal
@@ -62,7 +64,13 @@ enter_at_hand-requires g c κs within =
                 subst (λ (l : List What). IsStep t.limit c.in-Ok-new_entry.entry [] (in_hand g.s.1.1.parts) (in_hand c.put_new.new.clerk.parts) l) (sym none)
                     (subst (λ (e : Entry). IsStep t.limit e [] (in_hand g.s.1.1.parts) (in_hand c.put_new.new.clerk.parts) []) (sym e_is)
                     (subst (λ (k : OcrKnown). IsStep t.limit (made_entry a.edt (call_of a.bare.now) a.new) [] (in_hand k.parts) (in_hand c.put_new.new.clerk.parts) []) (sym r.0) (mid_step a.job.now.turns.now a.job.now.program.now a.edt g.s.0 g.s.1.0 a.clerk.now a.bare.now a.made.now a.slots a.new r.1.0 r.1.1.0 next r.1.1.1.1.1.0 home r.1.1.1.1.1.1.1.0.0 r.1.1.1.1.1.1.1.0.1 hand found r.1.1.1.1.1.1.1.1.1.1 c.put_new.new.clerk c.put_new.ensures.rest.1 put))),
-                (let l = ap (λ (l : List What). length l) none in omega (arith, l)),
+                (
+                  (let l = ap (λ (l : List What). length l) none in omega (arith, l)),
+                  (
+                    mid_duties a.job.now.turns.now a.job.now.program.now a.edt g.s.0 g.s.1.0 a.clerk.now a.bare.now a.made.now a.slots a.new r.1.0 r.1.1.0 next r.1.1.1.1.1.0 home r.1.1.1.1.1.1.1.0.0 r.1.1.1.1.1.1.1.0.1 hand found r.1.1.1.1.1.1.1.1.1.1 c.put_new.new.clerk c.put_new.ensures.rest.1 put,
+                    subst (λ (e : Entry). wakes t.limit e c.put_new.new.clerk.view.parts ≡ []) (sym e_is) refl,
+                  ),
+                ),
               ),
             ),
           ),
@@ -97,6 +105,13 @@ settle-requires g c κs within =
         ),
       ),
     )
+
+pub returns-clause-pushed : goal.returns-clause-pushed
+returns-clause-pushed g c =
+    let a = c.args in let new = c.enter_at_hand.new.clerk in
+    let none = entered_readies a.job.now.turns.now.1 c.put_new.new.clerk new c.in-Ok-new_entry.entry (record { members = []; parts = in_hand g.s.1.1.parts }) c.in_ok-enter_at_hand.ensures.entered
+    ∙ ap (λ (v : OcrView). v.debts.readied) c.put_new.ensures.rest.1 in
+    pushes_ok c.settle.result a.clerk.now new c.settle.new.clerk a.hand.now c.settle.new.hand none c.settle.ensures.pushed
 
 pub returns-clause-called : goal.returns-clause-called
 returns-clause-called g c =

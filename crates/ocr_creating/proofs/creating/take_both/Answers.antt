@@ -7,8 +7,9 @@ use Rattle.ocr_history.specs.declared.entry.Entry.{Entry}
 use Rattle.ocr_parts.specs.Legal.{IsCreating}
 use Rattle.ocr_parts.specs.Taken.{face_in}
 use Rattle.ocr_rule.specs.Sums.{find}
-use Rattle.ocr_facts.specs.Clerks.{Knows, of_terms}
+use Rattle.ocr_facts.specs.Clerks.{Knows, OcrView, of_terms}
 use Rattle.ocr_clerks.specs.Work.{Took, in_hand}
+use Rattle.ocr_clerks.proofs.Pushing.{took_readies}
 use Rattle.ocr_running.specs.Running.{HasLifted, holds_at}
 use Rattle.ocr_running.specs.Serving.{own_log}
 use Rattle.std.specs.Prelude.{reverse}
@@ -47,6 +48,11 @@ returns-clause-hand g c =
     let two = at_more t a.edt g.s.1 c.draw_number.new.clerk c.take_part.new.clerk (a.bare.now.template ∷ []) (n ∷ []) n one c.in_ok-take_part.ensures.took in
     at_more t a.edt g.s.1 c.take_part.new.clerk c.take_part-2.new.clerk (a.bare.now.template ∷ n ∷ []) (n ∷ []) (t.limit + n) two
     (subst (λ (k : ℕ). Took c.take_part.new.clerk c.take_part-2.new.clerk ((k + n) ∷ [])) c.limit.ensures c.in_ok-take_part-2.ensures.took)
+
+pub returns-clause-readied : goal.returns-clause-readied
+returns-clause-readied g c =
+    took_readies c.take_part.new.clerk c.take_part-2.new.clerk _ c.in_ok-take_part-2.ensures.took
+    ∙ (took_readies c.draw_number.new.clerk c.take_part.new.clerk _ c.in_ok-take_part.ensures.took ∙ ap (λ (v : OcrView). v.debts.readied) c.in_ok-new.ensures.number.2)
 
 pub returns-clause-found : goal.returns-clause-found
 returns-clause-found g c =

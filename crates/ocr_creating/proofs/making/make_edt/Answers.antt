@@ -6,8 +6,11 @@ use Rattle.ocr_meaning.specs.Holds.{Holds, private_of}
 use Rattle.ocr_meaning.specs.declared.call.Answer.{Answer}
 use Rattle.ocr_facts.specs.Clerks.{OcrView}
 use Rattle.ocr_parts.specs.declared.part.Part.{Part}
+use Rattle.ocr_clerks.specs.Pushing.{PushesReady}
+use Rattle.ocr_clerks.proofs.Pushing.{pushes_then}
 use Rattle.ocr_running.specs.Running.{first_in, holds_at}
 use Rattle.ocr_running.specs.Serving.{holds_in, own_log}
+use Rattle.ocr_running.proofs.Entered.{ok_then}
 use Rattle.ocr_creating.proofs.Created.{called_same, runs_same}
 use Rattle.ocr_creating.proofs.making.make_edt.Goals as goal
 
@@ -29,6 +32,12 @@ make_call-requires g c κs within =
         ),
       ),
     )
+
+pub returns-clause-pushed : goal.returns-clause-pushed
+returns-clause-pushed g c =
+    let a = c.args in let mid = c.create_bare.new in
+    ok_then c.make_call.result (PushesReady mid.clerk c.make_call.new.clerk mid.hand c.make_call.new.hand) (PushesReady a.clerk.now c.make_call.new.clerk a.hand.now c.make_call.new.hand) c.make_call.ensures.pushed
+    (pushes_then a.clerk.now mid.clerk c.make_call.new.clerk a.hand.now mid.hand c.make_call.new.hand c.in_ok-answer.ensures.pushed)
 
 pub returns-clause-called : goal.returns-clause-called
 returns-clause-called g c =

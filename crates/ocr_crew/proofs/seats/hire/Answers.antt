@@ -4,7 +4,7 @@ use Rattle.crossbeam_utils.specs.Padded.{padded_value}
 use Rattle.crossbeam_utils.specs.declared.cache_padded.CachePadded.{CachePadded}
 use Rattle.ocr_crew.specs.declared.seats.Seat.{Seat}
 use Rattle.ocr_crew.specs.Seats.{IsHiring, IsSeat}
-use Rattle.ocr_crew.proofs.Seated.{first_hand, hired, hires, later_hands}
+use Rattle.ocr_crew.proofs.Seated.{begins_gathering, begun_hand, first_hand, hired, hires, later_hands, may_lower, none_left}
 use Rattle.ocr_crew.proofs.seats.hire.Goals as goal
 use Rattle.ocr_steal.proofs.Owners.{each_push}
 
@@ -20,14 +20,15 @@ loop-hand-preserved g c =
     let quota = ap (λ v. v.quota) split.root.1 in
     let len = c.in_ok-push.ensures.len in let new = c.in_ok-push.ensures.items in let real = at.seats.ok.0 in
     let fewer : into_iter_len at.hand-iterator ≡ into_iter_len c.next.new.self + 1 = (let a = steps.1 in let b = ap length steps.0 in let d = old.long in omega arith) in
-    let number = c.number-worker.ensures in let is = first.1 in
+    let number = c.number-worker.ensures in let is = first.number in
     let same = c.in_ok-hand.ensures.same in let kept = same.number in
     let seat : IsSeat table program pool (length at.seats.items) (padded_value c.new.result) =
     subst (IsSeat table program pool (length at.seats.items)) (sym c.new.ensures) (record {
       hired = goes;
       worker = omega (arith, number, is, real, kept);
-      hand = same.pool ∙ first.0;
+      hand = same.pool ∙ first.of_pool;
       number_is = omega (arith, is, real, kept);
+      begun = begun_hand (length at.seats.items) hand c.in_ok-hand.hand (omega (arith, is, real)) first.fresh c.in_ok-hand.ensures.first c.in_ok-hand.ensures.others;
     }) in
     record {
       root = subst (λ n. IsHiring table program n c.split.new.root) (sym len) root;
@@ -38,3 +39,15 @@ loop-hand-preserved g c =
       seats = subst (λ (l : List (CachePadded Seat)). (k : ℕ) (d : CachePadded Seat) → k < length l → IsSeat table program pool k (padded_value (get_or l k d))) (sym new)
           (each_push (λ k s. IsSeat table program pool k (padded_value s)) at.seats.items c.new.result old.seats seat);
     }
+
+pub lower-requires-clause-may : goal.lower-requires-clause-may
+lower-requires-clause-may g c =
+    may_lower c.args.job.now.turns.now c.args.job.now.program.now (vec_len c.loop-hand.seats) c.loop-hand.root c.loop-hand.invariant.root
+
+pub returns-clause-root : goal.returns-clause-root
+returns-clause-root g c =
+    begins_gathering c.args.job.now.turns.now c.args.job.now.program.now (vec_len c.loop-hand.seats) c.loop-hand.root c.lower.new.clerk c.loop-hand.invariant.root c.lower.ensures.hand c.lower.ensures.view
+
+pub returns-clause-unit : goal.returns-clause-unit
+returns-clause-unit g c =
+    none_left c.args.job.now.turns.now c.args.job.now.program.now (vec_len c.loop-hand.seats) c.loop-hand.root c.lower.new.clerk c.loop-hand.invariant.root c.lower.ensures.view

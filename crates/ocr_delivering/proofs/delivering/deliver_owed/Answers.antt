@@ -1,6 +1,7 @@
 use Rattle.std.proofs.Common.{sym, subst}
+use Rattle.ocr_clerks.proofs.Pushing.{pushes_none}
 use Rattle.ocr_delivering.specs.Delivering.{LeavesScope, SatisfiesEvent, SetsSlot}
-use Rattle.ocr_delivering.proofs.Delivered.{on_ok, pushes_none}
+use Rattle.ocr_delivering.proofs.Delivered.{on_ok}
 use Rattle.ocr_delivering.proofs.delivering.deliver_owed.Goals as goal
 
 pub deliver_set-requires-clause-owed : goal.deliver_set-requires-clause-owed
@@ -25,7 +26,7 @@ returns-in-Satisfy-clause-delivered g c =
 
 pub returns-in-Satisfy-clause-pushed : goal.returns-in-Satisfy-clause-pushed
 returns-in-Satisfy-clause-pushed g c =
-    on_ok c.deliver_satisfaction.result _ _ (pushes_none c.args.clerk.now c.deliver_satisfaction.new.clerk c.args.hand.now) c.deliver_satisfaction.ensures.lasts
+    on_ok c.deliver_satisfaction.result _ _ (pushes_none c.args.clerk.now c.deliver_satisfaction.new.clerk c.args.hand.now) c.deliver_satisfaction.ensures.readied
 
 pub deliver_leave-requires-clause-owed : goal.deliver_leave-requires-clause-owed
 deliver_leave-requires-clause-owed g c = (0, c.first_owed-message.ensures)
@@ -39,4 +40,4 @@ returns-in-Leave-clause-delivered g c =
 
 pub returns-in-Leave-clause-pushed : goal.returns-in-Leave-clause-pushed
 returns-in-Leave-clause-pushed g c =
-    on_ok c.deliver_leave.result _ _ (pushes_none c.args.clerk.now c.deliver_leave.new.clerk c.args.hand.now) c.deliver_leave.ensures.lasts
+    on_ok c.deliver_leave.result _ _ (pushes_none c.args.clerk.now c.deliver_leave.new.clerk c.args.hand.now) c.deliver_leave.ensures.readied

@@ -1,3 +1,4 @@
+use Rattle.ocr_clerks.proofs.Units.{idle_duties}
 use Rattle.ocr_delivering.proofs.Owed.{can_deliver, idle_hand}
 use Rattle.ocr_delivering.proofs.delivering.enter_delivery.Goals as goal
 
@@ -10,7 +11,10 @@ enter_kept-requires g c κs within = (
       c.requires.work,
       (
         idle_hand c.args.clerk.now c.requires.idle,
-        can_deliver c.args.job.now.turns.now c.args.job.now.program.now c.args.clerk.now c.args.message c.requires.work c.requires.idle c.requires.owed c.requires.sets,
+        (
+          idle_duties c.args.clerk.now c.requires.idle,
+          can_deliver c.args.job.now.turns.now c.args.job.now.program.now c.args.clerk.now c.args.message c.requires.work c.requires.idle c.requires.owed c.requires.sets,
+        ),
       ),
     ),
   ),

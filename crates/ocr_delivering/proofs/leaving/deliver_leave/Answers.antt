@@ -4,9 +4,10 @@ use lib.ListN.{get_elem?}
 use Rattle.ocr_guid.specs.declared.Code.TheVariants as code
 use Rattle.ocr_history.specs.declared.entry.What.{What}
 use Rattle.ocr_parts.specs.declared.part.Part.{Part}
-use Rattle.ocr_clerks.specs.Work.{HasAllAtHand, KeepsLoose}
+use Rattle.ocr_clerks.specs.Work.{HasAllAtHand, HasFewDuties, KeepsLoose}
+use Rattle.ocr_clerks.proofs.Units.{took_duties}
 use Rattle.ocr_clerks.proofs.Whole.{lifted_length, lifted_work}
-use Rattle.ocr_delivering.proofs.Faced.{can_face, faced, faced_delivers, faced_idle, faced_lasts, kept, loose, took_all, took_once}
+use Rattle.ocr_delivering.proofs.Faced.{can_face, faced, faced_delivers, faced_idle, faced_readied, kept, loose, took_all, took_once}
 use Rattle.ocr_delivering.proofs.Left.{answers_scope, leaves_none, left_code, may_leave, names_scope}
 use Rattle.ocr_delivering.proofs.leaving.deliver_leave.Goals as goal
 
@@ -32,7 +33,10 @@ enter_at_work-requires g c =
         lives.1,
         (
           lifted_work a.job.now.turns.now a.job.now.program.now c.take_scope.new.clerk c.lift_parts.new.clerk e.work l.same.0 l.same.1 l.same.2 (ap (λ (ps : List (ℕ × Option Part)). length ps) l.left ∙ lifted_length c.take_scope.new.clerk.parts),
-          can_face a.clerk.now c.take_scope.new.clerk r c.requires.idle e.took a.job.now.turns.now a.job.now.program.now a.message e.work c.requires.owed e.within left_code (names_scope a.clerk.now c.take_scope.new.clerk r c.requires.idle e.took a.job.now.turns.now a.job.now.program.now a.message e.work c.requires.owed e.within c.scope_of-scope.ensures) (leaves_none a.clerk.now c.take_scope.new.clerk r c.requires.idle e.took a.job.now.turns.now a.job.now.program.now a.message e.work c.requires.owed e.within c.scope_of-scope.ensures) (may_leave a.clerk.now c.take_scope.new.clerk r c.requires.idle e.took a.job.now.turns.now a.job.now.program.now a.message e.work c.requires.owed e.within c.scope_of-scope.ensures) c.lift_parts.new.clerk c.in-Ok.parts.items code.Done l.same.1 l.parts refl,
+          (
+            subst HasFewDuties (sym l.same.1) (took_duties a.clerk.now c.take_scope.new.clerk _ c.requires.idle e.took),
+            can_face a.clerk.now c.take_scope.new.clerk r c.requires.idle e.took a.job.now.turns.now a.job.now.program.now a.message e.work c.requires.owed e.within left_code (names_scope a.clerk.now c.take_scope.new.clerk r c.requires.idle e.took a.job.now.turns.now a.job.now.program.now a.message e.work c.requires.owed e.within c.scope_of-scope.ensures) (leaves_none a.clerk.now c.take_scope.new.clerk r c.requires.idle e.took a.job.now.turns.now a.job.now.program.now a.message e.work c.requires.owed e.within c.scope_of-scope.ensures) (may_leave a.clerk.now c.take_scope.new.clerk r c.requires.idle e.took a.job.now.turns.now a.job.now.program.now a.message e.work c.requires.owed e.within c.scope_of-scope.ensures) c.lift_parts.new.clerk c.in-Ok.parts.items code.Done l.same.1 l.parts refl,
+          ),
         ),
       ),
     )
@@ -55,7 +59,7 @@ returns-clause-delivered g c =
     faced_delivers a.clerk.now c.take_scope.new.clerk r c.requires.idle e.took a.job.now.turns.now a.job.now.program.now a.message e.work c.requires.owed e.within left_code (names_scope a.clerk.now c.take_scope.new.clerk r c.requires.idle e.took a.job.now.turns.now a.job.now.program.now a.message e.work c.requires.owed e.within c.scope_of-scope.ensures) (leaves_none a.clerk.now c.take_scope.new.clerk r c.requires.idle e.took a.job.now.turns.now a.job.now.program.now a.message e.work c.requires.owed e.within c.scope_of-scope.ensures) (may_leave a.clerk.now c.take_scope.new.clerk r c.requires.idle e.took a.job.now.turns.now a.job.now.program.now a.message e.work c.requires.owed e.within c.scope_of-scope.ensures) c.lift_parts.new.clerk c.enter_at_work.new.clerk c.in-Ok.parts.items code.Done l.same.1 l.left l.parts refl c.in_ok-enter_at_work.ensures.entered c.give_all.new.clerk c.give_all.ensures.view c.give_all.ensures.hand
     (answers_scope a.clerk.now c.take_scope.new.clerk r c.requires.idle e.took a.job.now.turns.now a.job.now.program.now a.message e.work c.requires.owed e.within c.scope_of-scope.ensures c.in-Ok.parts.items it.sent it.step.sends_are (faced a.clerk.now c.take_scope.new.clerk r c.requires.idle e.took a.job.now.turns.now a.job.now.program.now a.message e.work c.requires.owed e.within left_code (names_scope a.clerk.now c.take_scope.new.clerk r c.requires.idle e.took a.job.now.turns.now a.job.now.program.now a.message e.work c.requires.owed e.within c.scope_of-scope.ensures) (leaves_none a.clerk.now c.take_scope.new.clerk r c.requires.idle e.took a.job.now.turns.now a.job.now.program.now a.message e.work c.requires.owed e.within c.scope_of-scope.ensures) (may_leave a.clerk.now c.take_scope.new.clerk r c.requires.idle e.took a.job.now.turns.now a.job.now.program.now a.message e.work c.requires.owed e.within c.scope_of-scope.ensures) c.lift_parts.new.clerk c.enter_at_work.new.clerk c.in-Ok.parts.items code.Done l.same.1 l.left l.parts refl c.in_ok-enter_at_work.ensures.entered e.sees))
 
-pub returns-clause-lasts : goal.returns-clause-lasts
-returns-clause-lasts g c =
+pub returns-clause-readied : goal.returns-clause-readied
+returns-clause-readied g c =
     let a = c.args in let r = c.scope_of-scope.result in let e = c.in_ok-take_scope.ensures in let l = c.in-Ok.ensures in
-    faced_lasts a.clerk.now c.take_scope.new.clerk r c.requires.idle e.took a.job.now.turns.now a.job.now.program.now a.message e.work c.requires.owed e.within left_code (names_scope a.clerk.now c.take_scope.new.clerk r c.requires.idle e.took a.job.now.turns.now a.job.now.program.now a.message e.work c.requires.owed e.within c.scope_of-scope.ensures) (leaves_none a.clerk.now c.take_scope.new.clerk r c.requires.idle e.took a.job.now.turns.now a.job.now.program.now a.message e.work c.requires.owed e.within c.scope_of-scope.ensures) (may_leave a.clerk.now c.take_scope.new.clerk r c.requires.idle e.took a.job.now.turns.now a.job.now.program.now a.message e.work c.requires.owed e.within c.scope_of-scope.ensures) c.lift_parts.new.clerk c.enter_at_work.new.clerk c.in-Ok.parts.items code.Done l.same.1 l.left l.parts refl c.in_ok-enter_at_work.ensures.entered c.give_all.new.clerk c.give_all.ensures.view c.give_all.ensures.hand
+    faced_readied a.clerk.now c.take_scope.new.clerk r c.requires.idle e.took a.job.now.turns.now a.job.now.program.now a.message e.work c.requires.owed e.within left_code (names_scope a.clerk.now c.take_scope.new.clerk r c.requires.idle e.took a.job.now.turns.now a.job.now.program.now a.message e.work c.requires.owed e.within c.scope_of-scope.ensures) (leaves_none a.clerk.now c.take_scope.new.clerk r c.requires.idle e.took a.job.now.turns.now a.job.now.program.now a.message e.work c.requires.owed e.within c.scope_of-scope.ensures) (may_leave a.clerk.now c.take_scope.new.clerk r c.requires.idle e.took a.job.now.turns.now a.job.now.program.now a.message e.work c.requires.owed e.within c.scope_of-scope.ensures) c.lift_parts.new.clerk c.enter_at_work.new.clerk c.in-Ok.parts.items code.Done l.same.1 l.left l.parts refl c.in_ok-enter_at_work.ensures.entered c.give_all.new.clerk c.give_all.ensures.view c.give_all.ensures.hand

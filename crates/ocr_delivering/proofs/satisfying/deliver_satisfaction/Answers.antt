@@ -3,9 +3,10 @@ use mathlib.Core.Option.{some}
 use lib.ListN.{get_elem?}
 use Rattle.ocr_history.specs.declared.entry.What.{What}
 use Rattle.ocr_parts.specs.declared.part.Part.{Part}
-use Rattle.ocr_clerks.specs.Work.{HasAllAtHand, KeepsLoose}
+use Rattle.ocr_clerks.specs.Work.{HasAllAtHand, HasFewDuties, KeepsLoose}
+use Rattle.ocr_clerks.proofs.Units.{took_duties}
 use Rattle.ocr_clerks.proofs.Whole.{lifted_length, lifted_work}
-use Rattle.ocr_delivering.proofs.Faced.{can_face, faced, faced_delivers, faced_idle, faced_lasts, kept, loose, took_all, took_once}
+use Rattle.ocr_delivering.proofs.Faced.{can_face, faced, faced_delivers, faced_idle, faced_readied, kept, loose, took_all, took_once}
 use Rattle.ocr_delivering.proofs.Satisfied.{answers_event, coded_by, event_code, may_satisfy, names_event, sets_none}
 use Rattle.ocr_delivering.proofs.satisfying.deliver_satisfaction.Goals as goal
 
@@ -32,7 +33,10 @@ enter_at_work-requires g c =
         lives.1,
         (
           lifted_work a.job.now.turns.now a.job.now.program.now c.take_event.new.clerk c.lift_parts.new.clerk e.work l.same.0 l.same.1 l.same.2 (ap (λ (ps : List (ℕ × Option Part)). length ps) l.left ∙ lifted_length c.take_event.new.clerk.parts),
-          can_face a.clerk.now c.take_event.new.clerk r.0 c.requires.idle e.took a.job.now.turns.now a.job.now.program.now a.message e.work c.requires.owed e.within (event_code a.job.now.turns.now.1.limit r.0 r.2) (names_event a.clerk.now c.take_event.new.clerk r.0 c.requires.idle e.took a.job.now.turns.now a.job.now.program.now a.message e.work c.requires.owed e.within r.1 r.2 c.event_of-slot.ensures) (sets_none a.clerk.now c.take_event.new.clerk r.0 c.requires.idle e.took a.job.now.turns.now a.job.now.program.now a.message e.work c.requires.owed e.within r.1 r.2 c.event_of-slot.ensures) (may_satisfy a.clerk.now c.take_event.new.clerk r.0 c.requires.idle e.took a.job.now.turns.now a.job.now.program.now a.message e.work c.requires.owed e.within r.1 r.2 c.event_of-slot.ensures) c.lift_parts.new.clerk c.in-Ok.parts.items c.delivery_code-code.result l.same.1 l.parts coded,
+          (
+            subst HasFewDuties (sym l.same.1) (took_duties a.clerk.now c.take_event.new.clerk _ c.requires.idle e.took),
+            can_face a.clerk.now c.take_event.new.clerk r.0 c.requires.idle e.took a.job.now.turns.now a.job.now.program.now a.message e.work c.requires.owed e.within (event_code a.job.now.turns.now.1.limit r.0 r.2) (names_event a.clerk.now c.take_event.new.clerk r.0 c.requires.idle e.took a.job.now.turns.now a.job.now.program.now a.message e.work c.requires.owed e.within r.1 r.2 c.event_of-slot.ensures) (sets_none a.clerk.now c.take_event.new.clerk r.0 c.requires.idle e.took a.job.now.turns.now a.job.now.program.now a.message e.work c.requires.owed e.within r.1 r.2 c.event_of-slot.ensures) (may_satisfy a.clerk.now c.take_event.new.clerk r.0 c.requires.idle e.took a.job.now.turns.now a.job.now.program.now a.message e.work c.requires.owed e.within r.1 r.2 c.event_of-slot.ensures) c.lift_parts.new.clerk c.in-Ok.parts.items c.delivery_code-code.result l.same.1 l.parts coded,
+          ),
         ),
       ),
     )
@@ -58,8 +62,8 @@ returns-clause-delivered g c =
     faced_delivers a.clerk.now c.take_event.new.clerk r.0 c.requires.idle e.took a.job.now.turns.now a.job.now.program.now a.message e.work c.requires.owed e.within (event_code a.job.now.turns.now.1.limit r.0 r.2) (names_event a.clerk.now c.take_event.new.clerk r.0 c.requires.idle e.took a.job.now.turns.now a.job.now.program.now a.message e.work c.requires.owed e.within r.1 r.2 c.event_of-slot.ensures) (sets_none a.clerk.now c.take_event.new.clerk r.0 c.requires.idle e.took a.job.now.turns.now a.job.now.program.now a.message e.work c.requires.owed e.within r.1 r.2 c.event_of-slot.ensures) (may_satisfy a.clerk.now c.take_event.new.clerk r.0 c.requires.idle e.took a.job.now.turns.now a.job.now.program.now a.message e.work c.requires.owed e.within r.1 r.2 c.event_of-slot.ensures) c.lift_parts.new.clerk c.enter_at_work.new.clerk c.in-Ok.parts.items c.delivery_code-code.result l.same.1 l.left l.parts coded c.in_ok-enter_at_work.ensures.entered c.give_all.new.clerk c.give_all.ensures.view c.give_all.ensures.hand
     (answers_event a.clerk.now c.take_event.new.clerk r.0 c.requires.idle e.took a.job.now.turns.now a.job.now.program.now a.message e.work c.requires.owed e.within r.1 r.2 c.event_of-slot.ensures c.in-Ok.parts.items it.sent it.step.sends_are (faced a.clerk.now c.take_event.new.clerk r.0 c.requires.idle e.took a.job.now.turns.now a.job.now.program.now a.message e.work c.requires.owed e.within (event_code a.job.now.turns.now.1.limit r.0 r.2) (names_event a.clerk.now c.take_event.new.clerk r.0 c.requires.idle e.took a.job.now.turns.now a.job.now.program.now a.message e.work c.requires.owed e.within r.1 r.2 c.event_of-slot.ensures) (sets_none a.clerk.now c.take_event.new.clerk r.0 c.requires.idle e.took a.job.now.turns.now a.job.now.program.now a.message e.work c.requires.owed e.within r.1 r.2 c.event_of-slot.ensures) (may_satisfy a.clerk.now c.take_event.new.clerk r.0 c.requires.idle e.took a.job.now.turns.now a.job.now.program.now a.message e.work c.requires.owed e.within r.1 r.2 c.event_of-slot.ensures) c.lift_parts.new.clerk c.enter_at_work.new.clerk c.in-Ok.parts.items c.delivery_code-code.result l.same.1 l.left l.parts coded c.in_ok-enter_at_work.ensures.entered e.sees))
 
-pub returns-clause-lasts : goal.returns-clause-lasts
-returns-clause-lasts g c =
+pub returns-clause-readied : goal.returns-clause-readied
+returns-clause-readied g c =
     let a = c.args in let r = c.event_of-slot.result in let e = c.in_ok-take_event.ensures in let l = c.in-Ok.ensures in
     let coded = coded_by c.delivery_code-code.result c.limit.result a.job.now.turns.now.1.limit r.0 r.2 c.deref.result.now c.in-Ok.parts.items c.delivery_code-code.ensures c.limit.ensures c.deref.ensures.value in
-    faced_lasts a.clerk.now c.take_event.new.clerk r.0 c.requires.idle e.took a.job.now.turns.now a.job.now.program.now a.message e.work c.requires.owed e.within (event_code a.job.now.turns.now.1.limit r.0 r.2) (names_event a.clerk.now c.take_event.new.clerk r.0 c.requires.idle e.took a.job.now.turns.now a.job.now.program.now a.message e.work c.requires.owed e.within r.1 r.2 c.event_of-slot.ensures) (sets_none a.clerk.now c.take_event.new.clerk r.0 c.requires.idle e.took a.job.now.turns.now a.job.now.program.now a.message e.work c.requires.owed e.within r.1 r.2 c.event_of-slot.ensures) (may_satisfy a.clerk.now c.take_event.new.clerk r.0 c.requires.idle e.took a.job.now.turns.now a.job.now.program.now a.message e.work c.requires.owed e.within r.1 r.2 c.event_of-slot.ensures) c.lift_parts.new.clerk c.enter_at_work.new.clerk c.in-Ok.parts.items c.delivery_code-code.result l.same.1 l.left l.parts coded c.in_ok-enter_at_work.ensures.entered c.give_all.new.clerk c.give_all.ensures.view c.give_all.ensures.hand
+    faced_readied a.clerk.now c.take_event.new.clerk r.0 c.requires.idle e.took a.job.now.turns.now a.job.now.program.now a.message e.work c.requires.owed e.within (event_code a.job.now.turns.now.1.limit r.0 r.2) (names_event a.clerk.now c.take_event.new.clerk r.0 c.requires.idle e.took a.job.now.turns.now a.job.now.program.now a.message e.work c.requires.owed e.within r.1 r.2 c.event_of-slot.ensures) (sets_none a.clerk.now c.take_event.new.clerk r.0 c.requires.idle e.took a.job.now.turns.now a.job.now.program.now a.message e.work c.requires.owed e.within r.1 r.2 c.event_of-slot.ensures) (may_satisfy a.clerk.now c.take_event.new.clerk r.0 c.requires.idle e.took a.job.now.turns.now a.job.now.program.now a.message e.work c.requires.owed e.within r.1 r.2 c.event_of-slot.ensures) c.lift_parts.new.clerk c.enter_at_work.new.clerk c.in-Ok.parts.items c.delivery_code-code.result l.same.1 l.left l.parts coded c.in_ok-enter_at_work.ensures.entered c.give_all.new.clerk c.give_all.ensures.view c.give_all.ensures.hand

@@ -1,4 +1,4 @@
-use Rattle.ocr_drained.proofs.Drained.{orderly_law, pass_law, rest_law}
+use Rattle.ocr_drained.proofs.Drained.{orderly_law, pass_law, rest_law, still_law}
 use Rattle.ocr_drained.proofs.laws.drain_laws.Goals as goal
 
 pub returns-clause-orderly : goal.returns-clause-orderly
@@ -9,3 +9,6 @@ returns-clause-pass c = pass_law
 
 pub returns-clause-rest : goal.returns-clause-rest
 returns-clause-rest c = rest_law
+
+pub returns-clause-still : goal.returns-clause-still
+returns-clause-still c = still_law

@@ -1,14 +1,15 @@
-use Rattle.std.proofs.Common.{◌≡◌, ℕ, List, [], ◌∷◌, length, refl, sym, ◌∙◌, ap, subst, arith}
+use Rattle.std.proofs.Common.{◌≡◌, ℕ, ◌+◌, List, [], ◌∷◌, length, refl, sym, ◌∙◌, ap, subst, arith}
 use Rattle.ocr_clerks.specs.Work.{RunsNone}
 use Rattle.ocr_clerks.proofs.Going.{Calm, work_still}
 use Rattle.ocr_facts.specs.Clerks.{OcrView}
-use Rattle.ocr_rule.specs.Sums.{as_some, keys}
+use Rattle.ocr_rule.specs.Sums.{as_some, keys, sum_of}
+use Rattle.ocr_rule.specs.Units.{one_each}
 use Rattle.ocr_rule.specs.Words.{unclaiming}
 use Rattle.ocr_parking.proofs.Parked.{has_claim, lets_wait, parked_claims}
 use Rattle.ocr_parking.proofs.parking.park_edt.Goals as goal
 
-calm : (v : OcrView) (edt : ℕ) → Calm v (unclaiming v edt)
-calm v edt = record {
+calm : (v : OcrView) (edt : ℕ) → v.claims ≡ edt ∷ [] → Calm v (unclaiming v edt)
+calm v edt claims = record {
   terms = refl;
   root = refl;
   seat = refl;
@@ -20,11 +21,17 @@ calm v edt = record {
   full = refl;
   reached = refl;
   closed = refl;
+  stake = let a = ap claims_of claims in omega (arith, a);
+  raised = refl;
+  ended = refl;
 }
+  where
+    claims_of : List ℕ → ℕ
+    claims_of l = sum_of one_each l
 
-view_is : (old mid new : OcrView) (edt : ℕ) → old.claims ≡ edt ∷ [] → mid ≡ unclaiming old edt → new ≡ record mid { parts = [] } → new ≡ record old { parts = []; claims = [] }
+view_is : (old mid new : OcrView) (edt : ℕ) → old.claims ≡ edt ∷ [] → mid ≡ unclaiming old edt → new ≡ record mid { parts = [] } → new ≡ record old { parts = []; claims = []; spares = old.spares + 1 }
 view_is old mid new edt claims parked gave =
-    gave ∙ (ap (λ (v : OcrView). record v { parts = [] }) parked ∙ ap (λ (l : List ℕ). record old { parts = []; claims = l }) (parked_claims old edt claims))
+    gave ∙ (ap (λ (v : OcrView). record v { parts = [] }) parked ∙ ap (λ (l : List ℕ). record old { parts = []; claims = l; spares = old.spares + 1 }) (parked_claims old edt claims))
 
 pub park-requires-clause-claimed : goal.park-requires-clause-claimed
 park-requires-clause-claimed c = has_claim c.args.edt c.args.clerk.now.view.claims c.requires.taken.claims
@@ -36,7 +43,7 @@ pub give_all-requires-clause-work : goal.give_all-requires-clause-work
 give_all-requires-clause-work c =
     let old = c.args.clerk.now in let hand = c.park.ensures.hand in
     let room = hand.2.0 in let spare = hand.2.1 in let parts = ap length hand.1 in
-    work_still c.args.turns.now c.args.program.now old c.park.new.clerk (unclaiming old.view c.args.edt) c.requires.work hand.0 c.park.ensures.view (calm old.view c.args.edt) (omega (arith, room)) (omega (arith, spare, parts))
+    work_still c.args.turns.now c.args.program.now old c.park.new.clerk (unclaiming old.view c.args.edt) c.requires.work hand.0 c.park.ensures.view (calm old.view c.args.edt c.requires.taken.claims) (omega (arith, room)) (omega (arith, spare, parts))
 
 pub give_all-requires-clause-keeps : goal.give_all-requires-clause-keeps
 give_all-requires-clause-keeps c =

@@ -2,7 +2,7 @@ use Rattle.std.proofs.Common.{◌<◌, arith, take, refl, sym, subst}
 use Rattle.ocr_facts.specs.Ocr.{setting_of}
 use Rattle.ocr_history.specs.History.{History, history_of}
 use Rattle.ocr_table.specs.Table.{IsOf}
-use Rattle.ocr_report.proofs.Entered.{may_enter, few_counted}
+use Rattle.ocr_memory_model.proofs.Entered.{may_enter, few_counted}
 use Rattle.ocr_report.proofs.after.table_after.Goals as goal
 use Rattle.ocr_history.proofs.Fronts.{history_next}
 

@@ -1,10 +1,11 @@
-use Rattle.std.proofs.Common.{◌≡◌, ◌+◌, ◌∷◌, [], ℕ, List, length, ap, sym, subst, arith}
+use Rattle.std.proofs.Common.{◌≡◌, ◌+◌, ◌∷◌, [], ℕ, List, length, refl, ap, sym, subst, arith}
 use Rattle.ocr_history.specs.declared.entry.Entry.TheVariants.{Start}
 use Rattle.ocr_history.specs.declared.entry.What.{What}
 use Rattle.ocr_facts.specs.Clerks.{IsStep}
-use Rattle.ocr_parts.specs.declared.part.Part.TheVariants as part
-use Rattle.ocr_clerks.specs.Work.{KeepsFaces, in_hand}
+use Rattle.ocr_clerks.specs.Work.{HasFewDuties, KeepsFaces, in_hand}
+use Rattle.ocr_clerks.proofs.Units.{taken_duties}
 use Rattle.ocr_running.proofs.Back.{has_taken, keeps_faces}
+use Rattle.ocr_running.proofs.Readied.{entered_none}
 use Rattle.ocr_running.proofs.Started.{begun, begun_leaves, can_put, face_within, started_at_hand, started_can, started_kept, started_step, started_work}
 use Rattle.ocr_running.proofs.beginning.start.Goals as goal
 
@@ -31,7 +32,10 @@ enter_at_hand-requires g c κs within =
               started_can table program edt paid old mid g.h r.1.0 r.1.1 r.0 place at same put,
               (
                 subst (λ (l : List What). IsStep table.1.limit (Start edt) g.h.members g.h.parts (in_hand mid.parts) l) (sym none) (started_step table program edt paid old mid g.h r.1.0 r.1.1 r.0 place at same put),
-                (let l = ap (λ (l : List What). length l) none in omega (arith, l)),
+                (
+                  (let l = ap (λ (l : List What). length l) none in omega (arith, l)),
+                  (subst HasFewDuties (sym same.1) (taken_duties table.1 edt old r.1.1.taken), refl),
+                ),
               ),
             ),
           ),
@@ -60,3 +64,6 @@ returns-clause-begun g c =
     let at : c.limit.result + c.edt.inside.0 ≡ table.1.limit + edt = λ i. c.limit.ensures i + c.edt.view_is i in
     let kept = started_kept table program edt paid old c.put_started.new.clerk g.h r.1.0 r.1.1 r.0 (c.limit.result + c.edt.inside.0) at c.in-Ok.ensures.same c.in-Ok.ensures.started new c.in_ok-enter_at_hand.ensures.entered in
     begun table program edt paid old new g.h r.1.0 r.1.1 r.0 kept c.give_faces.new.clerk c.give_faces.ensures.view c.give_faces.ensures.hand
+
+pub returns-clause-readied : goal.returns-clause-readied
+returns-clause-readied g c = entered_none c.args.job.now.turns.now.1 c.args.clerk.now c.put_started.new.clerk c.enter_at_hand.new.clerk c.give_faces.new.clerk (Start c.args.edt) g.h _ c.in-Ok.ensures.same.1 c.in_ok-enter_at_hand.ensures.entered c.give_faces.ensures.view

@@ -1,4 +1,4 @@
-use Rattle.std.proofs.Common.{◌≡◌, ◌∙◌, ◌+◌, [], ℕ, true, List, length, get_or, ap, sym, subst, arith}
+use Rattle.std.proofs.Common.{◌≡◌, ◌∙◌, ◌+◌, [], ℕ, true, List, length, get_or, refl, ap, sym, subst, arith}
 use Rattle.ocr_history.specs.declared.entry.What.{What}
 use Rattle.ocr_history.specs.declared.entry.Entry.TheVariants.{End}
 use Rattle.ocr_parts.specs.declared.part.Part.{Part}
@@ -7,8 +7,9 @@ use Rattle.ocr_parts.specs.Taken.{face_in, is_within}
 use Rattle.ocr_rule.specs.Sums.{as_some}
 use Rattle.ocr_facts.specs.Clerks.{IsStep}
 use Rattle.ocr_clerks.specs.Entering.{CanMake, OcrKnown}
-use Rattle.ocr_clerks.specs.Work.{EntersAs, in_hand}
+use Rattle.ocr_clerks.specs.Work.{EntersAs, HasFewDuties, in_hand}
 use Rattle.ocr_running.proofs.Ended.{core_first_at, ended_at_hand, ended_can, ended_kept, ended_step, ended_work, face_found, few_sent, idle_end, loose_end, newest_end, none_held}
+use Rattle.ocr_running.proofs.Readied.{entered_none, kept_duties}
 use Rattle.ocr_running.proofs.ending.end.Goals as goal
 
 pub payload_of_end-payload-requires : goal.payload_of_end-payload-requires
@@ -50,7 +51,10 @@ enter_at_hand-requires g c = λ κs lives.
               subst (λ (k : OcrKnown). (was : List (ℕ × Part)) × CanMake a.job.now.turns.now.1 c.end_core-identity.new.clerk.view (End a.edt a.returned) (record { members = []; parts = in_hand k.parts }) was) (sym r.0) (ended_can a.job.now.turns.now a.job.now.program.now a.edt a.returned g.s.0 g.s.1.0 g.s.1.1.0 a.clerk.now r.1.0 r.1.1.0 r.1.1.1.0 r.1.1.1.1.1.0 r.1.1.1.1.1.1 c.end_core-identity.new.clerk (get_or a.places.now 0 0) at c.end_core-identity.ensures.stepped),
               (
                 subst (λ (k : OcrKnown). IsStep a.job.now.turns.now.1.limit (End a.edt a.returned) [] (in_hand k.parts) (in_hand c.end_core-identity.new.clerk.parts) c.in-Ok.messages.items) (sym r.0) (ended_step a.job.now.turns.now a.job.now.program.now a.edt a.returned g.s.0 g.s.1.0 g.s.1.1.0 a.clerk.now r.1.0 r.1.1.0 r.1.1.1.0 r.1.1.1.1.1.0 r.1.1.1.1.1.1 c.end_core-identity.new.clerk (get_or a.places.now 0 0) at c.end_core-identity.ensures.stepped c.in-Ok.messages.items sent),
-                (let l = ap (λ (l : List What). length l) c.in-Ok.ensures in let few = few_sent c.end_core-identity.result c.payload_of_end-payload.result in omega (arith, l, few)),
+                (
+                  (let l = ap (λ (l : List What). length l) c.in-Ok.ensures in let few = few_sent c.end_core-identity.result c.payload_of_end-payload.result in omega (arith, l, few)),
+                  (subst HasFewDuties (sym c.end_core-identity.ensures.stepped.view) (kept_duties a.job.now.turns.now.1 a.edt g.s.0 g.s.1.1.0 a.clerk.now _ r.1.1.0 took), refl),
+                ),
               ),
             ),
           ),
@@ -78,3 +82,8 @@ returns-clause-newest g c =
     let enters = subst (λ (k : OcrKnown). EntersAs a.job.now.turns.now.1 c.end_core-identity.new.clerk c.enter_at_hand.new.clerk (End a.edt a.returned) (record { members = []; parts = in_hand k.parts })) r.0 c.in_ok-enter_at_hand.ensures.entered in
     let kept = ended_kept a.job.now.turns.now a.job.now.program.now a.edt a.returned g.s.0 g.s.1.0 g.s.1.1.0 a.clerk.now r.1.0 r.1.1.0 r.1.1.1.0 r.1.1.1.1.1.0 r.1.1.1.1.1.1 c.end_core-identity.new.clerk (get_or a.places.now 0 0) at c.end_core-identity.ensures.stepped c.enter_at_hand.new.clerk enters in
     newest_end a.job.now.turns.now a.job.now.program.now a.edt a.returned g.s.0 g.s.1.0 g.s.1.1.0 a.clerk.now r.1.0 r.1.1.0 r.1.1.1.0 r.1.1.1.1.1.0 r.1.1.1.1.1.1 c.enter_at_hand.new.clerk kept c.give_all.new.clerk c.give_all.ensures.view
+
+pub returns-clause-readied : goal.returns-clause-readied
+returns-clause-readied g c =
+    let a = c.args in
+    entered_none a.job.now.turns.now.1 a.clerk.now c.end_core-identity.new.clerk c.enter_at_hand.new.clerk c.give_all.new.clerk (End a.edt a.returned) (record { members = []; parts = in_hand g.s.1.1.1.parts }) _ c.end_core-identity.ensures.stepped.view c.in_ok-enter_at_hand.ensures.entered c.give_all.ensures.view

@@ -1,5 +1,6 @@
-use Rattle.std.proofs.Common.{ℕ, Option, subst}
+use Rattle.std.proofs.Common.{ℕ, Option, refl, subst}
 use Rattle.ocr_rule.specs.Owing.{listed}
+use Rattle.ocr_clerks.proofs.Pushing.{pushes_none}
 use Rattle.ocr_running.specs.Running.{HasEntered}
 use Rattle.ocr_running.proofs.settling.count_any.Goals as goal
 
@@ -15,3 +16,6 @@ count_new-requires g c κs within =
         ),
       ),
     )
+
+pub returns-in-None-clause-pushed : goal.returns-in-None-clause-pushed
+returns-in-None-clause-pushed g c = pushes_none c.args.clerk.now c.args.clerk.now c.args.hand.now refl

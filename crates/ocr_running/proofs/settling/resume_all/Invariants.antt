@@ -1,6 +1,7 @@
 use Rattle.std.proofs.Common.{◌≡◌, [], drop}
 use Rattle.ocr_clerks.specs.Work.{AtWork, Stays}
-use Rattle.ocr_running.specs.Running.{HasEntered, IsPushed}
+use Rattle.ocr_clerks.specs.Pushing.{IsPushed, PushesReady}
+use Rattle.ocr_running.specs.Running.{HasEntered}
 use Rattle.ocr_running.proofs.settling.resume_all.Given as goal
 
 abbrev pub invariant-loop-woken : goal.invariant-loop-woken
@@ -11,4 +12,5 @@ invariant-loop-woken g l = record {
   log : l.clerk.view.log ≡ l.fn.clerk.view.log;
   parts : l.clerk.parts ≡ l.fn.clerk.parts;
   hand : IsPushed l.fn.hand l.hand;
+  pushed : PushesReady l.fn.clerk l.clerk l.fn.hand l.hand;
 }

@@ -4,6 +4,8 @@ use Rattle.ocr_rule.specs.Owing.{listed}
 use Rattle.ocr_clerks.specs.Work.{KeepsFaces}
 use Rattle.ocr_running.specs.Running.{AreOthers, HasEntered, first_in}
 use Rattle.ocr_running.specs.Serving.{holds_in}
+use Rattle.ocr_facts.specs.Clerks.{OcrView}
+use Rattle.ocr_clerks.proofs.Pushing.{pushes_then, then_none}
 use Rattle.ocr_running.proofs.Back.{has_taken, holds_again, keeps_faces, runs_again}
 use Rattle.ocr_running.proofs.Settled.{pushed_both}
 use Rattle.ocr_running.proofs.settling.settle.Goals as goal
@@ -62,3 +64,10 @@ returns-clause-core g c =
 
 pub returns-clause-hand : goal.returns-clause-hand
 returns-clause-hand g c = pushed_both c.args.hand.now c.count_any.new.hand c.resume_all.new.hand c.count_any.ensures.hand c.resume_all.ensures.hand
+
+pub returns-clause-pushed : goal.returns-clause-pushed
+returns-clause-pushed g c =
+    let a = c.args in
+    then_none a.clerk.now c.resume_all.new.clerk c.give_faces.new.clerk a.hand.now c.resume_all.new.hand
+    (pushes_then a.clerk.now c.count_any.new.clerk c.resume_all.new.clerk a.hand.now c.count_any.new.hand c.resume_all.new.hand c.in_ok-count_any.ensures.pushed c.in_ok-resume_all.ensures.pushed)
+    (ap (λ (v : OcrView). v.debts.readied) c.give_faces.ensures.view)

@@ -1,5 +1,7 @@
 use Rattle.std.proofs.Common.{◌+◌, ◌∷◌, [], ℕ, List, length, Option, ap, ◌∙◌}
 use Rattle.ocr_parts.specs.declared.part.Part.{Part}
+use Rattle.ocr_facts.specs.Clerks.{OcrView}
+use Rattle.ocr_clerks.proofs.Pushing.{took_readies}
 use Rattle.ocr_clerks.proofs.Whole.{lifted_length, lifted_work}
 use Rattle.ocr_running.proofs.Accessed.{face_low, pair_at_hand, pair_lifted, pair_once, word_lifted}
 use Rattle.ocr_running.proofs.sharing.lift_shared.Goals as goal
@@ -39,3 +41,6 @@ returns-clause-words g c =
     r.1.0
     (pair_lifted a.job.now.turns.now a.job.now.program.now a.edt a.block r.1.1.0 g.b a.clerk.now r.0 r.1.0 r.1.1.1 c.take_part.new.clerk c.block.inside.0 c.block.view_is e.took e.work
     c.lift_parts.new.clerk c.in-Ok.parts.items l.same.1 l.parts l.left)
+
+pub returns-clause-readied : goal.returns-clause-readied
+returns-clause-readied g c = ap (λ (v : OcrView). v.debts.readied) c.in-Ok.ensures.same.1 ∙ took_readies c.args.clerk.now c.take_part.new.clerk _ c.in_ok-take_part.ensures.took

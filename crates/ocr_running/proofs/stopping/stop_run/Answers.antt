@@ -1,3 +1,6 @@
+use Rattle.std.proofs.Common.{◌≡◌, ◌⊎◌, Some, is_some, true, subst}
+use Rattle.ocr_history.specs.declared.entry.Stop as run
+use Rattle.ocr_clerks.specs.Work.{stop_in}
 use Rattle.ocr_running.proofs.Stops.{stop_own, stops_so}
 use Rattle.ocr_running.proofs.stopping.stop_run.Goals as goal
 
@@ -10,3 +13,6 @@ pub close-requires-clause-own : goal.close-requires-clause-own
 close-requires-clause-own g c =
     let r = c.requires.1.1 in
     stop_own c.args.job.now.turns.now.1 c.args.worker c.args.clerk.now.view c.args.edt c.args.stop c.stop_of.result r.1.1.0 c.stop_of.ensures
+
+pub returns-clause-made : goal.returns-clause-made
+returns-clause-made g c = subst (λ (why : run.Stop). (is_some c.close.new.clerk.view.closed ≡ true) ⊎ (stop_in c.close.new.clerk.view.log ≡ Some why)) c.stop_of.ensures c.close.ensures.made

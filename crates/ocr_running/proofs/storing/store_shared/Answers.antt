@@ -6,6 +6,7 @@ use Rattle.ocr_meaning.specs.Body.{says}
 use Rattle.ocr_meaning.specs.Holds.{Entered, store_of}
 use Rattle.ocr_meaning.specs.declared.call.Call.TheVariants as call
 use Rattle.ocr_clerks.specs.Entering.{OcrKnown}
+use Rattle.ocr_clerks.proofs.Pushing.{readies_ok}
 use Rattle.ocr_running.specs.Running.{HasLifted, IsCalled, Runs, holds_at}
 use Rattle.ocr_running.specs.Serving.{own_log}
 use Rattle.ocr_running.proofs.storing.store_shared.Goals as goal
@@ -45,3 +46,6 @@ returns-clause-called g c =
     let r = c.requires.1.1 in
     subst (λ (n : ℕ). OnOk c.enter_access.result (IsCalled c.args.edt (call.Store n c.args.word c.args.value) (answer_with 0) c.args.clerk.now c.enter_access.new.clerk)) c.block.view_is
     (subst (λ (o : OcrKnown). OnOk c.enter_access.result (IsCalled c.args.edt (call.Store c.block.inside.0 c.args.word c.args.value) (answer_with 0) o c.enter_access.new.clerk)) r.0 c.enter_access.ensures.called)
+
+pub returns-clause-readied : goal.returns-clause-readied
+returns-clause-readied g c = readies_ok c.enter_access.result c.args.clerk.now c.lift_shared.new.clerk c.enter_access.new.clerk c.in_ok-parts.ensures.readied c.enter_access.ensures.readied

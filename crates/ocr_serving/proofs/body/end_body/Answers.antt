@@ -5,8 +5,10 @@ use Rattle.ocr_meaning.specs.Body.{says}
 use Rattle.ocr_meaning.specs.Laws.{IsSaid}
 use Rattle.ocr_meaning.specs.declared.call.BodyStop.{BodyStop}
 use Rattle.ocr_meaning.specs.declared.call.BodyStop.TheVariants as stop
+use Rattle.ocr_clerks.proofs.Pushing.{then_none}
 use Rattle.ocr_running.specs.Serving.{own_log}
 use Rattle.ocr_serving.specs.Serving.{HasReturned}
+use Rattle.ocr_serving.proofs.Desks.{on_ok_then}
 use Rattle.ocr_serving.proofs.body.end_body.Goals as goal
 
 pub stop_body-requires : goal.stop_body-requires
@@ -26,3 +28,7 @@ finish-requires g c κs within =
     let a = c.args in let r = c.requires.1.1 in let f = c.in_ok-free_all.ensures in
     let returned = subst (λ (e : Result ℕ BodyStop). IfOk e (λ n. HasReturned a.job.now.turns.now.1 a.edt g.b n a.clerk.now)) c.in-Ok.is r.1.1.0 in
     (within.0, (within.1, (refl, (f.work, (f.returned _ returned, f.free)))))
+
+pub returns-clause-pushed : goal.returns-clause-pushed
+returns-clause-pushed g c =
+    on_ok_then c.finish.result _ _ (then_none c.args.clerk.now c.free_all.new.clerk c.finish.new.clerk c.args.hand.now c.free_all.new.hand c.in_ok-free_all.ensures.pushed) c.finish.ensures.readied

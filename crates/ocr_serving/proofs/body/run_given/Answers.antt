@@ -1,14 +1,17 @@
 use Rattle.std.specs.Prelude.{OnOk}
-use Rattle.std.proofs.Common.{◌≡◌, ◌∙◌, is_some, ap, sym, subst, refl}
+use Rattle.std.proofs.Common.{◌≡◌, ◌∙◌, Option, None, is_some, ap, sym, subst, refl}
 use Rattle.std.proofs.lemmas.Result.{IfOk-weaker}
 use Rattle.ocr_base.specs.Count.{Rose}
+use Rattle.ocr_steal.specs.declared.hand.Hand.{Hand}
 use Rattle.ocr_api.specs.Serving.{StoppedBy}
 use Rattle.ocr_meaning.specs.Behaviour.{Behaviour, Ends}
 use Rattle.ocr_clerks.specs.Entering.{OcrKnown}
+use Rattle.ocr_clerks.specs.Pushing.{PushesReady}
 use Rattle.ocr_clerks.specs.Work.{Stays}
+use Rattle.ocr_clerks.proofs.Pushing.{pushes_then}
 use Rattle.ocr_running.specs.Running.{holds_at}
 use Rattle.ocr_starting.specs.Given.{body_given}
-use Rattle.ocr_serving.specs.Serving.{EndsNow}
+use Rattle.ocr_serving.specs.Serving.{EndsNow, PushesSince}
 use Rattle.ocr_serving.proofs.Returns.{ends_after}
 use Rattle.ocr_serving.proofs.Desks.{body_cause, err_then, holds_on, on_ok_then, pushed_so, said_now, walked}
 use Rattle.ocr_serving.proofs.body.run_given.Goals as goal
@@ -49,3 +52,20 @@ returns-clause-ended g c =
     let last : c.clerk-2-1.given.0 ≡ c.end_body.new.clerk = c.clerk-2-1.given.1 (λ i. (sym e.kept i).2.ghost_name) in
     subst (λ (k : OcrKnown). OnOk c.end_body.result (EndsNow a.edt a.clerk.now k)) (sym last)
     (on_ok_then c.end_body.result (EndsNow a.edt d.clerk.now c.end_body.new.clerk) _ (ends_after a.edt a.clerk.now d.clerk.now c.end_body.new.clerk stays) c.end_body.ensures.ended)
+
+-- what was pushed in the body, where the run was not found ended
+since_begun : {A : Type 0} (o : Option A) (begun old mid : OcrKnown) (start before between : Hand) → o ≡ None → begun ≡ old → start ≡ before → PushesSince o begun mid start between → PushesReady old mid before between
+since_begun {A} o begun old mid start before between none began first since =
+    subst (λ (h : Hand). PushesReady old mid h between) first (subst (λ (k : OcrKnown). PushesReady k mid start between) began (subst (λ (p : Option A). PushesSince p begun mid start between) none since))
+
+pub returns-clause-pushed : goal.returns-clause-pushed
+returns-clause-pushed g c =
+    let e = c.walk-ending.ensures in let d = c.walk-ending.new.api in let a = c.args in
+    let began : d.given.now.begun.value ≡ a.clerk.now = (λ i. (e.kept i).2.now) ∙ c.requires.1.1.1.1.begun in
+    let first : d.pushed.value ≡ a.hand.now = (λ i. (e.kept i).3.now) ∙ c.of-pushed.ensures in
+    let since = since_begun d.over d.given.now.begun.value a.clerk.now d.clerk.now d.pushed.value a.hand.now d.hand.now c.in_default.is began first e.ready.3 in
+    let last : c.clerk-2-1.given.0 ≡ c.end_body.new.clerk = c.clerk-2-1.given.1 (λ i. (sym e.kept i).2.ghost_name) in
+    let left : c.hand-2-1.given.0 ≡ c.end_body.new.hand = c.hand-2-1.given.1 (λ i. (sym e.kept i).3.ghost_name) in
+    subst (λ (k : OcrKnown). OnOk c.end_body.result (PushesReady a.clerk.now k a.hand.now c.hand-2-1.given.0)) (sym last)
+    (subst (λ (h : Hand). OnOk c.end_body.result (PushesReady a.clerk.now c.end_body.new.clerk a.hand.now h)) (sym left)
+    (on_ok_then c.end_body.result _ _ (pushes_then a.clerk.now d.clerk.now c.end_body.new.clerk a.hand.now d.hand.now c.end_body.new.hand since) c.end_body.ensures.pushed))

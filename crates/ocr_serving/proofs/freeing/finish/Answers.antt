@@ -2,6 +2,7 @@ use Rattle.std.proofs.Common.{◌≡◌, ◌∙◌, ◌+◌, ◌∷◌, [], ℕ,
 use Rattle.ocr_parts.specs.Taken.{is_within}
 use Rattle.ocr_clerks.specs.Entering.{OcrKnown}
 use Rattle.ocr_clerks.specs.Work.{Took}
+use Rattle.ocr_clerks.proofs.Pushing.{readies_ok, took_readies}
 use Rattle.ocr_running.specs.Running.{HasTaken, held_at, returned_faces}
 use Rattle.ocr_serving.specs.Serving.{HasReturned}
 use Rattle.ocr_serving.proofs.Returns.{end_says, faces_none, faces_one, taken_none, taken_one}
@@ -61,3 +62,6 @@ end-requires-2 g c κs within =
         ),
       ),
     )
+
+pub returns-then-is_object-clause-readied : goal.returns-then-is_object-clause-readied
+returns-then-is_object-clause-readied g c = readies_ok c.end.result c.args.clerk.now c.take_part.new.clerk c.end.new.clerk (took_readies c.args.clerk.now c.take_part.new.clerk _ c.in_ok-take_part.ensures.took) c.end.ensures.readied

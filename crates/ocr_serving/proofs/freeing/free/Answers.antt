@@ -3,12 +3,13 @@ use Rattle.ocr_datablock.specs.Lent.{after_list_writes}
 use Rattle.ocr_history.specs.declared.entry.Entry.TheVariants.{Free}
 use Rattle.ocr_facts.specs.Ocr.{wakes}
 use Rattle.ocr_clerks.specs.Work.{Took}
+use Rattle.ocr_clerks.proofs.Pushing.{pushes_ok}
 use Rattle.ocr_running.specs.Loans.{core_after}
 use Rattle.ocr_running.specs.Running.{AreOthers, HasEntered, Runs, first_in, held_at}
 use Rattle.ocr_edt.specs.Phases.{without}
 use Rattle.ocr_serving.specs.Serving.{HasReturned}
 use Rattle.ocr_starting.specs.Starting.{StepsCore}
-use Rattle.ocr_serving.proofs.Freed.{can_then, entered_then, has_then, held_then, others_then, place_then, returned_then, room_then, work_then}
+use Rattle.ocr_serving.proofs.Freed.{can_then, duties_then, entered_then, has_then, held_then, others_then, place_then, readied_then, returned_then, room_then, work_then}
 use Rattle.ocr_serving.proofs.Returns.{ok_three}
 use Rattle.ocr_serving.proofs.freeing.free.Goals as goal
 
@@ -48,7 +49,7 @@ enter_kept-requires g c κs within =
           t.work,
           (
             has_then a.job.now.turns.now a.job.now.program.now a.edt a.block g.b a.clerk.now c.list_writes.new.clerk r.0 r.1.0.0 r.1.0.1 r.1.1 steps c.take_part.new.clerk t.work took c.in-Ok.writes ((c.limit.result + c.edt.inside.0) ∷ c.block.inside.0 ∷ []) (λ i. (c.limit.ensures i + c.edt.view_is i) ∷ c.block.view_is i ∷ []),
-            can_then a.job.now.turns.now a.job.now.program.now a.edt a.block g.b a.clerk.now c.list_writes.new.clerk r.0 r.1.0.0 r.1.0.1 r.1.1 steps c.take_part.new.clerk t.work took c.in-Ok.writes c.in-Ok.ensures.writes,
+            (duties_then a.job.now.turns.now a.job.now.program.now a.edt a.block g.b a.clerk.now c.list_writes.new.clerk r.0 r.1.0.0 r.1.0.1 r.1.1 steps c.take_part.new.clerk t.work took c.in-Ok.writes, can_then a.job.now.turns.now a.job.now.program.now a.edt a.block g.b a.clerk.now c.list_writes.new.clerk r.0 r.1.0.0 r.1.0.1 r.1.1 steps c.take_part.new.clerk t.work took c.in-Ok.writes c.in-Ok.ensures.writes),
           ),
         ),
       ),
@@ -95,3 +96,11 @@ returns-clause-held g c =
     let took = subst (λ (n : ℕ). Took c.list_writes.new.clerk c.take_part.new.clerk (n ∷ [])) c.block.view_is t.took in
     ok_three c.settle.result (Runs T.1 a.edt g.b new) (new.view.log ≡ mid.view.log) (first_in new.parts ≡ first_in mid.parts) (held_at new ≡ without a.block (held_at a.clerk.now)) c.settle.ensures.runs c.settle.ensures.log c.settle.ensures.core
     (λ runs log core. held_then a.job.now.turns.now a.job.now.program.now a.edt a.block g.b a.clerk.now c.list_writes.new.clerk r.0 r.1.0.0 r.1.0.1 r.1.1 steps c.take_part.new.clerk t.work took c.in-Ok.writes mid e.entered new runs log core)
+
+pub returns-clause-pushed : goal.returns-clause-pushed
+returns-clause-pushed g c =
+    let a = c.args in let r = c.requires.1.1 in let t = c.in_ok-take_part.ensures in let e = c.in_ok-resumed.ensures in
+    let new = c.settle.new.clerk in let mid = c.enter_kept.new.clerk in
+    let steps = subst (λ (n : ℕ). StepsCore n (core_after after_list_writes a.block) a.clerk.now c.list_writes.new.clerk) (λ i. c.limit.ensures i + c.edt.view_is i) c.list_writes.ensures.core in
+    let took = subst (λ (n : ℕ). Took c.list_writes.new.clerk c.take_part.new.clerk (n ∷ [])) c.block.view_is t.took in
+    pushes_ok c.settle.result a.clerk.now mid new a.hand.now c.settle.new.hand (readied_then a.job.now.turns.now a.job.now.program.now a.edt a.block g.b a.clerk.now c.list_writes.new.clerk r.0 r.1.0.0 r.1.0.1 r.1.1 steps c.take_part.new.clerk t.work took c.in-Ok.writes mid e.entered) c.settle.ensures.pushed

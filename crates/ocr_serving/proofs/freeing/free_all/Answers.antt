@@ -1,5 +1,6 @@
 use Rattle.std.proofs.Common.{◌∙◌, sym}
 use Rattle.ocr_clerks.proofs.Going.{stays_both}
+use Rattle.ocr_clerks.proofs.Pushing.{pushes_then}
 use Rattle.ocr_running.proofs.Settled.{pushed_both}
 use Rattle.ocr_serving.proofs.Returns.{held_fewer}
 use Rattle.ocr_serving.proofs.freeing.free_all.Goals as goal
@@ -21,4 +22,5 @@ loop-block-preserved g c =
       returned = (inv.returned.0, e.returned inv.returned.0 inv.returned.1);
       kept = λ n r. e.returned n (inv.kept n r);
       hand = pushed_both c.args.hand.now c.loop-block.hand c.free.new.hand inv.hand e.hand;
+      pushed = pushes_then c.args.clerk.now c.loop-block.clerk c.free.new.clerk c.args.hand.now c.loop-block.hand c.free.new.hand inv.pushed e.pushed;
     }

@@ -1,6 +1,7 @@
 use Rattle.std.proofs.Common.{ℕ, length}
+use Rattle.ocr_clerks.specs.Pushing.{IsPushed, PushesReady}
 use Rattle.ocr_clerks.specs.Work.{AtWork, Stays}
-use Rattle.ocr_running.specs.Running.{IsPushed, held_at}
+use Rattle.ocr_running.specs.Running.{held_at}
 use Rattle.ocr_serving.specs.Serving.{HasReturned}
 use Rattle.ocr_serving.proofs.freeing.free_all.Given as goal
 
@@ -14,6 +15,7 @@ invariant-loop-block g l = record {
   returned : (n : ℕ) × HasReturned l.job.turns.now.1 l.fn.edt g.b n l.clerk;
   kept : (n : ℕ) → HasReturned l.job.turns.now.1 l.fn.edt g.b n l.fn.clerk → HasReturned l.job.turns.now.1 l.fn.edt g.b n l.clerk;
   hand : IsPushed l.fn.hand l.hand;
+  pushed : PushesReady l.fn.clerk l.clerk l.fn.hand l.hand;
 }
 
 abbrev pub decreases-loop-block : goal.decreases-loop-block

@@ -14,9 +14,10 @@ commit-requires-clause-may g c goes =
     let hand : c.take.new.clerk.parts ≡ (p, Some tells.0) ∷ [] = tells.4 ∙ ap (λ (ps : List (ℕ × Option ℕ)). ps ++ (p, Some tells.0) ∷ []) (same.2 ∙ c.requires.idle.hand) in
     let read : tells.0 ≡ c.part.result.now = taken p tells.0 c.part.result.now c.take.new.clerk.parts hand c.part.ensures in
     let is : tells.0 ≡ 1 = omega (arith, read, c.if-part-ne-OPEN.false) in
+    let spares : c.take.new.clerk.view.spares ≡ c.args.clerk.now.view.spares = ap (λ (v : Sight). v.spares) tells.3 ∙ ap (λ (v : Sight). v.spares) same.1 in
     let weight : c.take.new.clerk.view.weight ≡ c.args.clerk.now.view.weight = ap (λ (v : Sight). v.weight) tells.3 ∙ ap (λ (v : Sight). v.weight) same.1 in
     set_may c.args.turns.now.1 c.take.new.clerk.view c.in_ok-parts.parts.items c.new.result.items c.args.slot c.args.payload c.in_ok-parts.ensures.items c.new.ensures.items
-    (view ∙ ap (λ x. (p, x) ∷ []) is) c.requires.slot (omega (arith, weight, c.requires.light))
+    (view ∙ ap (λ x. (p, x) ∷ []) is) c.requires.slot (omega (arith, weight, c.requires.light)) (let same = spares in let pays = c.requires.unit in omega arith)
 
 pub give_back-requires-clause-may : goal.give_back-requires-clause-may
 give_back-requires-clause-may g c goes =

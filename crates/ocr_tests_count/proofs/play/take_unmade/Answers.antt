@@ -26,5 +26,6 @@ returns-then-part-eq-UNMADE g c is =
       facts = ap (λ (v : Sight). v.facts) second.3 ∙ ap (λ (v : Sight). v.facts) first.3 ∙ ap (λ (v : Sight). v.facts) drew.4;
       weight = ap (λ (v : Sight). v.weight) second.3 ∙ ap (λ (v : Sight). v.weight) first.3 ∙ ap (λ (v : Sight). v.weight) drew.4;
       root = (ap (λ (v : Sight). v.root) second.3 ∙ ap (λ (v : Sight). v.root) first.3 ∙ ap (λ (v : Sight). v.root) drew.4, ap (λ (v : Sight). v.quota) second.3 ∙ ap (λ (v : Sight). v.quota) first.3 ∙ ap (λ (v : Sight). v.quota) drew.4);
+      units = (ap (λ (v : Sight). v.spares) second.3 ∙ ap (λ (v : Sight). v.spares) first.3 ∙ ap (λ (v : Sight). v.spares) drew.4, ap (λ (v : Sight). v.ended) second.3 ∙ ap (λ (v : Sight). v.ended) first.3 ∙ ap (λ (v : Sight). v.ended) drew.4);
       room = (second.5 ∙ first.5 ∙ drew.3.2.0, omega (arith, second.6, first.6, drew.3.2.1), second.7 ∙ first.7 ∙ drew.3.2.2);
     }

@@ -9,6 +9,7 @@ commit-requires-clause-may c goes =
     may_wake c.args.turns.now.1 c.reserve.new.clerk.view c.in_ok-parts.parts.items c.new.result.items c.in_ok-parts.ensures.items c.new.ensures.items
     (ap (λ (v : Sight). v.parts) view ∙ c.requires.parts) (ap (λ (v : Sight). v.claims) view ∙ c.requires.claims)
     (omega (arith, ap (λ (v : Sight). v.weight) view, c.requires.light))
+    (omega (arith, ap (λ (v : Sight). v.spares) view, c.requires.unit))
 
 pub resume-requires-clause-owes : goal.resume-requires-clause-owes
 resume-requires-clause-owes c = subst (λ ns. 1 ≤ times 2 ns) (sym (ap (λ (v : Sight). v.debts.resumes) c.in-At.ensures.3)) (has_drawn c.reserve.new.clerk.view.debts.resumes 2 refl)

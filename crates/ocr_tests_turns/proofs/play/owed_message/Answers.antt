@@ -1,6 +1,6 @@
-use Rattle.std.proofs.Common.{arith}
-use Rattle.ocr_tests_turns.proofs.Adding.{first_has}
+use Rattle.std.proofs.Common.{ap, sym, ◌∙◌}
+use lib.ListN.{get_elem?}
 use Rattle.ocr_tests_turns.proofs.play.owed_message.Goals as goal
 
-pub returns : goal.returns
-returns c = first_has c.owed-owed.result.now c.args.clerk.now.view.owed c.owed-owed.ensures (grind (arith, c.if-is_empty.false, c.is_empty.ensures))
+pub returns-clause-has : goal.returns-clause-has
+returns-clause-has c = (0, c.first.result.now.2, ap (λ l. get_elem? l 0) (sym c.owed-owed.ensures) ∙ c.first.ensures)

@@ -17,8 +17,8 @@ index_mut-requires-2 c =
 pub returns : goal.returns
 returns c =
     let first = c.args.first in let limit = c.args.limit in let drawn = c.args.drawn in
-    let state : state_at (2 * limit + 1) first.0 ≡ 16 + 2 * limit + 1 + 33 * (first.0 - 1) = omega arith in
-    let payload : payload_at (2 * limit + 1) first.0 0 ≡ 16 + 2 * limit + 1 + 33 * (first.0 - 1) + 1 = omega arith in
+    let state : state_at (2 * limit + 1) first.0 ≡ 24 + 2 * limit + 1 + 33 * (first.0 - 1) = omega arith in
+    let payload : payload_at (2 * limit + 1) first.0 0 ≡ 24 + 2 * limit + 1 + 33 * (first.0 - 1) + 1 = omega arith in
     subst (IsLaidOut first limit drawn)
     (λ i. set (set (sym c.in_ok-words.ensures i) (state i) 0) (payload i) first.1)
     (laid_out first limit drawn c.requires.first.0 c.requires.first.1)

@@ -1,8 +1,11 @@
-use Rattle.std.proofs.Common.{◌∙◌, sym}
+use Rattle.std.proofs.Common.{◌∙◌, ap, sym}
+use Rattle.ocr_facts.specs.Clerks.{OcrView}
 use Rattle.ocr_clerks.proofs.Going.{stays_both}
 use Rattle.ocr_waking.specs.Rounds.{hand_of}
 use Rattle.ocr_waking.proofs.Holding.{holds_given}
 use Rattle.ocr_waking.proofs.Parks.{carries, done_act, gave_stays, has_waited_by, let_wait_by, taken_after}
+use Rattle.ocr_clerks.proofs.Pushing.{kept_readies}
+use Rattle.ocr_waking.proofs.Readied.{gave_readies}
 use Rattle.ocr_waking.proofs.rounds.act_at_block.Goals as goal
 
 pub carry_out-requires : goal.carry_out-requires
@@ -68,3 +71,13 @@ returns-clause-after g c =
     let e = c.in_ok-carry_out.ensures in
     let done = done_act table program edt d first payloads c.args.act (hand_of old edt payloads) old c.carry_out.new.clerk r.apart r.block r.unbegun e.stays e.work (sym c.is_wait.ensures ∙ c.if-is_wait.false) its e.entered in
     (holds_given t edt c.carry_out.new.clerk c.give_two.new.clerk done.core done.shown c.give_two.ensures.gave, tt)
+
+pub returns-then-is_wait-clause-readied : goal.returns-then-is_wait-clause-readied
+returns-then-is_wait-clause-readied g c =
+    let table = c.args.job.now.turns.now in let k = c.carry_out.new.clerk in
+    ap (λ (v : OcrView). v.debts.readied) c.park_two.ensures.view ∙ kept_readies table.1 c.args.clerk.now k _ _ c.in_ok-carry_out.ensures.entered
+
+pub returns-clause-readied : goal.returns-clause-readied
+returns-clause-readied g c =
+    let table = c.args.job.now.turns.now in let k = c.carry_out.new.clerk in
+    gave_readies k c.give_two.new.clerk c.give_two.ensures.gave ∙ kept_readies table.1 c.args.clerk.now k _ _ c.in_ok-carry_out.ensures.entered

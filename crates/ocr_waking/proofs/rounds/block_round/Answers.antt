@@ -1,6 +1,9 @@
+use Rattle.std.proofs.Common.{◌∙◌}
 use Rattle.ocr_clerks.proofs.Going.{stays_both}
 use Rattle.ocr_waking.proofs.Holding.{still_unbegun, wants_learnt}
 use Rattle.ocr_waking.proofs.Parks.{after_ok}
+use Rattle.ocr_clerks.proofs.Pushing.{readies_ok}
+use Rattle.ocr_waking.proofs.Readied.{learnt_readies}
 use Rattle.ocr_waking.proofs.rounds.block_round.Goals as goal
 
 pub meet-requires-clause-wants : goal.meet-requires-clause-wants
@@ -23,3 +26,8 @@ returns-clause-after g c =
     let start = c.args.clerk.now in let mid = c.read_three.new.clerk in
     let stays = stays_both start c.take_two.new.clerk mid c.in_ok-first.ensures.stays c.in_ok-payloads.ensures.stays in
     after_ok c.args.job.now.turns.now.1 c.args.edt c.meet.result start mid c.meet.new.clerk stays c.meet.ensures.after
+
+pub returns-clause-readied : goal.returns-clause-readied
+returns-clause-readied g c =
+    let start = c.args.clerk.now in let mid = c.read_three.new.clerk in
+    readies_ok c.meet.result start mid c.meet.new.clerk (learnt_readies c.take_two.new.clerk mid c.in_ok-payloads.ensures.learns ∙ c.in_ok-first.ensures.readied) c.meet.ensures.readied

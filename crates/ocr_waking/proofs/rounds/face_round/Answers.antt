@@ -1,6 +1,8 @@
-use Rattle.std.proofs.Common.{◌≡◌, ◌+◌, ◌∙◌, ◌∷◌, [], ℕ, List, Option, Some, None, refl, ap, subst, sym}
+use Rattle.std.proofs.Common.{◌≡◌, ◌∙◌, ◌∷◌, [], ℕ, List, Option, Some, None, refl, ap, subst, sym}
+use Rattle.ocr_facts.specs.Clerks.{OcrView}
 use Rattle.ocr_clerks.specs.Entering.{OcrKnown}
 use Rattle.ocr_clerks.specs.Work.{CanRun, Took}
+use Rattle.ocr_clerks.proofs.Pushing.{took_readies}
 use Rattle.ocr_waking.specs.Rounds.{PlansNext}
 use Rattle.ocr_waking.proofs.Faces.{after_wants, can_run, faced}
 use Rattle.ocr_waking.proofs.Holding.{core_can, take_ready}
@@ -32,3 +34,14 @@ returns-clause-after g c =
     subst (λ (x : OcrKnown). CanRun table.1 c.args.edt c.in_ok-payloads.payloads.items x) (sym c.in_ok-next.ensures.same)
     (subst (λ (l : List ℕ). CanRun table.1 c.args.edt l known) c.as_slice-known.ensures.value
     (can_run table c.args.job.now.program.now c.args.edt payloads known e.work e.sees plans))
+
+pub returns-in-Some-clause-readied : goal.returns-in-Some-clause-readied
+returns-in-Some-clause-readied g c =
+    ap (λ (v : OcrView). v.debts.readied) c.give_faces.ensures.view
+    ∙ (ap (λ (k : OcrKnown). k.view.debts.readied) c.in_ok-next.ensures.same
+    ∙ (c.in_ok-payloads.ensures.readied ∙ took_readies c.args.clerk.now c.take_part.new.clerk _ c.in_ok-take_part.ensures.took))
+
+pub returns-clause-readied : goal.returns-clause-readied
+returns-clause-readied g c =
+    ap (λ (k : OcrKnown). k.view.debts.readied) c.in_ok-next.ensures.same
+    ∙ (c.in_ok-payloads.ensures.readied ∙ took_readies c.args.clerk.now c.take_part.new.clerk _ c.in_ok-take_part.ensures.took)

@@ -1,8 +1,9 @@
-use Rattle.std.proofs.Common.{sym, subst}
+use Rattle.std.proofs.Common.{◌∙◌, ap, sym, subst}
 use Rattle.ocr_clerks.specs.Entering.{OcrKnown}
 use Rattle.ocr_waking.specs.Meeting.{WantsOther}
 use Rattle.ocr_waking.proofs.Holding.{holds_given}
 use Rattle.ocr_waking.proofs.Parks.{IsDone, done_other, if_none}
+use Rattle.ocr_waking.proofs.Readied.{gave_readies}
 use Rattle.ocr_waking.proofs.rounds.meet.Goals as goal
 
 pub give_two-requires-clause-taken : goal.give_two-requires-clause-taken
@@ -28,3 +29,7 @@ returns-in_default-clause-after g c =
     let other : WantsOther t edt d first payloads old = if_none (WantsOther t edt d first payloads old) c.in_ok-act.field-0 (λ x is. c.in_default.not-Some x is) c.in_ok-act.ensures.other in
     let done = subst (λ (x : OcrKnown). IsDone t edt d first x) (sym c.in_ok-act.ensures.same) (done_other table c.args.job.now.program.now edt d first payloads old r.block r.unbegun r.work r.ready other) in
     (holds_given t edt c.decide.new.clerk c.give_two.new.clerk done.core done.shown c.give_two.ensures.gave, tt)
+
+pub returns-in_default-clause-readied : goal.returns-in_default-clause-readied
+returns-in_default-clause-readied g c =
+    gave_readies c.decide.new.clerk c.give_two.new.clerk c.give_two.ensures.gave ∙ ap (λ (k : OcrKnown). k.view.debts.readied) c.in_ok-act.ensures.same

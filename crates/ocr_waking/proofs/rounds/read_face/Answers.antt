@@ -3,6 +3,7 @@ use Rattle.ocr_parts.specs.declared.part.Part.TheVariants as part
 use Rattle.ocr_slots.specs.declared.Slot.{Slot}
 use Rattle.ocr_rule.specs.Sums.{find}
 use Rattle.ocr_waking.proofs.Faces.{face_found_is, face_learnt, face_there, keeps_face, learnt_slots}
+use Rattle.ocr_waking.proofs.Readied.{learnt_readies}
 use Rattle.ocr_waking.proofs.rounds.read_face.Goals as goal
 
 pub part-requires : goal.part-requires
@@ -26,3 +27,6 @@ returns-clause-knows g c =
       count = e.count ∙ (c.depc-count.ensures.number ∙ (ap (λ (l : List Slot). length l) same ∙ learnt_slots t c.args.edt old new was e.hand e.learns));
       facts = e.known;
     }
+
+pub returns-clause-readied : goal.returns-clause-readied
+returns-clause-readied g c = learnt_readies c.args.clerk.now c.read_payloads.new.clerk c.in-Ok.ensures.learns

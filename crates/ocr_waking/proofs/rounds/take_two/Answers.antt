@@ -5,6 +5,7 @@ use Rattle.ocr_rule.specs.Sums.{keys}
 use Rattle.ocr_clerks.proofs.Hands.{took_length}
 use Rattle.ocr_waking.specs.Meeting.{pair_of}
 use Rattle.ocr_waking.proofs.Holding.{can_again, core_can, took_both, took_ready}
+use Rattle.ocr_clerks.proofs.Pushing.{took_readies}
 use Rattle.ocr_waking.proofs.rounds.take_two.Goals.{then-first, else-first}
 use Rattle.ocr_waking.proofs.rounds.take_two.Goals as goal
 
@@ -29,3 +30,8 @@ returns-clause-ready g c =
     let can = core_can table program c.args.edt c.args.clerk.now c.requires.work c.requires.holds in
     let again = can_again table program c.args.edt _ c.args.clerk.now c.take_part.new.clerk can one.work one.took one.sees in
     took_ready table program c.args.edt _ c.take_part.new.clerk c.take_part-2.new.clerk again two.work two.took two.sees
+
+pub returns-clause-readied : goal.returns-clause-readied
+returns-clause-readied g c =
+    took_readies c.take_part.new.clerk c.take_part-2.new.clerk _ c.in_ok-take_part-2.ensures.took
+    ∙ took_readies c.args.clerk.now c.take_part.new.clerk _ c.in_ok-take_part.ensures.took

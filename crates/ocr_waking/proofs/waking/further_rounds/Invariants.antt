@@ -1,3 +1,4 @@
+use Rattle.ocr_clerks.specs.Pushing.{ReadiesNone}
 use Rattle.ocr_clerks.specs.Work.{AtWork, Stays}
 use Rattle.ocr_waking.specs.Meeting.{HoldsCore}
 use Rattle.ocr_waking.specs.Rounds.{IsWantedIf}
@@ -10,3 +11,4 @@ invariant-loop g l =
     × HoldsCore l.job.turns.now.1 l.edt l.clerk
     × IsWantedIf l.job.turns.now.1 l.edt l.wanted l.clerk
     × Stays l.fn.clerk l.clerk
+    × ReadiesNone l.fn.clerk l.clerk

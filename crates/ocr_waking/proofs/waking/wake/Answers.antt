@@ -1,6 +1,7 @@
 use Rattle.std.proofs.Common.{◌+◌, ◌∷◌, [], ℕ, subst}
 use Rattle.ocr_clerks.specs.Work.{Took}
 use Rattle.ocr_waking.proofs.Holding.{holds_first}
+use Rattle.ocr_clerks.proofs.Pushing.{readies_ok, took_readies}
 use Rattle.ocr_waking.proofs.waking.wake.Goals as goal
 
 pub rounds-requires-clause-holds : goal.rounds-requires-clause-holds
@@ -9,3 +10,7 @@ rounds-requires-clause-holds g c =
     let old = c.args.clerk.now in let new = c.take_part.new.clerk in
     let took : Took old new ((table.1.limit + c.args.edt) ∷ []) = subst (λ (p : ℕ). Took old new (p ∷ [])) (λ i. c.limit.ensures i + c.edt.view_is i) e.took in
     holds_first table c.args.job.now.program.now c.args.edt old new r.work r.taken r.bare.0 r.bare.1 r.ready e.work took e.sees
+
+pub returns-clause-readied : goal.returns-clause-readied
+returns-clause-readied g c =
+    readies_ok c.rounds.result c.args.clerk.now c.take_part.new.clerk c.rounds.new.clerk (took_readies c.args.clerk.now c.take_part.new.clerk _ c.in_ok-take_part.ensures.took) c.rounds.ensures.readied

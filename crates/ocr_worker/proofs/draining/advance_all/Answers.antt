@@ -16,13 +16,13 @@ loop-number-preserved g c =
       | in-Lost w ↦
           let told = w.in-Lost.ensures.told in
           let between = came_between table program c.args.worker (c.loop-number.number + 1) c.advance.result c.loop-number.clerk c.advance.new.clerk (λ word is. cc (is, w.in-Lost.is)) goes.between c.advance.ensures.told in (
-            goes_next table program c.args.clerk.now c.loop-number.clerk c.advance.new.clerk c.args.hand.now c.loop-number.hand c.advance.new.hand goes between c.advance.ensures.stays c.advance.ensures.hand.0,
+            goes_next table program c.args.clerk.now c.loop-number.clerk c.advance.new.clerk c.args.hand.now c.loop-number.hand c.advance.new.hand goes between c.advance.ensures.stays c.advance.ensures.hand.same,
             passing_lost table.1.limit c.loop-number.number w.in-Lost.field-0 c.loop-number.any c.match-advance.any c.args.clerk.now c.loop-number.clerk c.advance.new.clerk (omega (arith, end, test)) w.any-is told.0 told.1 told.2 was,
             still,
           )
       | in_default w ↦
           let between = came_between table program c.args.worker (c.loop-number.number + 1) c.advance.result c.loop-number.clerk c.advance.new.clerk w.in_default.not-Closed goes.between c.advance.ensures.told in (
-            goes_next table program c.args.clerk.now c.loop-number.clerk c.advance.new.clerk c.args.hand.now c.loop-number.hand c.advance.new.hand goes between c.advance.ensures.stays c.advance.ensures.hand.0,
+            goes_next table program c.args.clerk.now c.loop-number.clerk c.advance.new.clerk c.args.hand.now c.loop-number.hand c.advance.new.hand goes between c.advance.ensures.stays c.advance.ensures.hand.same,
             passing_won table.1.limit c.loop-number.number c.match-advance.any c.args.clerk.now c.advance.new.clerk (omega (arith, end, test)) w.any-is,
             still,
           )

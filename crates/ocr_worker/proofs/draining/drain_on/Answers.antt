@@ -20,12 +20,12 @@ loop-preserved-in_ok-advance_found-in-Some-take g c =
     let first = c.args.clerk.now in let start = c.deliver_all.new.clerk in let new = c.advance_found.new.clerk in
     let goes = c.loop.invariant.2 in
     let at_start : Rests table first start = rests_next table first c.loop.clerk start c.loop.invariant.3 (λ rest. (c.in_ok-deliver_all.ensures.rests (quiet_delivered table program c.loop.clerk goes.between rest)).1) in
-    let hands = same_both c.loop.hand c.deliver_all.new.hand c.take.new.self c.deliver_all.ensures.hand.0 c.take.ensures.same.0 in (
+    let hands = same_both c.loop.hand c.deliver_all.new.hand c.take.new.self c.deliver_all.ensures.hand.same c.take.ensures.same.0 in (
       tt,
       tt,
       goes_next table program first c.loop.clerk new c.args.hand.now c.loop.hand c.advance_found.new.hand goes c.in_ok-advance_found-in-Some-take.ensures.done
           (stays_both c.loop.clerk start new c.deliver_all.ensures.stays c.advance_found.ensures.stays)
-          (same_both c.loop.hand c.take.new.self c.advance_found.new.hand hands c.advance_found.ensures.hand.0),
+          (same_both c.loop.hand c.take.new.self c.advance_found.new.hand hands c.advance_found.ensures.hand.same),
       rests_next table first start new at_start (λ rest. (c.in_ok-advance_found-in-Some-take.ensures.rests rest).1),
     )
 
@@ -69,7 +69,7 @@ loop-preserved g c =
     let first = c.args.clerk.now in let start = c.deliver_all.new.clerk in let new = c.advance_all.new.clerk in
     let goes = c.loop.invariant.2 in
     let at_start : Rests table first start = rests_next table first c.loop.clerk start c.loop.invariant.3 (λ rest. (c.in_ok-deliver_all.ensures.rests (quiet_delivered table program c.loop.clerk goes.between rest)).1) in
-    let hands = same_both c.loop.hand c.deliver_all.new.hand c.take.new.self c.deliver_all.ensures.hand.0 c.take.ensures.same.0 in (
+    let hands = same_both c.loop.hand c.deliver_all.new.hand c.take.new.self c.deliver_all.ensures.hand.same c.take.ensures.same.0 in (
       tt,
       tt,
       goes_next table program first c.loop.clerk new c.args.hand.now c.loop.hand c.advance_all.new.hand goes c.in_ok-advance_all-in-None-take.ensures.done

@@ -3,7 +3,8 @@ use Rattle.ocr_clerks.specs.Entering.{OcrKnown}
 use Rattle.ocr_clerks.specs.Work.{HasLeft, Stays}
 use Rattle.ocr_worker.specs.Leaving.{WorkLeaves}
 use Rattle.ocr_worker.specs.declared.leaving.Leave.{Leave}
-use Rattle.ocr_clerks.proofs.Going.{stays_both, work_left}
+use Rattle.ocr_clerks.proofs.Going.{stays_both}
+use Rattle.ocr_worker.proofs.Idle.{rested_left}
 use Rattle.ocr_worker.proofs.working.work.Goals.{in-Ok, in-Err}
 use Rattle.ocr_worker.proofs.working.work.Goals as goal
 
@@ -22,11 +23,11 @@ returns-clause-leaves g c =
     let table = c.args.job.now.turns.now in let program = c.args.job.now.program.now in
     elim c.match-work_on.branch [
       | in-Ok w ↦
-          subst (λ (k : OcrKnown). WorkLeaves table program c.args.job.now.pool.now c.args.worker c.match-work_on.leave k c.work_on.new.hand) (sym w.clerk-is)
-          (subst (λ (l : Leave). WorkLeaves table program c.args.job.now.pool.now c.args.worker l c.work_on.new.clerk c.work_on.new.hand) (sym w.leave-is) w.in-Ok.ensures.idle)
+          subst (λ (k : OcrKnown). WorkLeaves table program c.args.worker c.match-work_on.leave k) (sym w.clerk-is)
+          (subst (λ (l : Leave). WorkLeaves table program c.args.worker l c.work_on.new.clerk) (sym w.leave-is) w.in-Ok.ensures.quiet)
       | in-Err w ↦
-          subst (λ (k : OcrKnown). WorkLeaves table program c.args.job.now.pool.now c.args.worker c.match-work_on.leave k c.work_on.new.hand) (sym w.clerk-is)
-          (subst (λ (l : Leave). WorkLeaves table program c.args.job.now.pool.now c.args.worker l w.closing_word.new.clerk c.work_on.new.hand) (sym w.leave-is) (record {
+          subst (λ (k : OcrKnown). WorkLeaves table program c.args.worker c.match-work_on.leave k) (sym w.clerk-is)
+          (subst (λ (l : Leave). WorkLeaves table program c.args.worker l w.closing_word.new.clerk) (sym w.leave-is) (record {
             past = w.closing_word.ensures.closed.0;
             read = w.closing_word.ensures.closed.1;
             left = w.closing_word.ensures.left c.args.worker w.in-Err.ensures.left.0;
@@ -37,6 +38,6 @@ pub returns-clause-own : goal.returns-clause-own
 returns-clause-own g c =
     let table = c.args.job.now.turns.now in let program = c.args.job.now.program.now in
     elim c.match-work_on.branch [
-      | in-Ok w ↦ subst (HasLeft table c.args.worker) (sym w.clerk-is) (work_left table program c.args.worker c.work_on.new.clerk w.in-Ok.ensures.idle.0.work)
+      | in-Ok w ↦ subst (HasLeft table c.args.worker) (sym w.clerk-is) (rested_left table program c.args.worker c.work_on.new.clerk w.in-Ok.ensures.quiet.given.between.rests)
       | in-Err w ↦ subst (HasLeft table c.args.worker) (sym w.clerk-is) (w.closing_word.ensures.left c.args.worker w.in-Err.ensures.left.0)
     ]

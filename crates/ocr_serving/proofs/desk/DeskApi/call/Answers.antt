@@ -5,7 +5,7 @@ use Rattle.ocr_clerks.proofs.Going.{stays_both}
 use Rattle.ocr_running.specs.Serving.{own_log}
 use Rattle.ocr_running.proofs.Settled.{pushed_both}
 use Rattle.ocr_starting.specs.Given.{body_given}
-use Rattle.ocr_serving.proofs.Desks.{holds_on, next_on, ready_on, ready_still, risen, state_on}
+use Rattle.ocr_serving.proofs.Desks.{holds_on, next_on, ready_on, ready_still, risen, since_then, state_on}
 use Rattle.ocr_serving.proofs.desk.DeskApi.call.Goals as goal
 
 pub answer-requires : goal.answer-requires
@@ -32,6 +32,7 @@ returns-in-Ok-clause-serves g c =
         ready_still d.over T P d.worker d.edt b c.answer.new.clerk d.closings off (record { work = e.work; runs = e.runs; unclosed = at.unclosed }),
         stays_both d.given.now.begun.value d.clerk.now c.answer.new.clerk r.1 e.stays,
         pushed_both d.pushed.value d.hand.now c.answer.new.hand r.2 e.hand,
+        since_then d.over d.given.now.begun.value d.clerk.now c.answer.new.clerk d.pushed.value d.hand.now c.answer.new.hand r.3 e.pushed,
       );
       serves = refl;
       kept = refl;
@@ -60,7 +61,7 @@ returns-in-Err-clause-serves g c =
     let at = ready_on d.over T P d.worker d.edt b d.clerk.now d.closings off c.requires.ready.0 in
     let e = c.in-Err.ensures in let r = c.requires.ready in let none = at.unclosed in
     record {
-      ready = (e.gone, stays_both d.given.now.begun.value d.clerk.now c.answer.new.clerk r.1 e.stays, pushed_both d.pushed.value d.hand.now c.answer.new.hand r.2 e.hand);
+      ready = (e.gone, stays_both d.given.now.begun.value d.clerk.now c.answer.new.clerk r.1 e.stays, pushed_both d.pushed.value d.hand.now c.answer.new.hand r.2 e.hand, tt);
       serves = refl;
       kept = refl;
       later = omega (arith, none);

@@ -1,4 +1,4 @@
-use Rattle.std.proofs.Common.{sym, ap, arith, ◌∙◌, ◌≡◌, ◌≤◌, ◌<◌, ◌+◌, ◌-◌, ◌++◌, length, vec_capacity, refl}
+use Rattle.std.proofs.Common.{sym, ap, subst, arith, ◌∙◌, ◌≡◌, ◌≤◌, ◌<◌, ◌+◌, ◌-◌, ◌++◌, length, vec_capacity, refl}
 use Rattle.ocr_mail.specs.Mail.{without, named}
 use Rattle.ocr_rule.specs.Rule.{OPEN}
 use Rattle.ocr_rule.specs.Steps.{deed, logged}
@@ -6,6 +6,8 @@ use Rattle.ocr_rule.specs.Sums.{weigh, one_at, as_some, replace_all}
 use Rattle.ocr_rule.proofs.Clerks.{true_same, shut_true, logged_true, tried_open, tried_shut, tried_tells}
 use Rattle.ocr_rule.proofs.Numbered.{weigh_keys, length_replace_all}
 use Rattle.ocr_rule.proofs.Totals.{weigh_at}
+use Rattle.ocr_rule.specs.Units.{units}
+use Rattle.ocr_rule.proofs.Units.{logged_units}
 use Rattle.ocr_turns.proofs.turns.Turns.commit.Goals as goal
 
 pub invariant_of-clerk : goal.invariant_of-clerk
@@ -36,9 +38,13 @@ invariant_of-clerk-2 g c =
     let m = g.M.Machine.meaning in let me = c.clerk.inside.seat.me in let n = c.step_commit-found.result in
     let d = deed m c.args.self.now.1.limit me.0 c.args.entry c.args.change.parts.items c.args.change.messages.items in
     let under : n < OPEN = omega (arith, c.if-found-ge-ENDED.false) in
+    let view = ap (λ x. x.view) c.clerk.view_is in
+    let may = c.requires.may (sym (ap (λ v. v.closed) view) ∙ (sym c.clerk.invariant.closed_is ∙ c.in_default.is)) in
+    let same_units = subst (λ v. units (logged v n (deed m c.args.self.now.1.limit v c.args.entry c.args.change.parts.items c.args.change.messages.items)) ≡ units v) (sym view)
+    (logged_units c.args.clerk.now.view n (deed m c.args.self.now.1.limit c.args.clerk.now.view c.args.entry c.args.change.parts.items c.args.change.messages.items) may.owes refl may.spares) in
     true_same (sym (tried_open m (logged me.0 n d) me c.step_commit-found.new.seat.me n c.step_commit-found.ensures.told under)) (sym c.push_reserved.ensures.items) refl (sym c.put_all.ensures.parts)
     (sym (c.owe_anew.ensures.owed ∙ ap (λ o. without o c.clerk.inside.owed.items ++ named n 0 c.args.change.messages.items) c.delivers-delivered.ensures))
-    (ap (λ w. c.clerk.inside.weight + w) (sym c.weight-weight.ensures)) refl refl (logged_true c.clerk.invariant n d (tried_tells m (logged me.0 n d) me c.step_commit-found.new.seat.me n c.step_commit-found.ensures.told under).1)
+    (ap (λ w. c.clerk.inside.weight + w) (sym c.weight-weight.ensures)) refl refl (logged_true c.clerk.invariant n d same_units (tried_tells m (logged me.0 n d) me c.step_commit-found.new.seat.me n c.step_commit-found.ensures.told under).1)
 
 pub returns : goal.returns
 returns g c =

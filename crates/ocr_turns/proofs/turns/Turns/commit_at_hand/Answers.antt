@@ -1,10 +1,12 @@
 use Rattle.std.proofs.Common.{sym, ap, subst, arith, ◌∙◌, ◌≡◌, ◌≤◌, ◌<◌, ◌+◌, ◌++◌, refl}
 use Rattle.ocr_mail.specs.Mail.{without, named}
-use Rattle.ocr_rule.specs.Contract.{MayCommit}
+use Rattle.ocr_rule.specs.Contract.{Known, MayCommit}
 use Rattle.ocr_rule.specs.Rule.{OPEN}
 use Rattle.ocr_rule.specs.Steps.{deed, logged}
 use Rattle.ocr_rule.specs.Sums.{as_some, replace_all}
 use Rattle.ocr_rule.proofs.Clerks.{true_same, shut_true, logged_true, tried_open, tried_shut, tried_tells}
+use Rattle.ocr_rule.specs.Units.{units}
+use Rattle.ocr_rule.proofs.Units.{logged_units}
 use Rattle.ocr_turns.specs.Hand.{at_hand}
 use Rattle.ocr_turns.proofs.turns.Turns.commit_at_hand.Goals as goal
 
@@ -34,10 +36,14 @@ invariant_of-clerk-2 g c =
     let ps = at_hand c.clerk.inside.parts.items in let ms = c.args.messages.items in let d = deed m c.args.self.now.1.limit me.0 c.args.entry ps ms in
     let under : n < OPEN = omega (arith, c.if-found-ge-ENDED.false) in
     let hand = ap (λ x. x.parts) c.clerk.view_is in
+    let view = ap (λ x. x.view) c.clerk.view_is in
+    let may = c.requires.may (sym (ap (λ v. v.closed) view) ∙ (sym c.clerk.invariant.closed_is ∙ c.in_default.is)) in
+    let same_units = subst (λ (k : Known _ _ _ _ _). units (logged k.view n (deed m c.args.self.now.1.limit k.view c.args.entry (at_hand k.parts) ms)) ≡ units k.view) (sym c.clerk.view_is)
+    (logged_units c.args.clerk.now.view n (deed m c.args.self.now.1.limit c.args.clerk.now.view c.args.entry (at_hand c.args.clerk.now.parts) ms) may.owes refl may.spares) in
     true_same (sym (tried_open m (logged me.0 n d) me c.step_at_hand-found.new.seat.me n c.step_at_hand-found.ensures.told under)) (sym c.push_reserved.ensures.items) refl
     (subst (λ l. replace_all (as_some (at_hand l)) l ≡ l) (sym hand) c.requires.same)
     (sym (c.owe_anew.ensures.owed ∙ ap (λ o. without o c.clerk.inside.owed.items ++ named n 0 ms) c.delivers-delivered.ensures))
-    (ap (λ w. c.clerk.inside.weight + w) (sym c.weight-weight.ensures)) refl refl (logged_true c.clerk.invariant n d (tried_tells m (logged me.0 n d) me c.step_at_hand-found.new.seat.me n c.step_at_hand-found.ensures.told under).1)
+    (ap (λ w. c.clerk.inside.weight + w) (sym c.weight-weight.ensures)) refl refl (logged_true c.clerk.invariant n d same_units (tried_tells m (logged me.0 n d) me c.step_at_hand-found.new.seat.me n c.step_at_hand-found.ensures.told under).1)
 
 pub returns : goal.returns
 returns g c =

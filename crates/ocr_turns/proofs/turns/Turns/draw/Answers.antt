@@ -13,7 +13,7 @@ fetch_add-found-requires g c =
       ap (λ x. x.table) c.clerk.view_is ∙ (c.requires.0 ∙ sym (ap (λ x. x.0) c.self.view_is)),
       (let a = c.self.invariant.words in omega arith),
       λ s k len at lt.
-          let r = draw_at m key k.history s k.kept k.counted c.clerk.inside.seat.id me.0 me.1 at (sym c.clerk.invariant.full_is ∙ c.in_default.is) (out_of me c.clerk.invariant.seat) in
+          let r = draw_at m key k.history s k.kept k.counted k.alive c.clerk.inside.seat.id me.0 me.1 at (sym c.clerk.invariant.full_is ∙ c.in_default.is) (out_of me c.clerk.invariant.seat) in
           (r.0, keeps, tt, r.1.0, r.1.1),
     )
 

@@ -24,9 +24,9 @@ invariant_of-root-2 g c =
     true_same (sym c.join_seat.ensures.2) refl
     (sym (ap (map (λ l. l.items)) (c.push_reserved.ensures.items ∙ ap (λ l. l ++ c.clerk.inside.log ∷ []) same.0) ∙ map_append (λ l. l.items) c.root.inside.joined.items (c.clerk.inside.log ∷ [])))
     (sym (c.append.ensures.items ∙ ap (λ l. l ++ c.clerk.inside.parts.items) same.1))
-    (sym (c.append-2.ensures.items ∙ ap (λ l. l ++ c.clerk.inside.owed.items) same.2))
+    (sym (c.append-2.ensures ∙ ap (λ l. l ++ c.clerk.inside.owed.items) same.2))
     refl (sym c.or-root-inside.ensures) refl
-    (gathered_true c.root.invariant c.clerk.invariant (subst (λ v. v.root ≡ 1) view c.requires.root.0) (subst (λ v. v.root ≡ 0) theirs c.requires.root.1)
+    (gathered_true c.root.invariant c.clerk.invariant (let n = c.saturating_add-root-inside.ensures in omega arith) (subst (λ v. v.root ≡ 1) view c.requires.root.0) (subst (λ v. v.root ≡ 0) theirs c.requires.root.1)
     (sym (ap (λ v. limit_of v.terms) theirs) ∙ (ap limit_of (c.requires.table.1.1 ∙ sym c.requires.table.0.1) ∙ ap (λ v. limit_of v.terms) view)))
 
 pub returns-clause-parts : goal.returns-clause-parts

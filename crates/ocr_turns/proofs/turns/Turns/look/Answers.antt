@@ -13,7 +13,7 @@ load-found-requires g c =
       ap (λ x. x.table) c.clerk.view_is ∙ (c.requires.0 ∙ sym (ap (λ x. x.0) c.self.view_is)),
       (let a = c.self.invariant.words in omega arith),
       λ s k len at lt.
-          let r = look_at m key k.history s k.kept k.counted c.clerk.inside.seat.id me.0 at (sym c.clerk.invariant.closed_is ∙ c.in_default.is) (out_of me c.clerk.invariant.seat) me.1 lt in
+          let r = look_at m key k.history s k.kept k.counted k.alive c.clerk.inside.seat.id me.0 at (sym c.clerk.invariant.closed_is ∙ c.in_default.is) (out_of me c.clerk.invariant.seat) me.1 lt in
           (r.0, keeps, tt, r.1.0, r.1.1),
     )
 

@@ -15,6 +15,6 @@ fetch_add-requires g c =
       c.requires.table ∙ sym (ap (λ x. x.0) c.self.view_is),
       omega (arith, c.self.invariant.words),
       λ s k len at lt.
-          let r = commit_at m laws g.met.M.Machine.counting_laws key k.history s k.kept k.counted c.args.seat.now.id me.0 at c.requires.open c.requires.seat e me.1 ps ms may in
+          let r = commit_at m laws g.met.M.Machine.counting_laws key k.history s k.kept k.counted k.alive c.args.seat.now.id me.0 at c.requires.open c.requires.seat e me.1 ps ms may in
           (r.0, keeps, tt, r.1.0, subst (λ o. commits m o me (slice_index s.words 0) (r.0, me.1)) (sym (c.requires.told ∙ ap (λ t. Some (deed m t.limit me.0 e ps ms)) is)) r.1.1),
     )

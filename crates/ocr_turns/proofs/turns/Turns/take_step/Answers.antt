@@ -6,7 +6,7 @@ use Rattle.ocr_rule.specs.Rule.{Holds}
 use Rattle.ocr_rule.specs.Words.{FitsSlots, MayStep, steps_word}
 use Rattle.ocr_rule.specs.declared.words.WordStep.{WordStep}
 use Rattle.ocr_rule.specs.declared.words.WordStep.TheVariants as word
-use Rattle.ocr_rule.proofs.Stepping.{allows_put, allows_count, allows_made, allows_read, allows_claim, allows_park, allows_resume}
+use Rattle.ocr_rule.proofs.Stepping.{allows_put, allows_count, allows_made, allows_read, allows_claim, allows_park, allows_resume, allows_drop}
 use Rattle.ocr_turns.proofs.turns.Turns.take_step.Goals as goal
 
 -- the step that was chosen, on the word that was computed
@@ -117,4 +117,19 @@ store-requires-in-Resume g c =
           n c.args.step word.Resume g.W.Chosen.step (state_at c.self.inside.table.shared.table_id.slots n) c.state_word-state.result
           c.requires.chosen c.in-Resume.is state
           (allows_resume m t c.self.inside.table.shared.table_id.slots c.args.seat.now.id me c.requires.seat n range.0 (let r = range.1 in omega arith) may),
+    )
+
+pub store-requires-in-Drop : goal.store-requires-in-Drop
+store-requires-in-Drop g c =
+    let m = g.M.Machine.meaning in let t = c.self.inside.table.shared.key in let me = c.args.seat.now.me in let n = c.args.edt in
+    let id = ap (λ x. x.0) c.self.view_is in let key = sym (ap (λ x. x.1) c.self.view_is) in
+    let state = c.state_word-state.ensures.word ∙ ap (λ z. state_at z.slots n) (sym id) in
+    let within = c.state_word-state.ensures.within in let limit = ap (λ z. z.limit) key in let range = c.requires.edt in
+    let may = subst (λ z. MayStep m z me.0 n word.Drop) key (subst (MayStep m c.args.self.now.1 me.0 n) c.in-Drop.is c.requires.may) in (
+      c.requires.table ∙ sym id,
+      (let w = ap (λ z. z.words) id in omega arith),
+      as_chosen (Holds m t) c.self.inside.table.shared.table_id.slots c.args.seat.now.id me (λ _. 64) (λ z _ w. steps_word m z me 64 w)
+          n c.args.step word.Drop g.W.Chosen.step (state_at c.self.inside.table.shared.table_id.slots n) c.state_word-state.result
+          c.requires.chosen c.in-Drop.is state
+          (allows_drop m t c.self.inside.table.shared.table_id.slots c.args.seat.now.id me c.requires.seat n range.0 (let r = range.1 in omega arith) may.0 may.1),
     )

@@ -1,0 +1,12 @@
+pub mod Entered
+pub mod Entries
+pub mod Found
+pub mod Keeping
+pub mod Linked
+pub mod Marked
+pub mod Racing
+pub mod Ranks
+pub mod Sole
+pub mod Telling
+pub mod Touched
+pub mod Walking

@@ -1,0 +1,10 @@
+pub mod Kept
+pub mod Keys
+pub mod Links
+pub mod Messages
+pub mod Modes
+pub mod Orders
+pub mod Past
+pub mod RaceList
+pub mod Touches
+pub mod Walk

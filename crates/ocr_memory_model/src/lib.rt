@@ -1,0 +1,22 @@
+//! The memory model told of a run from its journal: which of its entries happen before which, and
+//! its races.
+#![tactic(auto)]
+
+mod keys;
+mod laws;
+mod links;
+mod lists;
+mod modes;
+mod ordering;
+mod past;
+mod race;
+mod sources;
+mod stop;
+mod touch;
+mod walk;
+
+pub use laws::race_laws;
+pub use ordering::{HappensBefore, MOST_ORDERED, order};
+pub use race::{Race, races};
+pub use stop::OrderStop;
+pub use walk::{Pair, Touches};

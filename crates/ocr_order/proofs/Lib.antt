@@ -1,0 +1,8 @@
+mod Tied
+pub mod Forward
+pub mod Fronts
+pub mod Gained
+pub mod Graphs
+pub mod Loaded
+pub mod Steady
+pub mod Writes

@@ -1,0 +1,4 @@
+pub mod Bundles
+pub mod Order
+pub mod Places
+pub mod Rows

@@ -1,0 +1,159 @@
+// Small programs that end quiet, run again and again.
+use crate::edits::add;
+use crate::runs::{Recording, verdict};
+use ocr_clerks::{Gate, Ocr};
+use ocr_history::Entry;
+use ocr_tests_journals::program_of;
+use ocr_tests_run::{NO_FAULTS, outcome_at};
+use ocr_turns::Clerk;
+use std::alloc::Global;
+use std::sync::Wait;
+use std::sync::atomic::{AtomicU64, Ordering};
+use std::test::Fail;
+use std::thread::Threads;
+
+// Three EDTs without slots.
+const THREE: &[u8] = b"fn one { print 1; }
+fn mainEdt {
+  let t = ocrEdtTemplateCreate(one, 0, 0); let i = 0;
+  while i < 3 { ocrEdtCreate(t, EDT_PARAM_DEF, [], EDT_PARAM_DEF, [], 0); i = i + 1; }
+}";
+
+// Each EDT but the last makes the next one as the last thing it does.
+const CHAIN: &[u8] = b"fn link {
+  if paramv[0] { ocrEdtCreate(paramv[1], EDT_PARAM_DEF, [paramv[0] - 1, paramv[1]], 0, [], 0); }
+}
+fn mainEdt {
+  let t = ocrEdtTemplateCreate(link, 2, 0);
+  ocrEdtCreate(t, EDT_PARAM_DEF, [9, t], EDT_PARAM_DEF, [], 0);
+}";
+
+// Each EDT above the leaves makes two.
+const TREE: &[u8] = b"fn node {
+  let i = 0;
+  if paramv[0] {
+    while i < 2 {
+      ocrEdtCreate(paramv[1], EDT_PARAM_DEF, [paramv[0] - 1, paramv[1]], 0, [], 0); i = i + 1;
+    }
+  }
+}
+fn mainEdt {
+  let t = ocrEdtTemplateCreate(node, 2, 0);
+  ocrEdtCreate(t, EDT_PARAM_DEF, [4, t], EDT_PARAM_DEF, [], 0);
+}";
+
+// Four EDTs hold one block in EW, so all but one of them wait.
+const TURNS: &[u8] = b"fn add { store(depv[0], 0, load(depv[0], 0) + 1); }
+fn mainEdt {
+  let d = ocrDbCreate(8, 0); ocrDbRelease(d);
+  let t = ocrEdtTemplateCreate(add, 0, 1); let i = 0;
+  while i < 4 {
+    let w = ocrEdtCreate(t, EDT_PARAM_DEF, [], EDT_PARAM_DEF, [], 0);
+    ocrAddDependence(d, w, 0, DB_MODE_EW); i = i + 1;
+  }
+}";
+
+// A latch fires once three EDTs have counted it down, and an EDT has a slot that nothing sets.
+const STUCK: &[u8] = b"fn down { ocrEventSatisfySlot(paramv[0], 0, OCR_EVENT_LATCH_DECR_SLOT); }
+fn after { print depv[0]; }
+fn mainEdt {
+  let l = ocrEventCreate(OCR_EVENT_LATCH_T, 0); let i = 0;
+  ocrEdtCreate(ocrEdtTemplateCreate(after, 0, 1), EDT_PARAM_DEF, [], EDT_PARAM_DEF, [l], 0);
+  while i < 3 { ocrEventSatisfySlot(l, 0, OCR_EVENT_LATCH_INCR_SLOT); i = i + 1; }
+  let t = ocrEdtTemplateCreate(down, 1, 0); i = 0;
+  while i < 3 { ocrEdtCreate(t, EDT_PARAM_DEF, [l], EDT_PARAM_DEF, [], 0); i = i + 1; }
+  ocrEdtCreate(ocrEdtTemplateCreate(after, 0, 1), EDT_PARAM_DEF, [], EDT_PARAM_DEF, [], 0);
+}";
+
+const PROGRAMS: [(&[u8], u8); 5] = [(THREE, 0), (CHAIN, 0), (TREE, 0), (TURNS, 0), (STUCK, 4)];
+
+/// More turns than any of these runs takes.
+const MOST_TURNS: u64 = 1_000_000;
+
+/// Counts the turns of all workers.
+#[derive(Drop)]
+struct Turned {
+    turns: AtomicU64,
+}
+
+impl Gate for Turned {
+    fn pass<R: Wait>(&self, _rt: &R, _worker: u32, _clerk: &Clerk<Ocr>) {
+        self.turns.fetch_add(1, Ordering::SeqCst);
+    }
+}
+
+fn is_stop(entry: &Entry) -> bool {
+    matches!(entry, Entry::Stop(_))
+}
+
+// Whether a run by so many workers ends quiet, with this status, within the turns, by a run.
+fn ends_quiet<R: Threads + Wait + Sync>(
+    rt: &R,
+    alloc: Global,
+    workers: &str,
+    text: &[u8],
+    status: u8,
+) -> Result<bool, Fail> {
+    let gate = Turned {
+        turns: AtomicU64::new(0),
+    };
+    let words = ["run", "--workers", workers, "--objects", "256"];
+    let done = outcome_at(
+        rt,
+        alloc,
+        &words,
+        text.to_vec(alloc)?,
+        1000,
+        NO_FAULTS,
+        &gate,
+    )?;
+    let journal = done.ended.journal.ok_or("a journal")?;
+    let mut entries = Vec::new(alloc);
+    let mut stops = 0u64;
+    for entry in journal.journal().entries() {
+        if is_stop(entry) {
+            stops = 1;
+        }
+        add(alloc, &mut entries, entry, None)?;
+    }
+    let program = program_of(alloc, text)?;
+    let recording = Recording { program, entries };
+    let is_run = verdict(alloc, &recording, &recording.entries).is_ok();
+    let turns = gate.turns.load(Ordering::SeqCst);
+    Ok(done.ended.status == status && stops == 0 && turns < MOST_TURNS && is_run)
+}
+
+// Whether each of the programs does so in so many runs.
+fn end_quiet<R: Threads + Wait + Sync>(
+    rt: &R,
+    alloc: Global,
+    workers: &str,
+    runs: u32,
+) -> Result<bool, Fail> {
+    for _ in 0..runs {
+        for (text, status) in PROGRAMS {
+            if !ends_quiet(rt, alloc, workers, text, status)? {
+                return Ok(false);
+            }
+        }
+    }
+    Ok(true)
+}
+
+#[test]
+fn a_thousand_runs_by_two_workers_end_quiet(rt: HostRuntime) -> Result<(), Fail> {
+    assert!(rt; end_quiet(&rt, rt.alloc(), "2", 200)?);
+    Ok(())
+}
+
+#[test]
+fn six_hundred_runs_by_four_workers_end_quiet(rt: HostRuntime) -> Result<(), Fail> {
+    assert!(rt; end_quiet(&rt, rt.alloc(), "4", 120)?);
+    Ok(())
+}
+
+#[test]
+fn four_hundred_runs_by_64_workers_end_quiet(rt: HostRuntime) -> Result<(), Fail> {
+    assert!(rt; end_quiet(&rt, rt.alloc(), "64", 80)?);
+    Ok(())
+}
