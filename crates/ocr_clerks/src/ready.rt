@@ -2,6 +2,7 @@
 ghost use Rattle.std.specs.Prelude.{◌≡◌, OnOk, OnErr};
 ghost use Rattle.ocr_clerks.specs.Work.{AtWork, IsGone, Stays};
 ghost use Rattle.ocr_clerks.specs.Pushing.{IsPushed, Pushes};
+ghost use Rattle.ocr_steal.specs.Hand.{own};
 
 use crate::closing::close_memory;
 use crate::gate::Gate;
@@ -10,13 +11,14 @@ use crate::ocr::Ocr;
 use crate::over::Over;
 use ocr_base::NoMemory;
 use ocr_guid::Guid;
-use ocr_steal::Hand;
+use ocr_steal::{Bell, Hand};
 use ocr_turns::Clerk;
 use std::alloc::Global;
 use std::sync::Wait;
 
 /// Pushes an EDT that is ready, and wakes another worker where this one has an EDT to take already.
 /// Where memory is refused the run is ended, since the EDT would be lost.
+#[inline(always)]
 pub fn push_ready<R: Wait, G: Gate>(
     alloc: Global,
     job: &Job<R, G>,
@@ -32,15 +34,24 @@ pub fn push_ready<R: Wait, G: Gate>(
     ensures pushed { OnOk result (Pushes edt hand.old hand.new) }
     ensures gone { OnErr result (IsGone job.now.turns.now worker clerk.new) }
 {
-    // A lone EDT its own worker takes next.
-    let more = hand.has_any();
     match hand.push(alloc, edt) {
         Ok(()) => {
-            if more {
-                job.pool.bell.ring();
+            if job.pool.bell.has_sleepers() {
+                ring(&job.pool.bell, hand);
             }
             Ok(())
         }
         Err(NoMemory) => Err(close_memory(job, worker, clerk)),
+    }
+}
+
+// Wakes another worker, where there is an EDT for it: a lone one its own worker takes next.
+#[inline(never)]
+fn ring(bell: &Bell, hand: &mut Hand)
+    ensures hand { IsPushed hand.old hand.new }
+    ensures own { own hand.new ≡ own hand.old }
+{
+    if hand.has_several() {
+        bell.ring();
     }
 }

@@ -46,6 +46,7 @@ pub(crate) fn resume_all<R: Wait, G: Gate>(
 
 /// Counts the making of the EDT that the clerk's entry made with so many slots, and pushes it where
 /// nothing is left to be counted.
+#[inline(always)]
 pub(crate) fn count_new<R: Wait, G: Gate>(
     alloc: Global,
     job: &Job<R, G>,
@@ -77,6 +78,7 @@ pub(crate) fn count_new<R: Wait, G: Gate>(
 }
 
 // Counts the making of what the clerk's entry made, if it is an EDT.
+#[inline(always)]
 fn count_any<R: Wait, G: Gate>(
     alloc: Global,
     job: &Job<R, G>,

@@ -27,9 +27,15 @@ impl Bell {
         }
     }
 
+    /// Whether a worker lies down or sleeps.
+    #[inline(always)]
+    pub fn has_sleepers(&self) -> bool {
+        self.asleep.load(Ordering::SeqCst) != 0
+    }
+
     /// Wakes a worker, where one sleeps and none that was woken searches still.
     pub fn ring(&self) {
-        if self.asleep.load(Ordering::SeqCst) == 0 {
+        if !self.has_sleepers() {
             return;
         }
         let first = self

@@ -37,14 +37,13 @@ impl Hand {
         }
     }
 
-    /// Whether the hand's deque has an EDT: a hint, of which no clause tells anything.
-    #[inline(always)]
-    pub fn has_any(&mut self) -> bool
+    /// Whether the hand's deque has two EDTs or more: a hint, of which no clause tells anything.
+    pub fn has_several(&mut self) -> bool
         ensures same { IsSame self.old self.new × (knows self.new ≡ knows self.old) }
         ensures own { own self.new ≡ own self.old }
         ensures misses { misses_of self.new ≡ misses_of self.old }
     {
-        self.own.len_as::<Looks>() != 0
+        self.own.len_as::<Looks>() > 1
     }
 
     /// Takes the first EDT of the hand's deque. `None` exactly where the deque was found empty.

@@ -37,7 +37,7 @@ impl<M: Machine> Turns<M> {
         ensures room { IfOk result (λ _. (2 ≤ clerk.new.room) × (messages ≤ clerk.new.space)) }
     {
         // Room that is there already costs a look at the capacities.
-        if clerk.log.has_room(LOG_STEP) && clerk.owed.has_room(messages) {
+        if clerk.log.has_room(2) && (messages == 0 || clerk.owed.has_room(messages)) {
             return Ok(());
         }
         self.reserve_more(clerk, messages)
@@ -51,7 +51,10 @@ impl<M: Machine> Turns<M> {
         ensures grows { (clerk.old.room ≤ clerk.new.room) × (clerk.old.space ≤ clerk.new.space) }
         ensures room { IfOk result (λ _. (2 ≤ clerk.new.room) × (messages ≤ clerk.new.space)) }
     {
-        clerk.log.reserve(LOG_STEP)?;
+        // A log that is asked for more than it needs is copied, with all the room that it has.
+        if !clerk.log.has_room(2) {
+            clerk.log.reserve(LOG_STEP)?;
+        }
         clerk.owed.reserve(messages)?;
         Ok(())
     }

@@ -51,6 +51,7 @@ impl<M: Machine, W: Chosen> Play<
 impl<M: Machine> Turns<M> {
     /// A step on the words of an EDT, and what stood in the word, where the step reads it. The
     /// crate `ocr_count` has a call for each step; nothing else uses this.
+    #[inline(always)]
     pub fn step_word(&self, clerk: &mut Clerk<M>, edt: u64, step: WordStep) -> u64
         requires table { IsOf self.now clerk.old }
         requires may { MayStep M.meaning self.now.1 clerk.old.view edt step }
@@ -62,6 +63,7 @@ impl<M: Machine> Turns<M> {
         found
     }
 
+    #[inline(always)]
     fn take_step<W: Chosen>(
         &self,
         seat: &mut Seat<Option<M::Part>, View<M::Setting, M::Entry, M::Part, M::Message, M::Fact>>,
@@ -120,6 +122,7 @@ impl<M: Machine> Turns<M> {
 }
 
 // How many units a clerk has after a step that found this word.
+#[inline(always)]
 fn units_after(step: WordStep, found: u64, units: u64) -> u64
     requires slots { FitsSlots step }
     ensures fewer { result ≤ count_after step found units }
