@@ -82,8 +82,39 @@ impl Gate for Turned {
     }
 }
 
-fn is_stop(entry: &Entry) -> bool {
-    matches!(entry, Entry::Stop(_))
+// The entries, copied.
+fn copied(alloc: Global, entries: &[Entry]) -> Result<Vec<Entry>, Fail> {
+    let mut copied = Vec::new(alloc);
+    for entry in entries {
+        add(alloc, &mut copied, entry, None)?;
+    }
+    Ok(copied)
+}
+
+// The status of a run by so many workers, and its entries.
+fn run_counted<R: Threads + Wait + Sync>(
+    rt: &R,
+    alloc: Global,
+    workers: &str,
+    text: &[u8],
+    gate: &Turned,
+) -> Result<(u8, Vec<Entry>), Fail> {
+    let words = ["run", "--workers", workers, "--objects", "256"];
+    let input = text.to_vec(alloc)?;
+    let done = outcome_at(rt, alloc, &words, input, 1000, NO_FAULTS, gate)?;
+    let status = done.ended.status;
+    let journal = done.ended.journal.ok_or("a journal")?;
+    let entries = copied(alloc, journal.journal().entries())?;
+    Ok((status, entries))
+}
+
+// Whether the entries are a run of the program that a text is, which no Stop ends.
+fn are_quiet(alloc: Global, text: &[u8], entries: Vec<Entry>) -> Result<bool, Fail> {
+    let program = program_of(alloc, text)?;
+    let recording = Recording { program, entries };
+    let has_stop = matches!(recording.entries.last(), Some(Entry::Stop(_)));
+    let is_run = verdict(alloc, &recording, &recording.entries).is_ok();
+    Ok(is_run && !has_stop)
 }
 
 // Whether a run by so many workers ends quiet, with this status, within the turns, by a run.
@@ -97,30 +128,11 @@ fn ends_quiet<R: Threads + Wait + Sync>(
     let gate = Turned {
         turns: AtomicU64::new(0),
     };
-    let words = ["run", "--workers", workers, "--objects", "256"];
-    let done = outcome_at(
-        rt,
-        alloc,
-        &words,
-        text.to_vec(alloc)?,
-        1000,
-        NO_FAULTS,
-        &gate,
-    )?;
-    let journal = done.ended.journal.ok_or("a journal")?;
-    let mut entries = Vec::new(alloc);
-    let mut stops = 0u64;
-    for entry in journal.journal().entries() {
-        if is_stop(entry) {
-            stops = 1;
-        }
-        add(alloc, &mut entries, entry, None)?;
+    let (ended, entries) = run_counted(rt, alloc, workers, text, &gate)?;
+    if ended != status || gate.turns.load(Ordering::SeqCst) >= MOST_TURNS {
+        return Ok(false);
     }
-    let program = program_of(alloc, text)?;
-    let recording = Recording { program, entries };
-    let is_run = verdict(alloc, &recording, &recording.entries).is_ok();
-    let turns = gate.turns.load(Ordering::SeqCst);
-    Ok(done.ended.status == status && stops == 0 && turns < MOST_TURNS && is_run)
+    are_quiet(alloc, text, entries)
 }
 
 // Whether each of the programs does so in so many runs.
