@@ -6,4 +6,6 @@ mod blocks;
 #[cfg(test)]
 mod journals;
 #[cfg(test)]
+mod races;
+#[cfg(test)]
 mod reports;
