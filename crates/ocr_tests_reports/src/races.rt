@@ -1,5 +1,5 @@
 // Races after a destruction, of journals that replay takes as runs. They are written by hand, since
-// by one worker nobody holds a block that he has yet to acquire.
+// by one worker no EDT waits for a block.
 use Line::{
     Acquire, Block, Depends, Destroy, Edt, End, Event, Free, Load, Satisfies, Set, Start, Store,
     Template, Wait,
@@ -80,7 +80,8 @@ const STORES_FIRST: &[u64] = &[1];
 const DESTROYS_FIRST: &[u64] = &[0];
 
 // What EDT 2 does.
-fn made(alloc: Global, (first, held, asked): Case) -> Result<Vec<Line>, Fail> {
+fn made(alloc: Global, case: Case) -> Result<Vec<Line>, Fail> {
+    let (first, held, asked) = case;
     let params = if first == 1 {
         STORES_FIRST
     } else {
