@@ -11,6 +11,8 @@ import sys
 
 TOP = pathlib.Path(__file__).resolve().parent.parent
 TESTS = TOP / "crates/ocr_tests_run/src/examples.rt"
+# a constant of the tests has at most so many programs (and 10,000 expressions, of which each byte is one)
+MOST = 10
 HEAD = """// The programs of examples/, each with what it writes and its status, as bench/examples.py takes
 // them from there.
 
@@ -45,14 +47,22 @@ def table():
         items.append(constant(f"{name}_OUT", output))
         items.append(f"const {name}_STATUS: u8 = {code};\n")
         sizes.append(len(path.read_bytes()) + len(output))
-    # a constant has at most 10,000 expressions, and each byte is one
-    half = next(i for i in range(len(names)) if sum(sizes[: i + 1]) > sum(sizes) / 2)
-    items.append(rows("EXAMPLES", "The first half of the programs.", names[:half]))
-    items.append(rows("MORE_EXAMPLES", "The other half.", names[half:]))
+    # the groups have about a third of the bytes each
+    thirds = [third_of(sizes, 1), third_of(sizes, 2)]
+    items.append(rows("EXAMPLES", "The first third of the programs.", names[: thirds[0]]))
+    items.append(rows("MORE_EXAMPLES", "The second third.", names[thirds[0] : thirds[1]]))
+    items.append(rows("LAST_EXAMPLES", "The last third.", names[thirds[1] :]))
     return HEAD + "\n".join(items)
 
 
+def third_of(sizes, number):
+    """How many of the programs stand before the one with which so many thirds of all bytes are passed."""
+    return next(i for i in range(len(sizes)) if 3 * sum(sizes[: i + 1]) > number * sum(sizes))
+
+
 def rows(table, comment, names):
+    if len(names) > MOST:
+        sys.exit(f"examples: {table} would have {len(names)} programs, and {MOST} are the most")
     lines = "".join(f"    ({n}, {n}_OUT, {n}_STATUS),\n" for n in names)
     return f"/// {comment}\npub const {table}: [Example; {len(names)}] = [\n{lines}];\n"
 

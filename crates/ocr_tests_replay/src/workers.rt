@@ -3,7 +3,7 @@ use crate::journals::TREE;
 use crate::outputs::{ADDERS, DESTROYED as FORGOTTEN, GIVEN, TAKEN};
 use crate::runs::{recording_by, verdict};
 use crate::scopes::{FAMILY, INNER, MEMBER, NESTED, SILENT};
-use ocr_tests_run::{CREWS, EXAMPLES, MORE_EXAMPLES};
+use ocr_tests_run::{CREWS, EXAMPLES, LAST_EXAMPLES, MORE_EXAMPLES};
 use std::alloc::Global;
 use std::sync::Wait;
 use std::test::Fail;
@@ -45,7 +45,11 @@ fn examples_are_replayed<R: Threads + Wait + Sync>(
     alloc: Global,
     workers: &str,
 ) -> Result<bool, Fail> {
-    for (text, _, _) in EXAMPLES.into_iter().chain(MORE_EXAMPLES) {
+    for (text, _, _) in EXAMPLES
+        .into_iter()
+        .chain(MORE_EXAMPLES)
+        .chain(LAST_EXAMPLES)
+    {
         let recording = recording_by(rt, alloc, workers, text)?;
         if verdict(alloc, &recording, &recording.entries).is_err() {
             return Ok(false);

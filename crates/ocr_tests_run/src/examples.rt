@@ -17,6 +17,84 @@ const ABORT_OUT: &[u8] = b"1
 
 const ABORT_STATUS: u8 = 5;
 
+const BARRIER: &[u8] =
+    b"# A latch as a barrier: the sum starts when both parts have counted the latch down.
+fn part {
+  store(depv[0], paramv[0], paramv[0] + 20);
+  ocrDbRelease(depv[0]);
+  ocrEventSatisfySlot(paramv[1], NULL_GUID, OCR_EVENT_LATCH_DECR_SLOT);
+}
+fn sum {
+  print load(depv[0], 0) + load(depv[0], 1);
+}
+fn mainEdt {
+  let d = ocrDbCreate(16, DB_PROP_NO_ACQUIRE);
+  let latch = ocrEventCreate(OCR_EVENT_LATCH_T, EVT_PROP_NONE);
+  ocrEventSatisfySlot(latch, NULL_GUID, OCR_EVENT_LATCH_INCR_SLOT);
+  ocrEventSatisfySlot(latch, NULL_GUID, OCR_EVENT_LATCH_INCR_SLOT);
+  let s = ocrEdtCreate(ocrEdtTemplateCreate(sum, 0, 2), 0, [], 2, [], EDT_PROP_NONE);
+  ocrAddDependence(d, s, 0, DB_MODE_CONST);
+  ocrAddDependence(latch, s, 1, DB_MODE_NULL);
+  let t = ocrEdtTemplateCreate(part, 2, 1);
+  ocrEdtCreate(t, 2, [0, latch], 1, [d], EDT_PROP_NONE);
+  ocrEdtCreate(t, 2, [1, latch], 1, [d], EDT_PROP_NONE);
+}
+";
+
+const BARRIER_OUT: &[u8] = b"41
+";
+
+const BARRIER_STATUS: u8 = 0;
+
+const BLOCK: &[u8] =
+    b"# Two tasks and a data block: mainEdt fills the block, and the reader prints what it finds there.
+fn reader {
+  print load(depv[0], 0);
+}
+fn mainEdt {
+  let d = ocrDbCreate(8, DB_PROP_NONE);
+  store(d, 0, 42);
+  ocrDbRelease(d);
+  let t = ocrEdtTemplateCreate(reader, 0, 1);
+  let r = ocrEdtCreate(t, 0, [], 1, [], EDT_PROP_NONE);
+  ocrAddDependence(d, r, 0, DB_MODE_CONST);
+}
+";
+
+const BLOCK_OUT: &[u8] = b"42
+";
+
+const BLOCK_STATUS: u8 = 0;
+
+const CHANNEL: &[u8] =
+    b"# A channel: the first block that is sent goes to the first slot that is linked, and so on.
+fn sender {
+  let i = 1;
+  while i <= 2 {
+    let d = ocrDbCreate(8, DB_PROP_NONE);
+    store(d, 0, i * 10);
+    ocrDbRelease(d);
+    ocrEventSatisfy(paramv[0], d);
+    i = i + 1;
+  }
+}
+fn receiver {
+  print load(depv[0], 0);
+  print load(depv[1], 0);
+}
+fn mainEdt {
+  let c = ocrEventCreateParams(OCR_EVENT_CHANNEL_T, EVT_PROP_TAKES_ARG, 2, 1, 1);
+  ocrEdtCreate(ocrEdtTemplateCreate(sender, 1, 0), 1, [c], 0, [], EDT_PROP_NONE);
+  ocrEdtCreate(ocrEdtTemplateCreate(receiver, 0, 2), 0, [], 2, [c, c], EDT_PROP_NONE);
+}
+";
+
+const CHANNEL_OUT: &[u8] = b"10
+20
+";
+
+const CHANNEL_STATUS: u8 = 0;
+
 const COLLATZ: &[u8] = b"# Variables, loops and choices: the steps that 27 takes to 1.
 fn mainEdt {
   let n = 27;
@@ -63,6 +141,27 @@ const COUNTERS_OUT: &[u8] = b"8
 ";
 
 const COUNTERS_STATUS: u8 = 0;
+
+const DESTRUCTION: &[u8] =
+    b"# A block that is destroyed too early: its reader finds it gone and has NULL_GUID in its slot.
+fn reader {
+  print depv[0];
+}
+fn mainEdt {
+  let d = ocrDbCreate(8, DB_PROP_NONE);
+  store(d, 0, 42);
+  let t = ocrEdtTemplateCreate(reader, 0, 1);
+  let r = ocrEdtCreate(t, 0, [], 1, [], EDT_PROP_NONE);
+  ocrAddDependence(d, r, 0, DB_MODE_CONST);
+  ocrDbDestroy(d);
+  ocrDbRelease(d);
+}
+";
+
+const DESTRUCTION_OUT: &[u8] = b"0
+";
+
+const DESTRUCTION_STATUS: u8 = 0;
 
 const EDTS: &[u8] = b"# Each EDT prints its number and then makes the next one.
 fn count_down {
@@ -159,6 +258,30 @@ const FIRST_OUT: &[u8] = b"42
 ";
 
 const FIRST_STATUS: u8 = 0;
+
+const FUTURE: &[u8] =
+    b"# An event as a future: the reader starts when the writer has brought the value.
+fn writer {
+  let d = ocrDbCreate(8, DB_PROP_NONE);
+  store(d, 0, 42);
+  ocrDbRelease(d);
+  ocrEventSatisfy(paramv[0], d);
+}
+fn reader {
+  print load(depv[0], 0);
+}
+fn mainEdt {
+  let future = ocrEventCreate(OCR_EVENT_STICKY_T, EVT_PROP_TAKES_ARG);
+  let r = ocrEdtCreate(ocrEdtTemplateCreate(reader, 0, 1), 0, [], 1, [], EDT_PROP_NONE);
+  ocrAddDependence(future, r, 0, DB_MODE_CONST);
+  ocrEdtCreate(ocrEdtTemplateCreate(writer, 1, 0), 1, [future], 0, [], EDT_PROP_NONE);
+}
+";
+
+const FUTURE_OUT: &[u8] = b"42
+";
+
+const FUTURE_STATUS: u8 = 0;
 
 const OPERATORS: &[u8] = b"# Operators from the lowest level to the highest, and the constants.
 fn mainEdt {
@@ -299,6 +422,23 @@ const QUEENS_OUT: &[u8] = b"4
 
 const QUEENS_STATUS: u8 = 0;
 
+const RACE: &[u8] =
+    b"# A race: two writers hold the block in RW and store the same word, and nothing orders them.
+fn writer {
+  store(depv[0], 0, paramv[0]);
+}
+fn mainEdt {
+  let d = ocrDbCreate(8, DB_PROP_NO_ACQUIRE);
+  let t = ocrEdtTemplateCreate(writer, 1, 1);
+  ocrEdtCreate(t, 1, [7], 1, [d], EDT_PROP_NONE);
+  ocrEdtCreate(t, 1, [8], 1, [d], EDT_PROP_NONE);
+}
+";
+
+const RACE_OUT: &[u8] = b"";
+
+const RACE_STATUS: u8 = 0;
+
 const REFUSALS: &[u8] = b"# A refused creation answers 0; `code` says why: 22 EINVAL, 2 ENOENT.
 fn one {
 }
@@ -345,6 +485,33 @@ const RETURNS_OUT: &[u8] = b"1
 ";
 
 const RETURNS_STATUS: u8 = 0;
+
+const SCOPE: &[u8] =
+    b"# A finish EDT: the last task starts when the top one and the child that it made have ended.
+fn child {
+  print 2;
+}
+fn top {
+  print 1;
+  ocrEdtCreate(ocrEdtTemplateCreate(child, 0, 0), 0, [], 0, [], EDT_PROP_NONE);
+}
+fn last {
+  print 3;
+}
+fn mainEdt {
+  let done = 0;
+  let f = ocrEdtCreate(ocrEdtTemplateCreate(top, 0, 1), 0, [], 1, [], EDT_PROP_FINISH, &done);
+  ocrEdtCreate(ocrEdtTemplateCreate(last, 0, 1), 0, [], 1, [done], EDT_PROP_NONE);
+  ocrAddDependence(NULL_GUID, f, 0, DB_MODE_NULL);
+}
+";
+
+const SCOPE_OUT: &[u8] = b"1
+2
+3
+";
+
+const SCOPE_STATUS: u8 = 0;
 
 const SQUARES: &[u8] =
     b"# Four EDTs return a block each, and their output events bring the blocks to a fifth, which adds up.
@@ -483,25 +650,56 @@ const STENCIL_OUT: &[u8] = b"81900000000000
 
 const STENCIL_STATUS: u8 = 0;
 
-/// The first half of the programs.
-pub const EXAMPLES: [Example; 10] = [
+const STUCK: &[u8] =
+    b"# A task that never starts: nobody satisfies the event of its slot 1. The run ends with status 4.
+fn reader {
+  print load(depv[0], 0);
+}
+fn mainEdt {
+  let d = ocrDbCreate(8, DB_PROP_NO_ACQUIRE);
+  let event = ocrEventCreate(OCR_EVENT_STICKY_T, EVT_PROP_NONE);
+  let t = ocrEdtTemplateCreate(reader, 0, 2);
+  let r = ocrEdtCreate(t, 0, [], 2, [], EDT_PROP_NONE);
+  ocrAddDependence(d, r, 0, DB_MODE_CONST);
+  ocrAddDependence(event, r, 1, DB_MODE_NULL);
+}
+";
+
+const STUCK_OUT: &[u8] = b"";
+
+const STUCK_STATUS: u8 = 4;
+
+/// The first third of the programs.
+pub const EXAMPLES: [Example; 9] = [
     (ABORT, ABORT_OUT, ABORT_STATUS),
+    (BARRIER, BARRIER_OUT, BARRIER_STATUS),
+    (BLOCK, BLOCK_OUT, BLOCK_STATUS),
+    (CHANNEL, CHANNEL_OUT, CHANNEL_STATUS),
     (COLLATZ, COLLATZ_OUT, COLLATZ_STATUS),
     (COUNTERS, COUNTERS_OUT, COUNTERS_STATUS),
+    (DESTRUCTION, DESTRUCTION_OUT, DESTRUCTION_STATUS),
     (EDTS, EDTS_OUT, EDTS_STATUS),
     (FAULT, FAULT_OUT, FAULT_STATUS),
+];
+
+/// The second third.
+pub const MORE_EXAMPLES: [Example; 8] = [
     (FIBONACCI, FIBONACCI_OUT, FIBONACCI_STATUS),
     (FIRST, FIRST_OUT, FIRST_STATUS),
+    (FUTURE, FUTURE_OUT, FUTURE_STATUS),
     (OPERATORS, OPERATORS_OUT, OPERATORS_STATUS),
     (PIPELINE, PIPELINE_OUT, PIPELINE_STATUS),
     (PRINTS, PRINTS_OUT, PRINTS_STATUS),
+    (QUEENS, QUEENS_OUT, QUEENS_STATUS),
+    (RACE, RACE_OUT, RACE_STATUS),
 ];
 
-/// The other half.
-pub const MORE_EXAMPLES: [Example; 5] = [
-    (QUEENS, QUEENS_OUT, QUEENS_STATUS),
+/// The last third.
+pub const LAST_EXAMPLES: [Example; 6] = [
     (REFUSALS, REFUSALS_OUT, REFUSALS_STATUS),
     (RETURNS, RETURNS_OUT, RETURNS_STATUS),
+    (SCOPE, SCOPE_OUT, SCOPE_STATUS),
     (SQUARES, SQUARES_OUT, SQUARES_STATUS),
     (STENCIL, STENCIL_OUT, STENCIL_STATUS),
+    (STUCK, STUCK_OUT, STUCK_STATUS),
 ];

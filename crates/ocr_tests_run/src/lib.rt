@@ -4,7 +4,7 @@
 mod examples;
 mod outcomes;
 
-pub use examples::{EXAMPLES, Example, MORE_EXAMPLES};
+pub use examples::{EXAMPLES, Example, LAST_EXAMPLES, MORE_EXAMPLES};
 pub use outcomes::{CREWS, Faults, NO_FAULTS, Outcome, outcome_at, outcome_of, run, run_by};
 
 #[cfg(test)]

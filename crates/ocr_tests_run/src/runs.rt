@@ -1,7 +1,7 @@
 // Programs, from the bytes in to the bytes out.
 ghost use Rattle.std.specs.Prelude.{◌<◌};
 
-use crate::examples::{EXAMPLES, MORE_EXAMPLES};
+use crate::examples::{EXAMPLES, LAST_EXAMPLES, MORE_EXAMPLES};
 use crate::outcomes::{CREWS, Faults, NO_FAULTS, outcome_of, run, run_by};
 use std::alloc::Global;
 use std::sync::Wait;
@@ -106,7 +106,11 @@ fn runs_have_their_statuses_and_lines(rt: HostRuntime) -> Result<(), Fail> {
 
 #[test]
 fn examples_write_what_stands_beside_them(rt: HostRuntime) -> Result<(), Fail> {
-    for (text, out, status) in EXAMPLES.into_iter().chain(MORE_EXAMPLES) {
+    for (text, out, status) in EXAMPLES
+        .into_iter()
+        .chain(MORE_EXAMPLES)
+        .chain(LAST_EXAMPLES)
+    {
         let done = run(&rt, rt.alloc(), text, NO_FAULTS)?;
         assert_eq!(rt; done.ended.status, status);
         assert_eq!(rt; done.out.bytes(), out);
@@ -499,7 +503,11 @@ fn run_takes_32_numbers(rt: HostRuntime) -> Result<(), Fail> {
 #[test]
 fn canonical_text_of_an_example_is_its_own(rt: HostRuntime) -> Result<(), Fail> {
     let alloc = rt.alloc();
-    for (text, _, _) in EXAMPLES.into_iter().chain(MORE_EXAMPLES) {
+    for (text, _, _) in EXAMPLES
+        .into_iter()
+        .chain(MORE_EXAMPLES)
+        .chain(LAST_EXAMPLES)
+    {
         let first = outcome_of(&rt, alloc, &["check"], text.to_vec(alloc)?, 4000, NO_FAULTS)?;
         assert_eq!(rt; first.ended.status, 0);
         let copy = first.out.bytes().to_vec(alloc)?;
