@@ -150,8 +150,7 @@ fn reader {
 fn mainEdt {
   let d = ocrDbCreate(8, DB_PROP_NONE);
   store(d, 0, 42);
-  let t = ocrEdtTemplateCreate(reader, 0, 1);
-  let r = ocrEdtCreate(t, 0, [], 1, [], EDT_PROP_NONE);
+  let r = ocrEdtCreate(ocrEdtTemplateCreate(reader, 0, 1), 0, [], 1, [], EDT_PROP_NONE);
   ocrAddDependence(d, r, 0, DB_MODE_CONST);
   ocrDbDestroy(d);
   ocrDbRelease(d);
@@ -658,8 +657,7 @@ fn reader {
 fn mainEdt {
   let d = ocrDbCreate(8, DB_PROP_NO_ACQUIRE);
   let event = ocrEventCreate(OCR_EVENT_STICKY_T, EVT_PROP_NONE);
-  let t = ocrEdtTemplateCreate(reader, 0, 2);
-  let r = ocrEdtCreate(t, 0, [], 2, [], EDT_PROP_NONE);
+  let r = ocrEdtCreate(ocrEdtTemplateCreate(reader, 0, 2), 0, [], 2, [], EDT_PROP_NONE);
   ocrAddDependence(d, r, 0, DB_MODE_CONST);
   ocrAddDependence(event, r, 1, DB_MODE_NULL);
 }
