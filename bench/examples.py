@@ -47,7 +47,7 @@ def table():
         items.append(constant(f"{name}_OUT", output))
         items.append(f"const {name}_STATUS: u8 = {code};\n")
         sizes.append(len(path.read_bytes()) + len(output))
-    # the groups have about a third of the bytes each
+    # three groups of about as many bytes each
     thirds = [third_of(sizes, 1), third_of(sizes, 2)]
     items.append(rows("EXAMPLES", "The first third of the programs.", names[: thirds[0]]))
     items.append(rows("MORE_EXAMPLES", "The second third.", names[thirds[0] : thirds[1]]))
