@@ -16,11 +16,6 @@ use ocr_rule::{Change, Committed, Machine, View};
 use std::alloc::Global;
 use std::marker::Brand;
 
-/// For how many entries a log has room, at least, once it takes one. A log that is large from the
-/// start on grows where it stands, since its memory is mapped by itself: it has to be larger than
-/// what was freed before, or the allocator puts it among the others and copies it as it grows.
-const LOG_STEP: usize = 16384;
-
 impl<M: Machine> Turns<M> {
     /// Room for one more entry, besides that for an entry that ends the run, and for so many
     /// messages.
@@ -51,10 +46,7 @@ impl<M: Machine> Turns<M> {
         ensures grows { (clerk.old.room ≤ clerk.new.room) × (clerk.old.space ≤ clerk.new.space) }
         ensures room { IfOk result (λ _. (2 ≤ clerk.new.room) × (messages ≤ clerk.new.space)) }
     {
-        // A log that is asked for more than it needs is copied, with all the room that it has.
-        if !clerk.log.has_room(2) {
-            clerk.log.reserve(LOG_STEP)?;
-        }
+        clerk.log.reserve_two()?;
         clerk.owed.reserve(messages)?;
         Ok(())
     }

@@ -5,6 +5,11 @@ ghost use Rattle.ocr_rule.specs.Sums.{entries, keys};
 use std::alloc::{AllocError, Global};
 use std::marker::Model;
 
+/// For how many entries a log has room, at least, once it takes one. A log that is large from the
+/// start on grows where it stands, since its memory is mapped by itself: it has to be larger than
+/// what was freed before, or the allocator puts it among the others and copies it as it grows.
+const STEP: usize = 16384;
+
 /// Entries in the order in which they were entered, each with its number. The numbers stand apart
 /// from the entries, so that those can be taken out as they stand.
 #[derive(Drop)]
@@ -66,6 +71,19 @@ impl<E> Log<E> {
         ensures { IsTrue result ↔ (more ≤ self.now.room) }
     {
         has_room(&self.numbers, more) && has_room(&self.entries, more)
+    }
+
+    /// Room for two entries more, where there is none: room for many then.
+    // A log that is asked for more than it needs is copied, with all the room that it has.
+    pub fn reserve_two(&mut self) -> Result<(), AllocError>
+        ensures items { self.new.items ≡ self.old.items }
+        ensures grows { self.old.room ≤ self.new.room }
+        ensures room { IfOk result (λ _. 2 ≤ self.new.room) }
+    {
+        if self.has_room(2) {
+            return Ok(());
+        }
+        self.reserve(STEP)
     }
 
     /// Room for so many entries more.
