@@ -16,4 +16,6 @@ mod sleepers;
 #[cfg(test)]
 mod stencil;
 #[cfg(test)]
+mod units;
+#[cfg(test)]
 mod workers;
