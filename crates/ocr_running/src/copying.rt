@@ -5,6 +5,7 @@ use ocr_base::NoMemory;
 use std::alloc::Global;
 
 /// A copy of the words, which takes no memory where there are none: most EDTs are given none.
+#[inline(always)]
 pub fn copied_words(alloc: Global, words: &[u64]) -> Result<Vec<u64>, NoMemory>
     ensures { IfOk result (λ copy. copy.items ≡ words.now) }
 {
