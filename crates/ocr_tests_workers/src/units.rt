@@ -103,7 +103,7 @@ fn touches_and_entries<R: Threads + Wait + Sync>(
     text: &[u8],
 ) -> Result<(u64, u64), Fail> {
     let touches = Touches::new();
-    let words = ["run", "--objects", "2048"];
+    let words = ["run", "--workers", "1", "--objects", "2048"];
     let input = text.to_vec(alloc)?;
     let done = outcome_at(rt, alloc, &words, input, 4000, NO_FAULTS, &touches)?;
     let journal = done.ended.journal.ok_or("a journal")?;
