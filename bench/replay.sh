@@ -24,14 +24,14 @@
 #   nested      so many finish EDTs, each made by the one before, and done from the innermost on
 #   members     so many EDTs in one scope
 #
-# Build the program first: cd crates/ocr_bench && rt run -- each 40 1, which leaves it as
-# crates/ocr_bench/out/ocr_bench.
+# Build the program first: cd crates/ocr_bench_replay && rt run -- each 40 1, which leaves it as
+# crates/ocr_bench_replay/out/ocr_bench_replay.
 # Then, in any folder: bench/replay.sh [PROGRAM]
 
 set -euo pipefail
 
 here=$(cd "$(dirname "$0")" && pwd)
-program=${1:-$here/../crates/ocr_bench/out/ocr_bench}
+program=${1:-$here/../crates/ocr_bench_replay/out/ocr_bench_replay}
 work=$(mktemp -d)
 trap 'rm -rf "$work"' EXIT
 failed=0

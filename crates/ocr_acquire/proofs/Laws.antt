@@ -6,7 +6,7 @@ use Rattle.std.proofs.lemmas.List.Elements.{All-nil, All-cons, All-head, All-tai
 use Rattle.ocr_acquire.specs.declared.Mode.{Mode}
 use Rattle.ocr_acquire.specs.Mode.{rank_of, is_null}
 use Rattle.ocr_acquire.specs.Plan.{RisesFrom, IsWellFormed, IsWanted, stronger, put, asks, plan_of, PlanLaw, OnlyPlanLaw, GivenLaw, LengthLaw}
-use Rattle.ocr_acquire.proofs.Rising.{rises_below, rises_above, same_from_members}
+use Rattle.ocr_acquire.proofs.Ascent.{rises_below, rises_above, same_from_members}
 use Rattle.ocr_acquire.proofs.Ranks as rank
 use Rattle.ocr_acquire.proofs.Ranks.{strongest_of}
 

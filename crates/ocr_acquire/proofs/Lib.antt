@@ -1,8 +1,8 @@
-pub mod Sharing
+pub mod Shares
 pub mod Writes
 pub mod Members
-pub mod Rising
+pub mod Ascent
 pub mod Ranks
 pub mod Laws
-pub mod Sorting
+pub mod Sorts
 pub mod Order

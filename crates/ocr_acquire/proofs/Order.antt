@@ -8,7 +8,7 @@ use Rattle.ocr_guid.specs.contracts.GuidOrd as of_guids
 use Rattle.ocr_acquire.specs.declared.Mode.{Mode}
 use Rattle.ocr_acquire.specs.declared.Mode.TheVariants as mode
 use Rattle.ocr_acquire.specs.Mode.{rank_of}
-use Rattle.ocr_acquire.proofs.Sorting.{IsUpTo, Ascends, ascends_from_sorted}
+use Rattle.ocr_acquire.proofs.Sorts.{IsUpTo, Ascends, ascends_from_sorted}
 
 -- modes are ordered by rank
 modes_tell : (m n : Mode) → is_lt (of_modes.TheImpl.ghosts.cmp m n) ≡ false → rank_of n ≤ rank_of m

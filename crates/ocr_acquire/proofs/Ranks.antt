@@ -9,7 +9,7 @@ use Rattle.ocr_acquire.specs.declared.Mode.TheVariants as mode
 use Rattle.ocr_acquire.specs.Mode.{rank_of, is_null, mode_of, NumberLaw}
 use Rattle.ocr_acquire.specs.Plan.{RisesFrom, stronger, put, asks, plan_of}
 use Rattle.ocr_acquire.proofs.Members.{Contains-nil, Contains-here, Contains-there, Contains-cases}
-use Rattle.ocr_acquire.proofs.Rising.{rises_above}
+use Rattle.ocr_acquire.proofs.Ascent.{rises_above}
 
 pub number_law : NumberLaw
 number_law mode.Null = refl

@@ -29,6 +29,17 @@ is_null mode.Const = false
 is_null mode.Rw = false
 is_null mode.Ew = false
 
+-- in these modes loads and stores are no entries
+abbrev pub is_isolated : Mode → Bool
+is_isolated mode.Ew = true
+is_isolated mode.Const = true
+is_isolated other = false
+
+abbrev pub is_writable : Mode → Bool
+is_writable mode.Rw = true
+is_writable mode.Ew = true
+is_writable other = false
+
 -- only who holds a block in EW has it alone, and may write into a loan of its words
 abbrev pub is_exclusive : Mode → Bool
 is_exclusive mode.Ew = true

@@ -6,7 +6,7 @@ ghost use Rattle.std.specs.List.{All, filter};
 ghost use Rattle.ocr_acquire.specs.declared.Mode.TheVariants as mode;
 ghost use Rattle.ocr_acquire.specs.Plan.{plan_of, IsPlan, IsWellFormed, asks, last_of_each, PlanLaw, OnlyPlanLaw, GivenLaw, LengthLaw};
 ghost use Rattle.ocr_acquire.specs.Writes.{PutLaw, WrittenLaw};
-ghost use Rattle.ocr_acquire.specs.Mode.{rank_of, mode_of, together, fits_all, NumberLaw, OrderLaw, SharingLaw, AloneLaw};
+ghost use Rattle.ocr_acquire.specs.Mode.{rank_of, mode_of, is_isolated, is_writable, together, fits_all, NumberLaw, OrderLaw, SharingLaw, AloneLaw};
 
 use ocr_guid::{Guid, NoMemory};
 use smallvec::SmallVec;
@@ -45,6 +45,27 @@ impl Mode {
             3 => Some(Mode::Rw),
             4 => Some(Mode::Ew),
             _ => None,
+        }
+    }
+
+    /// Whether who holds a block in this mode has words of its own, so that its loads and stores
+    /// are no entries.
+    pub fn is_isolated(self) -> bool
+        ensures { result ≡ is_isolated self }
+    {
+        match self {
+            Mode::Ew | Mode::Const => true,
+            Mode::Null | Mode::Ro | Mode::Rw => false,
+        }
+    }
+
+    /// Whether who holds a block in this mode may store in it.
+    pub fn is_writable(self) -> bool
+        ensures { result ≡ is_writable self }
+    {
+        match self {
+            Mode::Ew | Mode::Rw => true,
+            Mode::Null | Mode::Ro | Mode::Const => false,
         }
     }
 }

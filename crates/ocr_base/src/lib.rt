@@ -1,5 +1,5 @@
-//! What every crate of the project stands on: its one list type, want of memory, counts, and
-//! limits.
+//! What every crate of the project stands on: its one list type, out of memory, counts, limits, and
+//! the messages of a history.
 #![tactic(auto)]
 
 mod count;
@@ -8,6 +8,6 @@ mod memory;
 mod seq;
 
 pub use count::Count;
-pub use limits::{MOST_DEPENDENCES, MOST_PARAMETERS};
+pub use limits::{MOST_DEPENDENCES, MOST_OBJECTS, MOST_PARAMETERS, MOST_WORKERS};
 pub use memory::NoMemory;
 pub use seq::Seq;

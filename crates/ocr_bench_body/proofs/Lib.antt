@@ -1,1 +1,1 @@
-pub mod Loans
+pub mod Lends

@@ -3,20 +3,20 @@
 //! second word is how many turns there are. It prints what the body returns.
 #![tactic(auto)]
 
-mod lending;
+mod loans;
 
 ghost use Rattle.std.specs.Prelude.{◌≡◌, [], IfOk};
-ghost use Rattle.ocr_bench_body.specs.Lending.{AreIsolated, IsBegun};
+ghost use Rattle.ocr_bench_body.specs.Loans.{AreIsolated, IsBegun};
 
-use lending::{Held, Lending};
+use loans::{Held, Lending};
 use ocr_acquire::Mode;
-use ocr_api::Api;
 use ocr_base::NoMemory;
 use ocr_body::{BodyStop, Checked, walk};
-use ocr_check::{CheckStop, check};
+use ocr_body_steps::Api;
 use ocr_datablock::Block;
 use ocr_guid::Guid;
 use ocr_program::parse;
+use ocr_program_check::{CheckStop, check};
 use ocr_text::tokens;
 use std::alloc::Global;
 use std::io::{Error, ErrorKind};
@@ -102,7 +102,7 @@ fn holding<'a>(
 }
 
 // The last of so many loads.
-#[tactic(auto, using(crate::proofs::Loans::no_load))]
+#[tactic(auto, using(crate::proofs::Lends::no_load))]
 fn asked(api: &mut Lending, turns: u64) -> Result<u64, BodyStop>
     requires { AreIsolated api.old.held.items }
 {
@@ -114,7 +114,7 @@ fn asked(api: &mut Lending, turns: u64) -> Result<u64, BodyStop>
 }
 
 // So many stores.
-#[tactic(auto, using(crate::proofs::Loans::no_store))]
+#[tactic(auto, using(crate::proofs::Lends::no_store))]
 fn told(api: &mut Lending, turns: u64) -> Result<u64, BodyStop>
     requires { AreIsolated api.old.held.items }
 {

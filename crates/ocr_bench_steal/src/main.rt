@@ -3,7 +3,7 @@
 #![tactic(auto)]
 
 ghost use Rattle.std.specs.Prelude.{◌≡◌};
-ghost use Rattle.ocr_steal.specs.Pool.{IsOf, hands_in};
+ghost use Rattle.ocr_steal.specs.Pool.{IsOfPool, hands_in};
 
 use ocr_guid::Guid;
 use ocr_steal::{Hand, Pool, Steal};
@@ -12,7 +12,7 @@ use std::io::{Error, ErrorKind};
 use std::{env, io};
 
 fn sum_stolen(pool: &Pool, thief: &mut Hand, steals: u32) -> u64
-    requires { IsOf pool.now thief.old × (thief.old.number ≡ 1) × (hands_in pool.now ≡ 2) }
+    requires { IsOfPool pool.now thief.old × (thief.old.number ≡ 1) × (hands_in pool.now ≡ 2) }
 {
     let mut sum = 0u64;
     for _ in 0..steals {

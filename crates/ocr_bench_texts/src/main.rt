@@ -6,12 +6,12 @@
 ghost use Rattle.std.specs.Prelude.{◌≡◌, ◌<◌, IfOk};
 
 use ocr_base::{NoMemory, Seq};
+use ocr_body_meaning::{Answer, Call};
 use ocr_guid::{Code, Guid};
-use ocr_history::{Entry, Journal, Message, What, Writes};
 use ocr_journal::journal_text;
-use ocr_meaning::{Answer, Call};
+use ocr_machine_history::{Entry, Journal, Message, What, Writes};
+use ocr_program_tree::{Function, Name, Program};
 use ocr_report::{left_text, refused_text, stale_text, summary_text};
-use ocr_tree::{Function, Name, Program};
 use std::alloc::Global;
 use std::io::{Error, ErrorKind};
 use std::{env, io};

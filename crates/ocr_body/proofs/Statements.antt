@@ -1,17 +1,17 @@
 -- What a statement does once the value of its expression is found.
 use Rattle.std.proofs.Common.{◌≡◌, ◌∙◌, ◌==◌, ◌⊎◌, inl, inr, ℕ, List, Bool, ap, sym, if◌then◌else◌, Result, Ok, Err, IfOk, refl}
 use Rattle.std.proofs.lemmas.Bool.{ne_eqb}
-use Rattle.ocr_meaning.specs.Behaviour.{Behaviour, Asked, Ends}
-use Rattle.ocr_meaning.specs.Body.{Body, says}
-use Rattle.ocr_meaning.specs.Meaning.{Frame, State, Value, spend, eval, exec, exec_all, print_step, with_variable}
-use Rattle.ocr_tree.specs.Tree.{Statements}
-use Rattle.ocr_code.specs.Code.{name_at, expression_at, statement_at}
-use Rattle.ocr_code.specs.declared.code.ExprCode.{ExprCode}
-use Rattle.ocr_code.specs.declared.code.StmtCode.{StmtCode}
-use Rattle.ocr_code.specs.declared.code.StmtCode.TheVariants as step
-use Rattle.ocr_plain.specs.declared.local.Flow.{Flow}
-use Rattle.ocr_plain.specs.declared.local.Flow.TheVariants.{Next, Returned}
-use Rattle.ocr_plain.specs.declared.local.Halt.{Halt}
+use Rattle.ocr_body_meaning.specs.Behaviour.{Behaviour, Asked, Ends}
+use Rattle.ocr_body_meaning.specs.Body.{Body, says}
+use Rattle.ocr_body_meaning.specs.Meaning.{Frame, State, Value, spend, eval, exec, exec_all, print_step, with_variable}
+use Rattle.ocr_program_tree.specs.Tree.{Statements}
+use Rattle.ocr_body_code.specs.Code.{name_at, expression_at, statement_at}
+use Rattle.ocr_body_code.specs.declared.code.ExprCode.{ExprCode}
+use Rattle.ocr_body_code.specs.declared.code.StmtCode.{StmtCode}
+use Rattle.ocr_body_code.specs.declared.code.StmtCode.TheVariants as step
+use Rattle.ocr_body_steps.specs.declared.local.Flow.{Flow}
+use Rattle.ocr_body_steps.specs.declared.local.Flow.TheVariants.{Next, Returned}
+use Rattle.ocr_body_steps.specs.declared.local.Halt.{Halt}
 use Rattle.ocr_body.specs.Walker.{Flows}
 
 -- what comes after the value of an assignment, of a test, of a print and of a return

@@ -1,28 +1,28 @@
 -- The words of the walker's contracts: which part of a body was done.
 use Rattle.std.specs.Prelude.{◌≡◌, ℕ, List, Bool}
-use Rattle.ocr_tree.specs.Tree.{While}
-use Rattle.ocr_tree.specs.declared.tree.CallName.{CallName}
-use Rattle.ocr_meaning.specs.Behaviour.{Behaviour, Ends}
-use Rattle.ocr_meaning.specs.Holds.{Holds}
-use Rattle.ocr_meaning.specs.Meaning.{State, Value, Given}
-use Rattle.ocr_meaning.specs.Meaning as meaning
-use Rattle.ocr_code.specs.Code.{is_call_placed, is_step_placed, are_placed}
-use Rattle.ocr_code.specs.Code.{call_name, call_arguments, arguments_at}
-use Rattle.ocr_code.specs.Code.{expression_at, statement_at, statements_in}
-use Rattle.ocr_code.specs.declared.code.ArgCode.{ArgCode}
-use Rattle.ocr_code.specs.declared.code.CallCode.{CallCode}
-use Rattle.ocr_code.specs.declared.code.ExprCode.{ExprCode}
-use Rattle.ocr_code.specs.declared.code.StmtCode.{StmtCode}
-use Rattle.ocr_plain.specs.Given.{given_of}
-use Rattle.ocr_plain.specs.Local.{state_in, frame_of, numbers_of}
-use Rattle.ocr_plain.specs.declared.given.Given as found
-use Rattle.ocr_plain.specs.declared.local.Flow.{Flow}
-use Rattle.ocr_plain.specs.declared.local.Flow.TheVariants.{Next, Returned}
-use Rattle.ocr_plain.specs.declared.local.Frame as walker
-use Rattle.ocr_plain.specs.declared.local.Local.{Local}
-use Rattle.ocr_api.specs.Serving.{IsDone}
-use Rattle.ocr_api.specs.Steps.{next_of, next_after}
-use Rattle.ocr_api.specs.declared.api.Api.{Ghosts}
+use Rattle.ocr_program_tree.specs.Tree.{While}
+use Rattle.ocr_program_tree.specs.declared.tree.CallName.{CallName}
+use Rattle.ocr_body_meaning.specs.Behaviour.{Behaviour, Ends}
+use Rattle.ocr_body_meaning.specs.Holds.{Holds}
+use Rattle.ocr_body_meaning.specs.Meaning.{State, Value, Given}
+use Rattle.ocr_body_meaning.specs.Meaning as meaning
+use Rattle.ocr_body_code.specs.Code.{is_call_placed, is_step_placed, are_placed}
+use Rattle.ocr_body_code.specs.Code.{call_name, call_arguments, arguments_at}
+use Rattle.ocr_body_code.specs.Code.{expression_at, statement_at, statements_in}
+use Rattle.ocr_body_code.specs.declared.code.ArgCode.{ArgCode}
+use Rattle.ocr_body_code.specs.declared.code.CallCode.{CallCode}
+use Rattle.ocr_body_code.specs.declared.code.ExprCode.{ExprCode}
+use Rattle.ocr_body_code.specs.declared.code.StmtCode.{StmtCode}
+use Rattle.ocr_body_steps.specs.Given.{given_of}
+use Rattle.ocr_body_steps.specs.Local.{state_in, frame_of, numbers_of}
+use Rattle.ocr_body_steps.specs.declared.given.Given as found
+use Rattle.ocr_body_steps.specs.declared.local.Flow.{Flow}
+use Rattle.ocr_body_steps.specs.declared.local.Flow.TheVariants.{Next, Returned}
+use Rattle.ocr_body_steps.specs.declared.local.Frame as walker
+use Rattle.ocr_body_steps.specs.declared.local.Local.{Local}
+use Rattle.ocr_body_steps.specs.Api.{IsDone}
+use Rattle.ocr_body_steps.specs.Steps.{next_of, next_after}
+use Rattle.ocr_body_steps.specs.declared.api.Api.{Ghosts}
 
 -- code over the names of this body and the functions of its program
 abbrev pub is_call_in : walker.Frame → CallCode → Bool

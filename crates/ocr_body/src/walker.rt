@@ -5,30 +5,32 @@
 ghost use Rattle.std.specs.Prelude.{◌≡◌, ◌&&◌, ◌≤◌, ◌<◌, [], true, ℕ, IfOk, OnOk, OnErr, IfErr};
 ghost use Rattle.std.specs.Prelude.{length, replicate, slice_index};
 ghost use Rattle.ocr_base.specs.Count.{Rose};
-ghost use Rattle.ocr_meaning.specs.Behaviour.{Behaviour, Ends, Stops, IsTrace};
-ghost use Rattle.ocr_meaning.specs.Body.{behaviour, says};
-ghost use Rattle.ocr_meaning.specs.Meaning.{nothing_given};
-ghost use Rattle.ocr_meaning.specs.Meaning as meaning;
-ghost use Rattle.ocr_code.specs.Checked.{checked_tree};
-ghost use Rattle.ocr_code.specs.Code.{has_function, arguments_at};
-ghost use Rattle.ocr_plain.specs.Given.{given_of};
-ghost use Rattle.ocr_plain.specs.Local.{Fits, Keeps, state_in};
-ghost use Rattle.ocr_plain.specs.Plain.{is_expr_in, are_args_in, IsFirstIn};
-ghost use Rattle.ocr_api.specs.Serving.{Begins, BeginsValue, BeginsGiven, IsGiven, IsListed};
-ghost use Rattle.ocr_api.specs.Serving.{StoppedBy};
-ghost use Rattle.ocr_api.specs.Steps.{next_of, next_after, GoesOn, IsCause, StillFits, Yields};
+ghost use Rattle.ocr_body_meaning.specs.Behaviour.{Behaviour, Ends, Stops, IsTrace};
+ghost use Rattle.ocr_body_meaning.specs.Body.{behaviour, says};
+ghost use Rattle.ocr_body_meaning.specs.Meaning.{nothing_given};
+ghost use Rattle.ocr_body_meaning.specs.Meaning as meaning;
+ghost use Rattle.ocr_body_code.specs.Checked.{checked_tree};
+ghost use Rattle.ocr_body_code.specs.Code.{has_function, arguments_at};
+ghost use Rattle.ocr_body_steps.specs.Given.{given_of};
+ghost use Rattle.ocr_body_steps.specs.Local.{Fits, KeepsLocal, state_in};
+ghost use Rattle.ocr_body_steps.specs.Plain.{is_expr_in, are_args_in, IsFirstIn};
+ghost use Rattle.ocr_body_steps.specs.Api.{Begins, BeginsValue, BeginsGiven, FindsGiven, IsListed};
+ghost use Rattle.ocr_body_steps.specs.Api.{StoppedBy};
+ghost use Rattle.ocr_body_steps.specs.Steps.{next_of, next_after, GoesOn, IsCause, StillFits, Yields};
 ghost use Rattle.ocr_body.specs.Walker.{Leads, is_call_in, is_stmt_in, are_stmts_in, expr_part};
 ghost use Rattle.ocr_body.specs.Walker.{call_part, coded_part, args_part, paid_part, list_part};
 ghost use Rattle.ocr_body.specs.Walker.{stmt_part, stmts_part, loop_part};
 
-use ocr_api::{Api, assign, load, make, print, store};
 use ocr_base::{NoMemory, Seq};
-use ocr_code::{ArgCode, CallCode, Checked, ExprCode, Named, StmtCode};
+use ocr_body_code::{ArgCode, CallCode, Checked, ExprCode, Named, StmtCode};
+use ocr_body_meaning::BodyStop;
+use ocr_body_steps::plain::{NONE_LEFT, dependence, leaf, plain};
+use ocr_body_steps::{
+    Api, Flow, Frame, Given, Halt, Local, apply, assign, load, make, operate, pay, plain_all,
+    print, read, stopped, store,
+};
 use ocr_guid::Guid;
-use ocr_meaning::BodyStop;
-use ocr_plain::plain::{NONE_LEFT, dependence, leaf, plain};
-use ocr_plain::{Flow, Frame, Given, Halt, Local, apply, operate, pay, plain_all, read, stopped};
-use ocr_tree::{BinaryOp, CallName};
+use ocr_program_tree::{BinaryOp, CallName};
 use std::alloc::Global;
 
 // The value of an expression that makes a call or stops, or any other.
@@ -286,7 +288,7 @@ fn find_all<A: Api>(
         (args_part frame.now args.now given.old (A.holds api.old) local.old) }
     ensures goes_on { GoesOn A.Api api.old api.new }
     ensures still_fits { StillFits frame.now local.old local.new }
-    ensures ok { OnOk result (IsGiven (next_of A.Api api.old)
+    ensures ok { OnOk result (FindsGiven (next_of A.Api api.old)
         (args_part frame.now args.now given.old (A.holds api.old) local.old) (given_of given.new)
         (state_in frame.now (A.holds api.new) local.new) (next_after A.Api api.old api.new)) }
     ensures first { IfOk result (λ named. IsFirstIn frame.now args.now named) }
@@ -318,7 +320,7 @@ fn eval_anew<A: Api>(
         (list_part frame.now args.now (A.holds api.old) local.old) }
     ensures goes_on { GoesOn A.Api api.old api.new }
     ensures still_fits { StillFits frame.now local.old local.new }
-    ensures ok { OnOk result (IsGiven (next_of A.Api api.old)
+    ensures ok { OnOk result (FindsGiven (next_of A.Api api.old)
         (list_part frame.now args.now (A.holds api.old) local.old) (given_of given.new)
         (state_in frame.now (A.holds api.new) local.new) (next_after A.Api api.old api.new)) }
     ensures err { OnErr result (IsCause A.Api api.old api.new local.new.stop) }
@@ -343,7 +345,7 @@ fn eval_all<A: Api>(
         (args_part frame.now args.now given.old (A.holds api.old) local.old) }
     ensures goes_on { GoesOn A.Api api.old api.new }
     ensures still_fits { StillFits frame.now local.old local.new }
-    ensures ok { OnOk result (IsGiven (next_of A.Api api.old)
+    ensures ok { OnOk result (FindsGiven (next_of A.Api api.old)
         (args_part frame.now args.now given.old (A.holds api.old) local.old) (given_of given.new)
         (state_in frame.now (A.holds api.new) local.new) (next_after A.Api api.old api.new)) }
     ensures err { OnErr result (IsCause A.Api api.old api.new local.new.stop) }
@@ -551,7 +553,7 @@ fn pay_and_find<A: Api>(
 
 // A parameter by its index, or a stop for an index past the end.
 fn parameter_at(frame: &Frame, index: u64, local: &mut Local) -> Result<u64, Halt>
-    ensures keeps { Keeps local.old local.new }
+    ensures keeps { KeepsLocal local.old local.new }
     ensures within { OnOk result (index < length frame.now.params.now) }
     ensures ok { IfOk result (λ v. v ≡ slice_index frame.now.params.now index) }
     ensures past { OnErr result (length frame.now.params.now ≤ index) }
@@ -565,7 +567,7 @@ fn parameter_at(frame: &Frame, index: u64, local: &mut Local) -> Result<u64, Hal
 
 // A dependence by its index, or a stop for an index past the end.
 fn dependence_at(frame: &Frame, index: u64, local: &mut Local) -> Result<u64, Halt>
-    ensures keeps { Keeps local.old local.new }
+    ensures keeps { KeepsLocal local.old local.new }
     ensures within { OnOk result (index < length frame.now.deps.now) }
     ensures ok { IfOk result (λ v. v ≡ slice_index frame.now.deps.now index) }
     ensures past { OnErr result (length frame.now.deps.now ≤ index) }
@@ -580,7 +582,7 @@ fn dependence_at(frame: &Frame, index: u64, local: &mut Local) -> Result<u64, Ha
 
 // The value of an operator between two values, or a stop for a divisor 0.
 fn combine(op: BinaryOp, x: u64, y: u64, local: &mut Local) -> Result<u64, Halt>
-    ensures keeps { Keeps local.old local.new }
+    ensures keeps { KeepsLocal local.old local.new }
     ensures ok { IfOk result (λ v. (k : ℕ → Behaviour) → meaning.binary_step op x y k ≡ k v) }
     ensures err { OnErr result ((k : ℕ → Behaviour)
         → meaning.binary_step op x y k ≡ Stops local.new.stop) }

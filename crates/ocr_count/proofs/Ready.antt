@@ -1,12 +1,12 @@
 -- What a word tells of an EDT of which nothing is left to be counted.
 use Rattle.std.proofs.Common.{◌≡◌, ℕ, List, reverse, sym, subst, arith}
-use Rattle.ocr_rule.specs.Counting.{slots_of, awaited, is_started}
-use Rattle.ocr_rule.specs.Meaning.{Meaning}
-use Rattle.ocr_rule.specs.Words.{SeesReady, SeesWord}
-use Rattle.ocr_rule.specs.declared.view.View.{View}
-use Rattle.ocr_rule.proofs.Accounts.{ready}
-use Rattle.ocr_rule.proofs.Slots.{none_is, true_is}
-use Rattle.ocr_rule.proofs.Claims.{set_all}
+use Rattle.ocr_turns_rule.specs.Counts.{slots_of, awaited, is_started}
+use Rattle.ocr_turns_rule.specs.Meaning.{Meaning}
+use Rattle.ocr_turns_rule.specs.Words.{SeesReady, SeesWord}
+use Rattle.ocr_turns_rule.specs.declared.view.View.{View}
+use Rattle.ocr_turns_rule.proofs.Accounts.{ready}
+use Rattle.ocr_turns_rule.proofs.Slots.{none_is, true_is}
+use Rattle.ocr_turns_rule.proofs.Claims.{set_all}
 use Rattle.ocr_count.specs.Counts.{DownTells, LeavesSome, left_of}
 use Rattle.ocr_count.specs.declared.answers.Down.{Down}
 use Rattle.ocr_count.specs.declared.answers.Down.TheVariants as down

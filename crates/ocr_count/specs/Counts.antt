@@ -1,10 +1,10 @@
 -- What the calls on the words that count ask and tell.
 use Rattle.std.specs.Prelude.{◌≡◌, ◌≢◌, ℕ, ◌<◌}
-use Rattle.ocr_rule.specs.Counting.{READY}
-use Rattle.ocr_rule.specs.Meaning.{Meaning}
-use Rattle.ocr_rule.specs.Steps.{Sees}
-use Rattle.ocr_rule.specs.Words.{SeesReady, SeesWord, claiming, learning}
-use Rattle.ocr_rule.specs.declared.view.View.{View}
+use Rattle.ocr_turns_rule.specs.Counts.{READY}
+use Rattle.ocr_turns_rule.specs.Meaning.{Meaning}
+use Rattle.ocr_turns_rule.specs.Steps.{Sees}
+use Rattle.ocr_turns_rule.specs.Words.{SeesReady, SeesWord, claiming, learning}
+use Rattle.ocr_turns_rule.specs.declared.view.View.{View}
 use Rattle.ocr_count.specs.declared.answers.Claimed.{Claimed}
 use Rattle.ocr_count.specs.declared.answers.Claimed.TheVariants as claimed
 use Rattle.ocr_count.specs.declared.answers.Down.{Down}

@@ -3,9 +3,9 @@
 #![tactic(auto)]
 
 mod answers;
-mod claiming;
-mod counting;
+mod claims;
+mod counts;
 
 pub use answers::{Claimed, Down};
-pub use claiming::{claim, drop_claim, park, payload, resume};
-pub use counting::{count_down, count_made, put_payload};
+pub use claims::{claim, drop_claim, park, payload, resume};
+pub use counts::{count_down, count_made, put_payload};

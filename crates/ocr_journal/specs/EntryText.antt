@@ -4,18 +4,18 @@ use Rattle.std.specs.List.{flat_map}
 use Rattle.std.specs.Fmt.{decimal}
 use Rattle.ocr_guid.specs.Code.{number_of}
 use Rattle.ocr_guid.specs.declared.Code.{Code}
-use Rattle.ocr_tree.specs.Tree.{FunctionTree}
-use Rattle.ocr_meaning.specs.declared.call.Call.{Call}
-use Rattle.ocr_meaning.specs.declared.call.Call.TheVariants as call
-use Rattle.ocr_meaning.specs.declared.call.Answer.{Answer}
-use Rattle.ocr_history.specs.declared.entry.Entry.{Entry}
-use Rattle.ocr_history.specs.declared.entry.Entry.TheVariants as an
-use Rattle.ocr_history.specs.declared.entry.Fault.{Fault}
-use Rattle.ocr_history.specs.declared.entry.Fault.TheVariants as fault
-use Rattle.ocr_history.specs.declared.entry.Stop.{Stop}
-use Rattle.ocr_history.specs.declared.entry.Stop.TheVariants as by
-use Rattle.ocr_history.specs.declared.entry.What.{What}
-use Rattle.ocr_history.specs.declared.entry.What.TheVariants as what
+use Rattle.ocr_program_tree.specs.Tree.{FunctionTree}
+use Rattle.ocr_body_meaning.specs.declared.call.Call.{Call}
+use Rattle.ocr_body_meaning.specs.declared.call.Call.TheVariants as call
+use Rattle.ocr_body_meaning.specs.declared.call.Answer.{Answer}
+use Rattle.ocr_machine_history.specs.declared.entry.Entry.{Entry}
+use Rattle.ocr_machine_history.specs.declared.entry.Entry.TheVariants as an
+use Rattle.ocr_machine_history.specs.declared.entry.Fault.{Fault}
+use Rattle.ocr_machine_history.specs.declared.entry.Fault.TheVariants as fault
+use Rattle.ocr_machine_history.specs.declared.entry.Stop.{Stop}
+use Rattle.ocr_machine_history.specs.declared.entry.Stop.TheVariants as by
+use Rattle.ocr_machine_history.specs.declared.entry.What.{What}
+use Rattle.ocr_machine_history.specs.declared.entry.What.TheVariants as what
 use Rattle.ocr_journal.specs.Phrase.{Text, phrase, named_phrase, listed}
 
 abbrev pub name_in : Option FunctionTree → Text

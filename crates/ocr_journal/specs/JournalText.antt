@@ -1,8 +1,8 @@
 -- The text of a journal, told of its history, the newest entry first.
 use Rattle.std.specs.Prelude.{List, [], ◌∷◌, ◌++◌, codes, length}
 use Rattle.std.specs.Fmt.{decimal}
-use Rattle.ocr_tree.specs.Tree.{FunctionTree}
-use Rattle.ocr_history.specs.History.{History}
+use Rattle.ocr_program_tree.specs.Tree.{FunctionTree}
+use Rattle.ocr_machine_history.specs.History.{History}
 use Rattle.ocr_journal.specs.Phrase.{Text, phrase}
 use Rattle.ocr_journal.specs.EntryText.{entry_text}
 

@@ -1,5 +1,3 @@
 pub mod EntryText
 pub mod JournalText
 pub mod Phrase
-pub mod Numbered
-pub mod Merged

@@ -1,12 +1,12 @@
 // The text of a call and of its answer.
 ghost use Rattle.std.specs.Prelude.{◌≡◌, ◌++◌, OnOk};
-ghost use Rattle.ocr_tree.specs.View.{tree_of};
+ghost use Rattle.ocr_program_tree.specs.View.{tree_of};
 ghost use Rattle.ocr_journal.specs.EntryText as spec;
 
 use crate::words::{list, named_phrase, phrase};
 use ocr_base::NoMemory;
-use ocr_meaning::{Answer, Call};
-use ocr_tree::Program;
+use ocr_body_meaning::{Answer, Call};
+use ocr_program_tree::Program;
 
 // The letters of the name of function number n, from 1. A number without a function has none.
 fn name_at(program: &Program, function: u32) -> &[u8]

@@ -1,14 +1,14 @@
 // The text of an entry.
 ghost use Rattle.std.specs.Prelude.{◌≡◌, ◌++◌, OnOk};
-ghost use Rattle.ocr_tree.specs.View.{tree_of};
+ghost use Rattle.ocr_program_tree.specs.View.{tree_of};
 ghost use Rattle.ocr_journal.specs.EntryText as spec;
 
 use crate::calls::{answer, call};
 use crate::words::{number, phrase};
 use ocr_base::NoMemory;
 use ocr_guid::Code;
-use ocr_history::{Entry, Fault, Stop, What, Writes};
-use ocr_tree::Program;
+use ocr_machine_history::{Entry, Fault, Stop, What, Writes};
+use ocr_program_tree::Program;
 
 // The private writes of a hold, where there are any.
 fn writes(text: &mut Vec<u8>, writes: &Writes) -> Result<(), NoMemory>

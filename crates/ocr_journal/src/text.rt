@@ -1,15 +1,15 @@
 // The text of a journal.
 ghost use Rattle.std.specs.Prelude.{◌≡◌, ◌<◌, length, IfOk, IfSome, slice_get};
-ghost use Rattle.ocr_tree.specs.View.{tree_of};
-ghost use Rattle.ocr_history.specs.History.{history_of};
+ghost use Rattle.ocr_program_tree.specs.View.{tree_of};
+ghost use Rattle.ocr_machine_history.specs.History.{history_of};
 ghost use Rattle.ocr_journal.specs.EntryText as one;
 ghost use Rattle.ocr_journal.specs.JournalText as spec;
 
 use crate::entries::entry;
 use crate::words::{number, phrase};
 use ocr_base::NoMemory;
-use ocr_history::Journal;
-use ocr_tree::Program;
+use ocr_machine_history::Journal;
+use ocr_program_tree::Program;
 use std::alloc::Global;
 
 /// The text of the entry at a place of a journal of a run of the program, without its number.

@@ -1,9 +1,9 @@
 -- What a read of the live word tells.
 use Rattle.std.specs.Prelude.{◌≡◌, ◌<◌, ◌≤◌}
-use Rattle.ocr_rule.specs.Living.{SeesStill, reading, stilled}
-use Rattle.ocr_rule.specs.Meaning.{Meaning}
-use Rattle.ocr_rule.specs.Rule.{OPEN}
-use Rattle.ocr_rule.specs.declared.view.View.{View}
+use Rattle.ocr_turns_rule.specs.Live.{SeesStill, reading, stilled}
+use Rattle.ocr_turns_rule.specs.Meaning.{Meaning}
+use Rattle.ocr_turns_rule.specs.Rule.{OPEN}
+use Rattle.ocr_turns_rule.specs.declared.view.View.{View}
 use Rattle.ocr_live.specs.declared.answers.LiveRead.{LiveRead}
 use Rattle.ocr_live.specs.declared.answers.LiveRead.TheVariants as live
 

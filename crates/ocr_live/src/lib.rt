@@ -3,7 +3,7 @@
 #![tactic(auto)]
 
 mod answers;
-mod living;
+mod live_word;
 
 pub use answers::LiveRead;
-pub use living::{live, lower, raise, split_live};
+pub use live_word::{live, lower, raise, split_live};

@@ -3,24 +3,24 @@ use Rattle.std.proofs.Common.{◌≡◌, ◌≤◌, ℕ, List, [], ◌∷◌, le
 use Rattle.std.proofs.lemmas.Grind.{common_steps}
 use Rattle.std.proofs.lemmas.Bool.{eqb-true, or_parts}
 use Rattle.ocr_guid.specs.declared.Code.TheVariants as code
-use Rattle.ocr_meaning.specs.Holds.{is_done}
-use Rattle.ocr_meaning.specs.declared.call.Call as body
-use Rattle.ocr_meaning.specs.declared.call.Call.TheVariants as call
-use Rattle.ocr_meaning.specs.declared.call.Answer.{Answer}
+use Rattle.ocr_body_meaning.specs.Holds.{is_done}
+use Rattle.ocr_body_meaning.specs.declared.call.Call as body
+use Rattle.ocr_body_meaning.specs.declared.call.Call.TheVariants as call
+use Rattle.ocr_body_meaning.specs.declared.call.Answer.{Answer}
 use Rattle.ocr_template.specs.declared.Template.{Template}
 use Rattle.ocr_template.specs.Template.{counts_of, count_meant}
-use Rattle.ocr_parts.specs.declared.part.Part.{Part}
-use Rattle.ocr_parts.specs.declared.part.Part.TheVariants as part
-use Rattle.ocr_parts.specs.Calls.{is_object}
-use Rattle.ocr_parts.specs.Codes.{wanted_sources, is_any, is_missing, counted_code, creation_code, Source, code_of}
-use Rattle.ocr_parts.specs.Effects.{called, joins}
-use Rattle.ocr_parts.specs.Kinds.{home_on, is_vacant, is_template, is_event, is_destroyed}
-use Rattle.ocr_parts.specs.LegalOn.{IsDooming, IsBeside, IsJoinable, last_of}
-use Rattle.ocr_parts.specs.Parts.{Parts}
-use Rattle.ocr_parts.proofs.After.{accepted as accepted_code, of_kind, not_stale, not_missing, not_other, no_other}
-use Rattle.ocr_parts.proofs.Beside.{home_stays}
-use Rattle.ocr_parts.proofs.Fresh.{some_named}
-use Rattle.ocr_hand.specs.AtHand.{AtHand, state, IsAccepted, AreOthers, HasRoom, slots_meant}
+use Rattle.ocr_machine_parts.specs.declared.part.Part.{Part}
+use Rattle.ocr_machine_parts.specs.declared.part.Part.TheVariants as part
+use Rattle.ocr_machine_parts.specs.Calls.{is_object}
+use Rattle.ocr_machine_parts.specs.Codes.{wanted_sources, is_any, is_missing, counted_code, creation_code, Source, code_of}
+use Rattle.ocr_machine_parts.specs.Effects.{called, joins}
+use Rattle.ocr_machine_parts.specs.Kinds.{home_on, is_vacant, is_template, is_event, is_destroyed}
+use Rattle.ocr_machine_parts.specs.LegalOn.{IsDooming, IsBeside, IsJoinable, last_of}
+use Rattle.ocr_machine_parts.specs.Parts.{Parts}
+use Rattle.ocr_machine_parts.proofs.After.{accepted as accepted_code, of_kind, not_stale, not_missing, not_other, no_other}
+use Rattle.ocr_machine_parts.proofs.Beside.{home_stays}
+use Rattle.ocr_machine_parts.proofs.Fresh.{some_named}
+use Rattle.ocr_machine_effects.specs.AtHand.{AtHand, state, IsAccepted, AreOthers, HasRoom, slots_meant}
 
 code_done : (h : AtHand) (t home : ℕ) (c : body.Call) (a : Answer) (w : List (ℕ × ℕ)) → IsAccepted h t home c a w → code_of t (state h).face c ≡ code.Done
 code_done h t home c a w accepted = sym accepted.legal.code ∙ accepted.done

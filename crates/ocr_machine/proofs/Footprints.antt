@@ -4,29 +4,29 @@ use Rattle.std.proofs.lemmas.Grind.{common_steps}
 use Rattle.std.proofs.lemmas.Bool.{eqb-true, and_parts, or_cases}
 use Rattle.std.specs.List.{All}
 use Rattle.std.proofs.Math.Bool.{or-true}
-use Rattle.ocr_history.specs.Made.{names_new}
-use Rattle.ocr_history.specs.Numbers.{is_in, placed}
-use Rattle.ocr_history.specs.declared.entry.Entry.{Entry}
-use Rattle.ocr_history.specs.declared.entry.Entry.TheVariants.{Call, Deliver, Acquire, Wait, StaleAcquire, Start, Free, End}
-use Rattle.ocr_history.specs.declared.entry.What.{What}
-use Rattle.ocr_history.specs.declared.entry.What.TheVariants as what
-use Rattle.ocr_meaning.specs.Call.{is_creation}
-use Rattle.ocr_meaning.specs.Holds.{is_done}
-use Rattle.ocr_meaning.specs.declared.call.Call as body
-use Rattle.ocr_meaning.specs.declared.call.Call.TheVariants as call
-use Rattle.ocr_meaning.specs.declared.call.Answer.{Answer}
-use Rattle.ocr_parts.specs.Codes.{Sort, wanted}
-use Rattle.ocr_parts.specs.Effects.{joins}
-use Rattle.ocr_parts.specs.Footprint.{is_wanted, names_face, names_beside, is_brought_to, on_face, makes_core, on_core_of, and_face, and_core, and_wanted, and_made, and_beside, call_footprint, message_footprint, footprint_of, is_touched, Covers}
-use Rattle.ocr_parts.specs.LegalOn.{IsAnswered, IsCallOn, IsFresh, IsNamed, last_of}
-use Rattle.ocr_parts.specs.Parts.{Parts}
-use Rattle.ocr_parts.specs.Taken.{is_within, keys}
-use Rattle.ocr_parts.specs.declared.part.Part.{Part}
-use Rattle.ocr_parts.proofs.Beside.{beside_is}
-use Rattle.ocr_parts.proofs.Fresh.{number_named}
-use Rattle.ocr_parts.proofs.Local.{call_named, named_self}
-use Rattle.ocr_hand.specs.AtHand.{AtHand, state, HasMade, HasNamed}
-use Rattle.ocr_hand.proofs.Places.{has_keys, no_face, back_again, core_number}
+use Rattle.ocr_machine_history.specs.Made.{names_new}
+use Rattle.ocr_machine_history.specs.Numbers.{is_in, placed}
+use Rattle.ocr_machine_history.specs.declared.entry.Entry.{Entry}
+use Rattle.ocr_machine_history.specs.declared.entry.Entry.TheVariants.{Call, Deliver, Acquire, Wait, StaleAcquire, Start, Free, End}
+use Rattle.ocr_machine_history.specs.declared.entry.What.{What}
+use Rattle.ocr_machine_history.specs.declared.entry.What.TheVariants as what
+use Rattle.ocr_body_meaning.specs.Call.{is_creation}
+use Rattle.ocr_body_meaning.specs.Holds.{is_done}
+use Rattle.ocr_body_meaning.specs.declared.call.Call as body
+use Rattle.ocr_body_meaning.specs.declared.call.Call.TheVariants as call
+use Rattle.ocr_body_meaning.specs.declared.call.Answer.{Answer}
+use Rattle.ocr_machine_parts.specs.Codes.{Sort, wanted}
+use Rattle.ocr_machine_parts.specs.Effects.{joins}
+use Rattle.ocr_machine_parts.specs.Footprint.{is_wanted, names_face, names_beside, is_brought_to, on_face, makes_core, on_core_of, and_face, and_core, and_wanted, and_made, and_beside, call_footprint, message_footprint, footprint_of, is_touched, Covers}
+use Rattle.ocr_machine_parts.specs.LegalOn.{IsAnswered, IsCallOn, IsFresh, IsNamed, last_of}
+use Rattle.ocr_machine_parts.specs.Parts.{Parts}
+use Rattle.ocr_machine_parts.specs.Taken.{is_within, keys}
+use Rattle.ocr_machine_parts.specs.declared.part.Part.{Part}
+use Rattle.ocr_machine_parts.proofs.Beside.{beside_is}
+use Rattle.ocr_machine_parts.proofs.Fresh.{number_named}
+use Rattle.ocr_machine_parts.proofs.Local.{call_named, named_self}
+use Rattle.ocr_machine_effects.specs.AtHand.{AtHand, state, HasMade, HasNamed}
+use Rattle.ocr_machine_effects.proofs.Places.{has_keys, no_face, back_again, core_number}
 use Rattle.ocr_base.proofs.Booleans.{same}
 
 or_swap : (a b c : Bool) → (a || (b || c)) ≡ (b || (a || c))

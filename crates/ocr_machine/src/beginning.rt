@@ -1,20 +1,20 @@
 // The parts before the first entry.
 ghost use Rattle.std.specs.Prelude.{◌≡◌, ◌≤◌, ◌+◌, ◌∷◌, [], length, ℕ, IfOk};
-ghost use Rattle.ocr_tree.specs.Functions.{number_of_main};
+ghost use Rattle.ocr_program_tree.specs.Functions.{number_of_main};
 ghost use Rattle.ocr_slots.specs.Slots as slots;
 ghost use Rattle.ocr_datablock.specs.Block as blocks;
-ghost use Rattle.ocr_history.specs.History.{Setting};
-ghost use Rattle.ocr_parts.specs.Calls.{link_calls, stores_from};
-ghost use Rattle.ocr_parts.specs.Parts.{parts_of};
-ghost use Rattle.ocr_parts.specs.Taken.{keys, parts_in, ArePlaced};
+ghost use Rattle.ocr_machine_history.specs.History.{Setting};
+ghost use Rattle.ocr_machine_parts.specs.Calls.{link_calls, stores_from};
+ghost use Rattle.ocr_machine_parts.specs.Parts.{parts_of};
+ghost use Rattle.ocr_machine_parts.specs.Taken.{keys, parts_in, ArePlaced};
 
 use ocr_acquire::Mode;
 use ocr_base::{NoMemory, Seq};
 use ocr_datablock::Block;
 use ocr_edt::{Edt, Filling};
 use ocr_guid::Guid;
-use ocr_history::{ARGUMENTS, MAIN_EDT};
-use ocr_parts::{BoxedBlock, BoxedCore, Core, Loans, Part};
+use ocr_machine_history::{ARGUMENTS, MAIN_EDT};
+use ocr_machine_parts::{BoxedBlock, BoxedCore, Core, Loans, Part};
 use ocr_slots::Slots;
 use std::alloc::Global;
 

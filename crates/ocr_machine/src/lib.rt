@@ -1,13 +1,13 @@
 //! The machine: what an entry does to the parts that it names, and the parts before the first one.
 #![tactic(auto)]
 
+mod acquisition;
 mod beginning;
-mod calling;
-mod making;
-mod stepping;
-mod waking;
+mod calls;
+mod creation;
+mod steps;
 
 pub use beginning::opening;
-pub use calling::Entered;
-pub use ocr_hand::{footprint, home_of, weight};
-pub use stepping::{SteppedAll, step, step_all};
+pub use calls::Entered;
+pub use ocr_machine_effects::{footprint, home_of, weight};
+pub use steps::{SteppedAll, step, step_all};

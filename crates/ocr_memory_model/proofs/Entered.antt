@@ -1,14 +1,14 @@
 -- Each entry of a run may come after those before it.
 use Rattle.std.proofs.Common.{◌≡◌, ◌<◌, ◌≤◌, ◌+◌, ◌-◌, ◌^◌, ℕ, zero, suc, List, length, take, slice_index_or, ap, sym, subst, arith}
-use Rattle.ocr_history.specs.declared.entry.Entry.{Entry}
-use Rattle.ocr_history.specs.History.{History, Setting, history_of}
-use Rattle.ocr_parts.specs.Kinds.{counted_on}
-use Rattle.ocr_parts.specs.Laws.{CountedLaw}
-use Rattle.ocr_parts.specs.Legal.{IsRun, IsLegal}
-use Rattle.ocr_parts.specs.Parts.{Parts, parts_of}
-use Rattle.ocr_table.specs.Table.{IsOf, IsBefore, face_on}
-use Rattle.ocr_table.specs.declared.table.Table.{Table}
-use Rattle.ocr_history.proofs.Fronts.{history_next, all_of, past_len, item, item_is}
+use Rattle.ocr_machine_history.specs.declared.entry.Entry.{Entry}
+use Rattle.ocr_machine_history.specs.History.{History, Setting, history_of}
+use Rattle.ocr_machine_parts.specs.Kinds.{counted_on}
+use Rattle.ocr_machine_parts.specs.Laws.{CountedLaw}
+use Rattle.ocr_machine_parts.specs.Legal.{IsRun, IsLegal}
+use Rattle.ocr_machine_parts.specs.Parts.{Parts, parts_of}
+use Rattle.ocr_machine_state.specs.State.{IsStateOf, IsBefore, face_on}
+use Rattle.ocr_machine_state.specs.declared.state.State.{State}
+use Rattle.ocr_machine_history.proofs.Fronts.{history_next, all_of, past_len, item, item_is}
 
 -- a front of a run is a run
 front_run : (s : Setting) (xs : List Entry) (n d : ℕ) → n + d ≡ length xs → IsRun s (history_of xs) → IsRun s (history_of (take n xs))
@@ -24,14 +24,14 @@ next_legal s xs n e below is run =
     (subst (λ h. IsRun s h) (history_next xs n e below is) (front_run s xs (n + 1) (length xs - (n + 1)) (omega (arith, below)) run)).1
 
 -- so it may be entered into the table of those
-pub may_enter : (s : Setting) (xs : List Entry) (n : ℕ) (e : Entry) (table : Table) → n < length xs → e ≡ slice_index_or xs n e → IsRun s (history_of xs) → IsOf s (history_of (take n xs)) table → IsBefore s (history_of (take n xs)) e table
+pub may_enter : (s : Setting) (xs : List Entry) (n : ℕ) (e : Entry) (table : State) → n < length xs → e ≡ slice_index_or xs n e → IsRun s (history_of xs) → IsStateOf s (history_of (take n xs)) table → IsBefore s (history_of (take n xs)) e table
 may_enter s xs n e table below is run of = record {
   of = of;
   run = front_run s xs n (length xs - n) (omega (arith, below)) run;
   legal = next_legal s xs n e below is run;
 }
 
-pub few_counted : CountedLaw → (s : Setting) (xs : List Entry) (n : ℕ) (table : Table) → n < length xs → n < 2 ^ 64 - 1 → IsOf s (history_of (take n xs)) table → (g : ℕ) → counted_on (face_on table g) < 2 ^ 64 - 1
+pub few_counted : CountedLaw → (s : Setting) (xs : List Entry) (n : ℕ) (table : State) → n < length xs → n < 2 ^ 64 - 1 → IsStateOf s (history_of (take n xs)) table → (g : ℕ) → counted_on (face_on table g) < 2 ^ 64 - 1
 few_counted law s xs n table below few of g =
     let past : History = history_of (take n xs) in
     let same : counted_on (face_on table g) ≡ counted_on ((parts_of s past).face g) = ap (λ (f : Parts). counted_on (f.face g)) of.parts in

@@ -2,11 +2,11 @@
 use Rattle.std.proofs.Common.{◌≡◌, ◌≤◌, ◌<◌, inl, inr, ℕ, zero, suc, ◌+◌, List, ◌∷◌, length, take, Some, sym, ap, ◌∙◌, subst, arith}
 use Rattle.std.specs.Prelude.{slice_index_or}
 use Rattle.std.proofs.lemmas.List.{get_or_default}
-use Rattle.ocr_history.specs.declared.entry.Entry.{Entry}
-use Rattle.ocr_history.specs.History.{history_of}
-use Rattle.ocr_history.proofs.Fronts.{history_next, past_len, all_of, item, item_is}
-use Rattle.ocr_order.specs.Places.{entry_at}
-use Rattle.ocr_order.proofs.Fronts.{new_entry, old_entry, newest_or}
+use Rattle.ocr_machine_history.specs.declared.entry.Entry.{Entry}
+use Rattle.ocr_machine_history.specs.History.{history_of}
+use Rattle.ocr_machine_history.proofs.Fronts.{history_next, past_len, all_of, item, item_is}
+use Rattle.ocr_memory_model_order.specs.Places.{entry_at}
+use Rattle.ocr_memory_model_order.proofs.Fronts.{new_entry, old_entry, newest_or}
 
 plus_one : (n : ℕ) → n + 1 ≡ suc n
 plus_one n = omega arith

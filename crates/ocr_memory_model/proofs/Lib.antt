@@ -1,12 +1,12 @@
 pub mod Entered
 pub mod Entries
 pub mod Found
-pub mod Keeping
+pub mod Keeps
 pub mod Linked
 pub mod Marked
-pub mod Racing
+pub mod Racers
 pub mod Ranks
 pub mod Sole
-pub mod Telling
+pub mod Tells
 pub mod Touched
-pub mod Walking
+pub mod Walks

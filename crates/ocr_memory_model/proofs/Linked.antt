@@ -2,10 +2,10 @@
 use Rattle.std.proofs.Common.{◌≡◌, ◌≤◌, ◌<◌, ◌⊎◌, inl, inr, ℕ, zero, suc, ◌+◌, ◌==◌, ◌&&◌, List, [], ◌∷◌, ◌++◌, length, drop, get_or, min, Bool, true, false, if◌then◌else◌, refl, sym, ap, ◌∙◌, subst, arith}
 use Rattle.std.specs.List.{zip}
 use Rattle.std.proofs.lemmas.List.{append-nil, append_assoc}
-use Rattle.ocr_rows.proofs.Bits.{split}
-use Rattle.ocr_history.specs.declared.entry.Message.{Message}
-use Rattle.ocr_parts.specs.Calls.{is_object}
-use Rattle.ocr_order.specs.Makers.{dep_links_at, matched, slot_of}
+use Rattle.ocr_memory_model_rows.proofs.Bits.{split}
+use Rattle.ocr_machine_history.specs.declared.entry.Message.{Message}
+use Rattle.ocr_machine_parts.specs.Calls.{is_object}
+use Rattle.ocr_memory_model_order.specs.Makers.{dep_links_at, matched, slot_of}
 
 pub deps_next : (n k x : ℕ) (ds : List ℕ) (i : ℕ) → i < length ds → dep_links_at n k x (drop i ds) ≡ (if is_object (get_or ds i 0) && (get_or ds i 0 == x) then (n, k) ∷ [] else []) ++ dep_links_at n (k + 1) x (drop (i + 1) ds)
 deps_next n k x [] i low = absurd (omega (arith, low))

@@ -14,14 +14,14 @@ use Rattle.std.specs.Ordering.{nat_cmp, ordering_then, is_eq}
 use Rattle.std.specs.declared.cmp.Ordering.{Ordering}
 use Rattle.std.specs.declared.cmp.Ordering.TheVariants.{Less, Equal, Greater}
 use Rattle.ocr_acquire.proofs.Members.{Contains-nil, Contains-here, Contains-there, Contains-cases}
-use Rattle.ocr_history.specs.declared.entry.Entry.{Entry}
-use Rattle.ocr_history.specs.declared.entry.Entry.TheVariants.{Call}
-use Rattle.ocr_history.specs.History.{History}
-use Rattle.ocr_meaning.specs.Holds.{is_done}
-use Rattle.ocr_meaning.specs.declared.call.Call as body
-use Rattle.ocr_meaning.specs.declared.call.Call.TheVariants.{Load, Store}
-use Rattle.ocr_order.proofs.Fronts.{some_same}
-use Rattle.ocr_order.specs.Races.{is_store_in, is_load_in}
+use Rattle.ocr_machine_history.specs.declared.entry.Entry.{Entry}
+use Rattle.ocr_machine_history.specs.declared.entry.Entry.TheVariants.{Call}
+use Rattle.ocr_machine_history.specs.History.{History}
+use Rattle.ocr_body_meaning.specs.Holds.{is_done}
+use Rattle.ocr_body_meaning.specs.declared.call.Call as body
+use Rattle.ocr_body_meaning.specs.declared.call.Call.TheVariants.{Load, Store}
+use Rattle.ocr_memory_model_order.proofs.Fronts.{some_same}
+use Rattle.ocr_memory_model_order.specs.Races.{is_store_in, is_load_in}
 use Rattle.ocr_memory_model.specs.declared.touch.Places.{Places}
 use Rattle.ocr_memory_model.specs.declared.touch.Touch.{Touch}
 use Rattle.ocr_memory_model.specs.Touches.{Site, site_cmp, access_by, access_in, touched, store_in, touch_of, touch_cmp, AreMarked, AreTouches}

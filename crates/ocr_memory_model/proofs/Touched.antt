@@ -1,11 +1,11 @@
 -- What the touches of a history tell of its accesses.
 use Rattle.std.proofs.Common.{◌≡◌, ◌≤◌, ◌<◌, inl, inr, ℕ, suc, [], ◌∷◌, length, Bool, true, false, if◌then◌else◌, Option, Some, None, refl, sym, ◌∙◌, subst, arith}
 use Rattle.std.proofs.lemmas.Bool.{or_left, or_right}
-use Rattle.ocr_history.specs.declared.entry.Entry.{Entry}
-use Rattle.ocr_history.specs.History.{History}
-use Rattle.ocr_order.specs.Places.{is_at}
-use Rattle.ocr_order.specs.Races.{stores, loads, accesses}
-use Rattle.ocr_order.proofs.Fronts.{new_at, old_at, at_below, at_from, newest_or}
+use Rattle.ocr_machine_history.specs.declared.entry.Entry.{Entry}
+use Rattle.ocr_machine_history.specs.History.{History}
+use Rattle.ocr_memory_model_order.specs.Places.{is_at}
+use Rattle.ocr_memory_model_order.specs.Races.{stores, loads, accesses}
+use Rattle.ocr_memory_model_order.proofs.Fronts.{new_at, old_at, at_below, at_from, newest_or}
 use Rattle.ocr_memory_model.specs.declared.touch.Places.{Places}
 use Rattle.ocr_memory_model.specs.Touches.{touched, store_in}
 

@@ -3,15 +3,15 @@ use Rattle.std.specs.Prelude.{ℕ, List, [], ◌∷◌, Bool, false, ◌==◌, i
 use Rattle.std.specs.Ordering.{nat_cmp}
 use Rattle.std.specs.BTreeMap.{BTreeMap, get}
 use Rattle.ocr_acquire.specs.declared.Mode.{Mode}
-use Rattle.ocr_meaning.specs.Holds.{is_done}
-use Rattle.ocr_meaning.specs.declared.call.Call as body
-use Rattle.ocr_meaning.specs.declared.call.Call.TheVariants as call
-use Rattle.ocr_meaning.specs.declared.call.Answer.{Answer}
-use Rattle.ocr_history.specs.declared.entry.Entry.{Entry}
-use Rattle.ocr_history.specs.declared.entry.Entry.TheVariants as an
-use Rattle.ocr_history.specs.declared.entry.What.{What}
-use Rattle.ocr_history.specs.declared.entry.What.TheVariants as what
-use Rattle.ocr_order.specs.Causes.{is_isolated_in}
+use Rattle.ocr_body_meaning.specs.Holds.{is_done}
+use Rattle.ocr_body_meaning.specs.declared.call.Call as body
+use Rattle.ocr_body_meaning.specs.declared.call.Call.TheVariants as call
+use Rattle.ocr_body_meaning.specs.declared.call.Answer.{Answer}
+use Rattle.ocr_machine_history.specs.declared.entry.Entry.{Entry}
+use Rattle.ocr_machine_history.specs.declared.entry.Entry.TheVariants as an
+use Rattle.ocr_machine_history.specs.declared.entry.What.{What}
+use Rattle.ocr_machine_history.specs.declared.entry.What.TheVariants as what
+use Rattle.ocr_memory_model_order.specs.Causes.{is_isolated_in}
 
 -- the event that it satisfies
 abbrev pub satisfied_by : body.Call → Option ℕ

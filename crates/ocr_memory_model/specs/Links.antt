@@ -2,8 +2,8 @@
 use Rattle.std.specs.Prelude.{◌≡◌, ℕ, List, [], Option, Some, None}
 use Rattle.std.specs.Ordering.{nat_cmp}
 use Rattle.std.specs.BTreeMap.{BTreeMap, get}
-use Rattle.ocr_history.specs.History.{History}
-use Rattle.ocr_order.specs.Makers.{links_at}
+use Rattle.ocr_machine_history.specs.History.{History}
+use Rattle.ocr_memory_model_order.specs.Makers.{links_at}
 
 abbrev pub pairs_in : Option (List (ℕ × ℕ)) → List (ℕ × ℕ)
 pairs_in None = []

@@ -1,9 +1,9 @@
 -- The order of a run.
-use Rattle.ocr_history.specs.History.{History, Setting}
-use Rattle.ocr_parts.specs.Legal.{IsRun}
-use Rattle.ocr_rows.specs.Order.{IsOrder}
-use Rattle.ocr_order.specs.Causes.{graph_of}
-use Rattle.ocr_memory_model.specs.declared.ordering.HappensBefore.{HappensBefore}
+use Rattle.ocr_machine_history.specs.History.{History, Setting}
+use Rattle.ocr_machine_parts.specs.Legal.{IsRun}
+use Rattle.ocr_memory_model_rows.specs.Order.{IsOrder}
+use Rattle.ocr_memory_model_order.specs.Causes.{graph_of}
+use Rattle.ocr_memory_model.specs.declared.happens_before.HappensBefore.{HappensBefore}
 
 pub record Orders (s : Setting) (J : History) (order : HappensBefore) : Type 0 where
   pub run : IsRun s J

@@ -1,19 +1,19 @@
 -- What is kept of the entries so far.
 use Rattle.std.specs.Prelude.{◌≡◌, ℕ, Option, Some}
 use Rattle.ocr_acquire.specs.declared.Mode.{Mode}
-use Rattle.ocr_history.specs.declared.entry.Entry.{Entry}
-use Rattle.ocr_history.specs.History.{History, Setting}
-use Rattle.ocr_parts.specs.Progress.{edt_in}
-use Rattle.ocr_table.specs.Table.{IsBefore}
-use Rattle.ocr_table.specs.declared.table.Table.{Table}
-use Rattle.ocr_memory.specs.Memory.{hold_of}
-use Rattle.ocr_rows.specs.Order.{IsOrder, AreBundles}
-use Rattle.ocr_order.specs.Causes.{ends, isolated_ends, graph_of}
+use Rattle.ocr_machine_history.specs.declared.entry.Entry.{Entry}
+use Rattle.ocr_machine_history.specs.History.{History, Setting}
+use Rattle.ocr_machine_parts.specs.Progress.{edt_in}
+use Rattle.ocr_machine_state.specs.State.{IsBefore}
+use Rattle.ocr_machine_state.specs.declared.state.State.{State}
+use Rattle.ocr_machine_laws.specs.Memory.{hold_of}
+use Rattle.ocr_memory_model_rows.specs.Order.{IsOrder, AreBundles}
+use Rattle.ocr_memory_model_order.specs.Causes.{ends, isolated_ends, graph_of}
 use Rattle.ocr_memory_model.specs.Keys.{given_in}
 use Rattle.ocr_memory_model.specs.Kept.{AreLast, AreStarting, AreSatisfactions}
 use Rattle.ocr_memory_model.specs.Links.{AreLinks}
-use Rattle.ocr_order.specs.Makers.{satisfies, leaves}
-use Rattle.ocr_order.specs.Places.{places}
+use Rattle.ocr_memory_model_order.specs.Makers.{satisfies, leaves}
+use Rattle.ocr_memory_model_order.specs.Places.{places}
 use Rattle.ocr_memory_model.specs.declared.past.Past.{Past}
 
 pub record IsPast (s : Setting) (past : History) (kept : Past) : Type 0 where
@@ -32,7 +32,7 @@ abbrev pub IsEndedIn : Setting → History → Entry → Option Mode → Type 0
 IsEndedIn s past e m = (b : ℕ) → given_in e ≡ Some b → hold_of s past (edt_in e) b ≡ m
 
 -- THE NEXT ENTRY of a run, with the table of those so far and what is kept of them
-pub record IsNext (s : Setting) (past : History) (e : Entry) (table : Table)
+pub record IsNext (s : Setting) (past : History) (e : Entry) (table : State)
     (kept : Past) : Type 0 where
   pub before : IsBefore s past e table
   pub told : IsPast s past kept

@@ -5,8 +5,8 @@ use Rattle.std.specs.List.{Contains}
 use Rattle.std.specs.List.Sorted.{IsStrictlySortedBy}
 use Rattle.std.specs.Ordering.{nat_cmp, ordering_then}
 use Rattle.std.specs.declared.cmp.Ordering.{Ordering}
-use Rattle.ocr_history.specs.History.{History, Setting}
-use Rattle.ocr_order.specs.Races.{IsRace}
+use Rattle.ocr_machine_history.specs.History.{History, Setting}
+use Rattle.ocr_memory_model_order.specs.Races.{IsRace}
 use Rattle.ocr_memory_model.specs.declared.race.Race.{Race}
 
 abbrev pub race_cmp : Race → Race → Ordering

@@ -6,13 +6,13 @@ use Rattle.std.specs.List.{Contains}
 use Rattle.std.specs.List.Sorted.{IsStrictlySortedBy}
 use Rattle.std.specs.Ordering.{nat_cmp, ordering_then}
 use Rattle.std.specs.declared.cmp.Ordering.{Ordering}
-use Rattle.ocr_meaning.specs.Holds.{is_done}
-use Rattle.ocr_meaning.specs.declared.call.Call as body
-use Rattle.ocr_meaning.specs.declared.call.Call.TheVariants as call
-use Rattle.ocr_history.specs.declared.entry.Entry.{Entry}
-use Rattle.ocr_history.specs.declared.entry.Entry.TheVariants as an
-use Rattle.ocr_history.specs.History.{History}
-use Rattle.ocr_order.specs.Races.{stores, loads}
+use Rattle.ocr_body_meaning.specs.Holds.{is_done}
+use Rattle.ocr_body_meaning.specs.declared.call.Call as body
+use Rattle.ocr_body_meaning.specs.declared.call.Call.TheVariants as call
+use Rattle.ocr_machine_history.specs.declared.entry.Entry.{Entry}
+use Rattle.ocr_machine_history.specs.declared.entry.Entry.TheVariants as an
+use Rattle.ocr_machine_history.specs.History.{History}
+use Rattle.ocr_memory_model_order.specs.Races.{stores, loads}
 use Rattle.ocr_memory_model.specs.declared.race.Race.{Race}
 use Rattle.ocr_memory_model.specs.declared.touch.Places.{Places}
 use Rattle.ocr_memory_model.specs.declared.touch.Touch.{Touch}

@@ -1,8 +1,8 @@
 -- The walk along the pairs of touches.
 use Rattle.std.specs.Prelude.{◌≡◌, ℕ, zero, suc, ◌+◌, ◌-◌, List, [], ◌∷◌, ◌++◌, drop, length, Bool, ◌&&◌, nat_lt, slice_index_or, Option, Some, None}
-use Rattle.ocr_history.specs.History.{History, Setting}
-use Rattle.ocr_rows.specs.Places.{reaches}
-use Rattle.ocr_order.specs.Causes.{graph_of}
+use Rattle.ocr_machine_history.specs.History.{History, Setting}
+use Rattle.ocr_memory_model_rows.specs.Places.{reaches}
+use Rattle.ocr_memory_model_order.specs.Causes.{graph_of}
 use Rattle.ocr_memory_model.specs.declared.walk.Pair.{Pair}
 use Rattle.ocr_memory_model.specs.declared.race.Race.{Race}
 use Rattle.ocr_memory_model.specs.declared.walk.Touches.{Touches}

@@ -1,13 +1,13 @@
 // The object whose places an entry is added to.
 ghost use Rattle.std.specs.Prelude.{◌≡◌, ℕ};
-ghost use Rattle.ocr_parts.specs.Progress.{edt_in};
-ghost use Rattle.ocr_order.specs.Causes.{is_isolated_in};
+ghost use Rattle.ocr_machine_parts.specs.Progress.{edt_in};
+ghost use Rattle.ocr_memory_model_order.specs.Causes.{is_isolated_in};
 ghost use Rattle.ocr_memory_model.specs.Keys as spec;
 
 use ocr_acquire::Mode;
+use ocr_body_meaning::{Answer, Call};
 use ocr_guid::Code;
-use ocr_history::{Entry, Message, Stop, What};
-use ocr_meaning::{Answer, Call};
+use ocr_machine_history::{Entry, Message, Stop, What};
 
 /// The EDT of an entry; 0 for an entry that belongs to none.
 pub(crate) fn edt_of(entry: &Entry) -> u64

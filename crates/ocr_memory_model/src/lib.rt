@@ -2,12 +2,12 @@
 //! its races.
 #![tactic(auto)]
 
+mod happens_before;
 mod keys;
 mod laws;
 mod links;
 mod lists;
 mod modes;
-mod ordering;
 mod past;
 mod race;
 mod sources;
@@ -15,8 +15,8 @@ mod stop;
 mod touch;
 mod walk;
 
+pub use happens_before::{HappensBefore, MOST_ORDERED, order};
 pub use laws::race_laws;
-pub use ordering::{HappensBefore, MOST_ORDERED, order};
 pub use race::{Race, races};
 pub use stop::OrderStop;
 pub use walk::{Pair, Touches};

@@ -1,16 +1,16 @@
 // The links of events, each with its place and its slot, and the satisfactions that went to one.
 ghost use Rattle.std.specs.Prelude.{◌≡◌, ◌==◌, ◌&&◌, ◌++◌, [], ◌∷◌, ℕ, length, OnOk, IfOk, if◌then◌else◌};
 ghost use Rattle.std.specs.List.{zip};
-ghost use Rattle.ocr_history.specs.History.{History};
-ghost use Rattle.ocr_parts.specs.Calls.{is_object};
+ghost use Rattle.ocr_machine_history.specs.History.{History};
+ghost use Rattle.ocr_machine_parts.specs.Calls.{is_object};
 ghost use Rattle.ocr_memory_model.specs.Links.{links_in, AreLinks};
-ghost use Rattle.ocr_order.specs.Makers.{dep_links_at, links_by, matched, slot_of};
+ghost use Rattle.ocr_memory_model_order.specs.Makers.{dep_links_at, links_by, matched, slot_of};
 
 use crate::sources::slot_of;
 use ocr_base::{NoMemory, Seq};
+use ocr_body_meaning::{Answer, Call};
 use ocr_guid::Code;
-use ocr_history::{Entry, Message};
-use ocr_meaning::{Answer, Call};
+use ocr_machine_history::{Entry, Message};
 use std::alloc::Global;
 use std::collections::BTreeMap;
 

@@ -1,11 +1,11 @@
 // The mode of the hold that an entry ends, and that in which an EDT acquires a block.
 ghost use Rattle.std.specs.Prelude.{◌≡◌, ℕ, IfOk, Some, None, Option};
-ghost use Rattle.ocr_history.specs.History.{Setting, History};
-ghost use Rattle.ocr_history.specs.declared.entry.Entry.TheVariants as an;
-ghost use Rattle.ocr_parts.specs.Kinds.{mode_on};
-ghost use Rattle.ocr_parts.specs.Legal.{IsRun, IsLegal};
-ghost use Rattle.ocr_table.specs.Table.{core_on, IsOf};
-ghost use Rattle.ocr_order.specs.Pairs.{acquired_mode};
+ghost use Rattle.ocr_machine_history.specs.History.{Setting, History};
+ghost use Rattle.ocr_machine_history.specs.declared.entry.Entry.TheVariants as an;
+ghost use Rattle.ocr_machine_parts.specs.Kinds.{mode_on};
+ghost use Rattle.ocr_machine_parts.specs.Legal.{IsRun, IsLegal};
+ghost use Rattle.ocr_machine_state.specs.State.{core_on, IsStateOf};
+ghost use Rattle.ocr_memory_model_order.specs.Pairs.{acquired_mode};
 ghost use Rattle.ocr_memory_model.specs.Modes.{mode_of_core};
 ghost use Rattle.ocr_memory_model.specs.Past.{IsEndedIn};
 
@@ -14,9 +14,9 @@ use ocr_acquire::Mode;
 use ocr_base::NoMemory;
 use ocr_edt::Edt;
 use ocr_guid::Guid;
-use ocr_history::Entry;
-use ocr_parts::{Core, Part};
-use ocr_table::Table;
+use ocr_machine_history::Entry;
+use ocr_machine_parts::{Core, Part};
+use ocr_machine_state::State;
 use std::alloc::Global;
 
 fn mode_in(core: &Core, block: u64) -> Option<Mode>
@@ -29,7 +29,7 @@ fn mode_in(core: &Core, block: u64) -> Option<Mode>
     }
 }
 
-fn mode_of(table: &Table, edt: u64, block: u64) -> Option<Mode>
+fn mode_of(table: &State, edt: u64, block: u64) -> Option<Mode>
     ensures { result ≡ mode_on (core_on table.now edt) block }
 {
     match table.core(edt) {
@@ -41,8 +41,8 @@ fn mode_of(table: &Table, edt: u64, block: u64) -> Option<Mode>
 }
 
 /// The mode of the hold that an entry ends.
-pub(crate) fn ended_mode(table: &Table, entry: &Entry) -> Option<Mode>
-    ensures { (s : Setting) (past : History) → IsOf s past table.now → IsLegal s past entry.now
+pub(crate) fn ended_mode(table: &State, entry: &Entry) -> Option<Mode>
+    ensures { (s : Setting) (past : History) → IsStateOf s past table.now → IsLegal s past entry.now
         → IsEndedIn s past entry.now result }
 {
     match given_in(entry) {
@@ -52,8 +52,8 @@ pub(crate) fn ended_mode(table: &Table, entry: &Entry) -> Option<Mode>
 }
 
 /// The mode in which an EDT acquires its next block.
-pub(crate) fn next_mode(alloc: Global, table: &Table, edt: u64) -> Result<Option<Mode>, NoMemory>
-    ensures { IfOk result (λ mode. (s : Setting) (past : History) (d : ℕ) → IsOf s past table.now
+pub(crate) fn next_mode(alloc: Global, table: &State, edt: u64) -> Result<Option<Mode>, NoMemory>
+    ensures { IfOk result (λ mode. (s : Setting) (past : History) (d : ℕ) → IsStateOf s past table.now
         → IsRun s past → IsLegal s past (an.Acquire edt d)
         → acquired_mode s d past (an.Acquire edt d) ≡ mode) }
 {

@@ -1,13 +1,13 @@
 // What is kept of the entries so far, for the row of the next one.
 ghost use Rattle.std.specs.Prelude.{◌≡◌, ◌<◌, ◌^◌, vec_len, length, ◌∷◌, ◌++◌, [], ℕ, List, OnOk, IfOk, Option};
-ghost use Rattle.ocr_history.specs.History.{Setting, History, history_of};
-ghost use Rattle.ocr_rows.specs.Order.{IsNextRow};
-ghost use Rattle.ocr_order.specs.Causes.{last_of, causes, starting, ended_for, graph_of};
-ghost use Rattle.ocr_meaning.specs.Holds.{is_isolated};
+ghost use Rattle.ocr_machine_history.specs.History.{Setting, History, history_of};
+ghost use Rattle.ocr_memory_model_rows.specs.Order.{IsNextRow};
+ghost use Rattle.ocr_memory_model_order.specs.Causes.{last_of, causes, starting, ended_for, graph_of};
+ghost use Rattle.ocr_acquire.specs.Mode.{is_isolated};
 ghost use Rattle.ocr_memory_model.specs.Kept.{AreLast, AreStarting, AreSatisfactions};
 ghost use Rattle.std.specs.List.{All};
-ghost use Rattle.ocr_order.specs.Makers.{satisfies, oldest, set_off_with, makers};
-ghost use Rattle.ocr_order.specs.Places.{places};
+ghost use Rattle.ocr_memory_model_order.specs.Makers.{satisfies, oldest, set_off_with, makers};
+ghost use Rattle.ocr_memory_model_order.specs.Places.{places};
 
 use crate::keys::{edt_of, ended_key, isolated_key, left_in, satisfied_in, starting_in};
 use crate::links::{Links, links_of, matches, note_links};
@@ -15,20 +15,14 @@ use crate::lists::{Lists, append, list_of, put_last};
 use crate::modes::next_mode;
 use crate::sources::source_at;
 use ocr_acquire::Mode;
-use ocr_any_event::AnyEvent;
 use ocr_base::NoMemory;
-use ocr_history::{Entry, Message};
-use ocr_parts::Part;
-use ocr_rows::{Bundles, Row, Rows};
-use ocr_table::Table;
+use ocr_event_any::AnyEvent;
+use ocr_machine_history::{Entry, Message};
+use ocr_machine_parts::Part;
+use ocr_machine_state::State;
+use ocr_memory_model_rows::{Bundles, Row, Rows};
 use std::alloc::Global;
 use std::collections::BTreeMap;
-
-fn is_isolated_mode(mode: Mode) -> bool
-    ensures { result ≡ is_isolated mode }
-{
-    matches!(mode, Mode::Ew | Mode::Const)
-}
 
 fn note_last(last: &mut BTreeMap<u64, u64>, entry: &Entry, place: u64) -> Result<(), NoMemory>
     ensures { OnOk result ((past : History) → length past ≡ place → AreLast past last.old
@@ -92,7 +86,7 @@ pub(crate) struct Past {
 
 impl Past {
     ghost use Rattle.ocr_memory_model.specs.Past.{IsPast, IsEndedIn, IsNext};
-    ghost use Rattle.ocr_table.specs.Table.{IsOf, face_on};
+    ghost use Rattle.ocr_machine_state.specs.State.{IsStateOf, face_on};
 
     /// Before the first entry.
     pub(crate) fn new(alloc: Global) -> Self
@@ -157,7 +151,7 @@ impl Past {
         let Some(mode) = mode else {
             return Ok(row);
         };
-        if is_isolated_mode(mode) {
+        if mode.is_isolated() {
             self.ended.join(&mut row, block)?;
             return Ok(row);
         }
@@ -169,14 +163,14 @@ impl Past {
     fn deliver_row(
         &self,
         alloc: Global,
-        table: &Table,
+        table: &State,
         entries: &[Entry],
         message: &Message,
     ) -> Result<Row, NoMemory>
         requires few { vec_len self.now.rows.rows < 2 ^ 32 }
         requires kept { (s : Setting) × IsPast s (history_of entries.now) self.now }
         requires place { message.now.place < length entries.now }
-        ensures { IfOk result (λ row. (s : Setting) → IsOf s (history_of entries.now) table.now
+        ensures { IfOk result (λ row. (s : Setting) → IsStateOf s (history_of entries.now) table.now
             → IsPast s (history_of entries.now) self.now
             → IsNextRow (graph_of s (history_of entries.now))
             (makers s (history_of entries.now) message.now) row) }
@@ -195,7 +189,7 @@ impl Past {
     fn join_source(
         &self,
         row: &mut Row,
-        table: &Table,
+        table: &State,
         source: u64,
         matches: &[u64],
     ) -> Result<(), NoMemory>
@@ -274,7 +268,7 @@ impl Past {
     pub(crate) fn next_row(
         &self,
         alloc: Global,
-        table: &Table,
+        table: &State,
         entries: &[Entry],
         entry: &Entry,
     ) -> Result<Row, NoMemory>

@@ -1,14 +1,14 @@
 // The races of a run.
 ghost use Rattle.std.specs.Prelude.{IfOk};
-ghost use Rattle.ocr_history.specs.History.{Setting, history_of};
+ghost use Rattle.ocr_machine_history.specs.History.{Setting, history_of};
 ghost use Rattle.ocr_memory_model.specs.Orders.{Orders};
 ghost use Rattle.ocr_memory_model.specs.RaceList.{AreRaces};
 
-use crate::ordering::HappensBefore;
+use crate::happens_before::HappensBefore;
 use crate::walk::{Pair, Touches};
 use ocr_base::NoMemory;
 use ocr_guid::Guid;
-use ocr_history::Journal;
+use ocr_machine_history::Journal;
 use std::alloc::Global;
 
 /// A race at a word of a block, of the lesser EDT with the greater.

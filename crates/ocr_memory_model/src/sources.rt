@@ -1,10 +1,10 @@
 // The event or scope that sent a message, told by the entry at its place.
 ghost use Rattle.std.specs.Prelude.{◌≡◌, ◌<◌, Some, length, slice_index};
-ghost use Rattle.ocr_history.specs.History.{history_of};
-ghost use Rattle.ocr_order.specs.Makers as spec;
+ghost use Rattle.ocr_machine_history.specs.History.{history_of};
+ghost use Rattle.ocr_memory_model_order.specs.Makers as spec;
 
-use ocr_history::{Entry, Message, What};
-use ocr_meaning::Call;
+use ocr_body_meaning::Call;
+use ocr_machine_history::{Entry, Message, What};
 
 pub(crate) fn slot_of(what: &What) -> u64
     ensures { result ≡ spec.slot_of what.now }

@@ -1,14 +1,14 @@
 // The last places at which EDTs touched words.
 ghost use Rattle.std.specs.Prelude.{◌≡◌, ◌≤◌, ◌+◌, ◌∷◌, length, map, ℕ, Option, None, IfOk, OnOk};
 ghost use Rattle.std.specs.BTreeMap.{IsOrdered, btree_map_len};
-ghost use Rattle.ocr_history.specs.History.{History, history_of};
+ghost use Rattle.ocr_machine_history.specs.History.{History, history_of};
 ghost use Rattle.ocr_memory_model.specs.Touches as spec;
 ghost use Rattle.ocr_memory_model.specs.Touches.{AreMarked, AreTouches, site_cmp, touch_of};
 
 use ocr_base::NoMemory;
+use ocr_body_meaning::{Answer, Call};
 use ocr_guid::Code;
-use ocr_history::Entry;
-use ocr_meaning::{Answer, Call};
+use ocr_machine_history::Entry;
 use std::alloc::Global;
 use std::collections::BTreeMap;
 

@@ -1,18 +1,18 @@
 // The walk along the pairs of touches that race.
 ghost use Rattle.std.specs.Prelude.{◌≡◌, ◌<◌, ◌≤◌, ◌+◌, ◌*◌, length, drop, ℕ, Option, IfOk, IfSome};
-ghost use Rattle.ocr_history.specs.History.{Setting, History, history_of};
-ghost use Rattle.ocr_parts.specs.Legal.{IsRun};
+ghost use Rattle.ocr_machine_history.specs.History.{Setting, History, history_of};
+ghost use Rattle.ocr_machine_parts.specs.Legal.{IsRun};
 ghost use Rattle.ocr_memory_model.specs.Orders.{Orders};
 ghost use Rattle.ocr_memory_model.specs.RaceList.{AreRaces};
 ghost use Rattle.ocr_memory_model.specs.Touches as spec;
 ghost use Rattle.ocr_memory_model.specs.Walk.{is_before, first_pair, all_races, pairs_left, IsNextRace, IsPartner};
 
-use crate::ordering::HappensBefore;
+use crate::happens_before::HappensBefore;
 use crate::race::Race;
 use crate::touch::{Touch, touch_list};
 use ocr_base::NoMemory;
 use ocr_guid::Guid;
-use ocr_history::Journal;
+use ocr_machine_history::Journal;
 use std::alloc::Global;
 
 /// A pair of touches: from it a walk along the pairs goes on.

@@ -1,4 +1,8 @@
-pub mod Fitting
-pub mod Unfinished
-pub mod Places
+pub mod Complete
+pub mod Exact
+pub mod Fits
+pub mod Marks
 pub mod One
+pub mod Places
+pub mod Sound
+pub mod Unfinished

@@ -3,12 +3,12 @@ use Rattle.std.proofs.Common.{◌≡◌, ◌+◌, ◌≤◌, ◌<◌, ℕ, zero,
 use Rattle.std.proofs.lemmas.Bool.{cases_lt}
 use Rattle.std.proofs.lemmas.List.{take-append-drop}
 use Rattle.ocr_text.specs.declared.token.Token.{Token}
-use Rattle.ocr_tree.specs.Tree.{FunctionTree}
-use Rattle.ocr_grammar.specs.declared.lexeme.Lexeme.{Lexeme}
-use Rattle.ocr_grammar.specs.Grammar.{IsProgram, GoesOn}
-use Rattle.ocr_grammar.specs.Parsing.{IsTree, IsFault}
-use Rattle.ocr_grammar.specs.Lexing.{lexemes_of, places_of, IsTreeOf, IsSyntaxFault}
-use Rattle.ocr_steps.proofs.Exact.{one_tree}
+use Rattle.ocr_program_tree.specs.Tree.{FunctionTree}
+use Rattle.ocr_program_grammar.specs.declared.lexeme.Lexeme.{Lexeme}
+use Rattle.ocr_program_grammar.specs.Grammar.{IsProgram, GoesOn}
+use Rattle.ocr_program_grammar.specs.Parser.{IsTree, IsFault}
+use Rattle.ocr_program_grammar.specs.Lexemes.{lexemes_of, places_of, IsTreeOf, IsSyntaxFault}
+use Rattle.ocr_program.proofs.Exact.{one_tree}
 
 -- what goes on goes on from an earlier place
 earlier : (ts : List Lexeme) (program : List FunctionTree) (n : ℕ) (rest : List Lexeme) → IsProgram (ts ++ rest) program

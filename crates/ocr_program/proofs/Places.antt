@@ -4,18 +4,18 @@ use Rattle.std.proofs.lemmas.Bool.{cases_lt}
 use Rattle.std.proofs.lemmas.List.{take_more, take_all}
 use Rattle.ocr_text.specs.declared.token.Token.{Token}
 use Rattle.ocr_text.specs.Tokens.{IsToken, Tile, AreTokens}
-use Rattle.ocr_tree.specs.Tree.{FunctionTree}
-use Rattle.ocr_grammar.specs.declared.lexeme.Lexeme.{Lexeme}
-use Rattle.ocr_grammar.specs.Grammar.{GoesOn}
-use Rattle.ocr_grammar.specs.Limits.{Tally, tally, tally_after, nothing_read, is_over, IsOver}
-use Rattle.ocr_grammar.specs.Parsing.{Fits, IsTree, IsFault}
-use Rattle.ocr_grammar.specs.Lexing.{lexeme_of, lexeme_onto, lexemes_of, place_onto, places_of, IsTreeOf, IsSyntaxFault}
-use Rattle.ocr_syntax.specs.Machine.{State, reads, step, next, start, Functions, program_of}
-use Rattle.ocr_syntax.specs.Fitting.{IsFittingState}
-use Rattle.ocr_program.proofs.Fitting.{step_fitting}
-use Rattle.ocr_steps.proofs.Sound.{read_is_program}
-use Rattle.ocr_steps.proofs.Exact.{reads_append, goes_on, stops, no_program}
-use Rattle.ocr_grammar.proofs.Counted.{tally_append}
+use Rattle.ocr_program_tree.specs.Tree.{FunctionTree}
+use Rattle.ocr_program_grammar.specs.declared.lexeme.Lexeme.{Lexeme}
+use Rattle.ocr_program_grammar.specs.Grammar.{GoesOn}
+use Rattle.ocr_program_grammar.specs.Limits.{Tally, tally, tally_after, nothing_read, is_over, IsOver}
+use Rattle.ocr_program_grammar.specs.Parser.{Fits, IsTree, IsFault}
+use Rattle.ocr_program_grammar.specs.Lexemes.{lexeme_of, lexeme_onto, lexemes_of, place_onto, places_of, IsTreeOf, IsSyntaxFault}
+use Rattle.ocr_program_parser.specs.Machine.{State, reads, step, next, start, Functions, program_of}
+use Rattle.ocr_program_parser.specs.Fits.{IsFittingState}
+use Rattle.ocr_program.proofs.Fits.{step_fitting}
+use Rattle.ocr_program.proofs.Sound.{read_is_program}
+use Rattle.ocr_program.proofs.Exact.{reads_append, goes_on, stops, no_program}
+use Rattle.ocr_program_grammar.proofs.Counted.{tally_append}
 
 -- these tokens are read to this state, and within the limits
 pub record Read (front : List Lexeme) (s : State) (y : Tally) : Type 0 where

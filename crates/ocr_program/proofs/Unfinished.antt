@@ -1,9 +1,9 @@
 -- No program ends in a function.
 use Rattle.std.proofs.Common.{◌≡◌, None, refl}
-use Rattle.ocr_syntax.specs.Machine as m
-use Rattle.ocr_syntax.specs.View.{wanted_of}
-use Rattle.ocr_syntax.specs.declared.states.Wanted.{Wanted}
-use Rattle.ocr_syntax.specs.declared.states.Wanted.TheVariants as wanted
+use Rattle.ocr_program_parser.specs.Machine as m
+use Rattle.ocr_program_parser.specs.View.{wanted_of}
+use Rattle.ocr_program_parser.specs.declared.states.Wanted.{Wanted}
+use Rattle.ocr_program_parser.specs.declared.states.Wanted.TheVariants as wanted
 
 pub unfinished : (h : m.Position) (w : Wanted) → None ≡ m.program_of (wanted_of h w)
 unfinished h wanted.Statement = refl

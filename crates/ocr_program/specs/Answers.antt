@@ -1,14 +1,14 @@
 -- What parsing answers.
 use Rattle.std.specs.Prelude.{◌≡◌, ℕ, List, Result, Ok, Err}
 use Rattle.ocr_text.specs.declared.token.Token.{Token}
-use Rattle.ocr_tree.specs.declared.tree.Program.{Program}
-use Rattle.ocr_tree.specs.Tree.{FunctionTree}
-use Rattle.ocr_tree.specs.View.{tree_of}
-use Rattle.ocr_grammar.specs.Lexing.{IsTreeOf, IsSyntaxFault}
-use Rattle.ocr_program.specs.declared.parsing.ParseStop.{ParseStop}
-use Rattle.ocr_program.specs.declared.parsing.ParseStop.TheVariants as stop
-use Rattle.ocr_program.specs.declared.parsing.Parsed.{Parsed}
-use Rattle.ocr_program.specs.declared.parsing.Parsed.TheVariants as parsed
+use Rattle.ocr_program_tree.specs.declared.tree.Program.{Program}
+use Rattle.ocr_program_tree.specs.Tree.{FunctionTree}
+use Rattle.ocr_program_tree.specs.View.{tree_of}
+use Rattle.ocr_program_grammar.specs.Lexemes.{IsTreeOf, IsSyntaxFault}
+use Rattle.ocr_program.specs.declared.parser.ParseStop.{ParseStop}
+use Rattle.ocr_program.specs.declared.parser.ParseStop.TheVariants as stop
+use Rattle.ocr_program.specs.declared.parser.Parsed.{Parsed}
+use Rattle.ocr_program.specs.declared.parser.Parsed.TheVariants as parsed
 
 abbrev pub Answers : Parsed → List ℕ → List Token → Type 0
 Answers (parsed.Program p) bytes tokens = IsTreeOf bytes tokens (tree_of p)

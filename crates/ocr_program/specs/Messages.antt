@@ -1,8 +1,8 @@
 -- What `{}` prints of a text that is no program.
 use Rattle.std.specs.Prelude.{ℕ, List, ◌++◌, codes, decimal}
-use Rattle.ocr_program.specs.declared.parsing.SyntaxFault.{SyntaxFault}
-use Rattle.ocr_program.specs.declared.parsing.ParseStop.{ParseStop}
-use Rattle.ocr_program.specs.declared.parsing.ParseStop.TheVariants.{Fault, NoMemory}
+use Rattle.ocr_program.specs.declared.parser.SyntaxFault.{SyntaxFault}
+use Rattle.ocr_program.specs.declared.parser.ParseStop.{ParseStop}
+use Rattle.ocr_program.specs.declared.parser.ParseStop.TheVariants.{Fault, NoMemory}
 
 abbrev pub fault_text : SyntaxFault → List ℕ
 fault_text fault = codes "no program goes on at byte " ++ decimal fault.place

@@ -1,6 +1,9 @@
 //! The parser: reads the tokens of a task text to its program, one by one.
 #![tactic(auto)]
 
-mod parsing;
+mod expressions;
+mod lists;
+mod parser;
+mod steps;
 
-pub use parsing::{ParseStop, SyntaxFault, parse};
+pub use parser::{ParseStop, SyntaxFault, parse};

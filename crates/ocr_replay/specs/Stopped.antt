@@ -1,10 +1,10 @@
 -- Where a replay stops.
 use Rattle.std.specs.Prelude.{List}
-use Rattle.ocr_history.specs.declared.entry.Entry.{Entry}
-use Rattle.ocr_history.specs.History.{Setting}
-use Rattle.ocr_replay.specs.declared.replaying.ReplayStop.{ReplayStop}
-use Rattle.ocr_replay.specs.declared.replaying.ReplayStop.TheVariants as why
-use Rattle.ocr_replay.specs.Replaying.{IsFirstIllegal}
+use Rattle.ocr_machine_history.specs.declared.entry.Entry.{Entry}
+use Rattle.ocr_machine_history.specs.History.{Setting}
+use Rattle.ocr_replay.specs.declared.replay_stop.ReplayStop.{ReplayStop}
+use Rattle.ocr_replay.specs.declared.replay_stop.ReplayStop.TheVariants as why
+use Rattle.ocr_replay.specs.Replay.{IsFirstIllegal}
 
 -- why a replay ended before the journal's end
 abbrev pub IsStoppedAt : Setting → List Entry → ReplayStop → Type 0

@@ -1,9 +1,9 @@
 // The messages of a replay.
 ghost use Rattle.std.specs.Prelude.{◌≡◌};
-ghost use Rattle.ocr_replay.specs.Replaying.{mail_after, CanDeliver};
+ghost use Rattle.ocr_replay.specs.Replay.{mail_after, CanDeliver};
 
-use ocr_history::Entry;
-use ocr_judge::Mail;
+use ocr_machine_history::Entry;
+use ocr_replay_body::Mail;
 
 /// What an entry delivers is delivered.
 pub(crate) fn deliver(mail: &mut Mail, entry: &Entry)

@@ -1,33 +1,32 @@
 // How far a replay has come.
 ghost use Rattle.std.specs.Prelude.{◌≡◌, ◌≤◌, ◌<◌, ◌+◌, ◌-◌, ◌^◌, List, length, take, not, ◌==◌, true, false, slice_set, IfOk};
-ghost use Rattle.ocr_code.specs.Checked.{checked_tree};
-ghost use Rattle.ocr_history.specs.History.{Setting, history_of};
-ghost use Rattle.ocr_history.specs.declared.entry.Entry as entries;
-ghost use Rattle.ocr_judge.specs.Linking.{IsLinked};
-ghost use Rattle.ocr_judge.specs.Tests.{Whether};
-ghost use Rattle.ocr_table.specs.Table.{core_on};
-ghost use Rattle.ocr_parts.specs.Kinds.{is_running};
-ghost use Rattle.ocr_parts.specs.Legal.{is_stop, IsSaid};
+ghost use Rattle.ocr_body_code.specs.Checked.{checked_tree};
+ghost use Rattle.ocr_machine_history.specs.History.{Setting, history_of};
+ghost use Rattle.ocr_machine_history.specs.declared.entry.Entry as entries;
+ghost use Rattle.ocr_replay_body.specs.Links.{IsLinked};
+ghost use Rattle.ocr_replay_body.specs.Tests.{Whether};
+ghost use Rattle.ocr_machine_state.specs.State.{core_on};
+ghost use Rattle.ocr_machine_parts.specs.Kinds.{is_running};
+ghost use Rattle.ocr_machine_parts.specs.Legal.{is_stop, IsSaid};
 
 use crate::mails::deliver;
 use ocr_base::NoMemory;
 use ocr_body::Checked;
+use ocr_body_meaning::BodyStop;
 use ocr_guid::Guid;
-use ocr_history::Entry;
-use ocr_judge::{Links, Mail, Told, Verdict, verdict_on};
-use ocr_legality::is_legal;
-use ocr_meaning::BodyStop;
-use ocr_parts::{Part, event_laws, machine_laws};
-use ocr_quiet::standing_laws;
-use ocr_standing::{holding_laws, lasting_laws};
-use ocr_table::Table;
+use ocr_machine_history::Entry;
+use ocr_machine_laws::{holding_laws, lasting_laws, standing_laws};
+use ocr_machine_parts::{Part, event_laws, machine_laws};
+use ocr_machine_state::State;
+use ocr_replay_body::{Links, Mail, Told, Verdict, verdict_on};
+use ocr_replay_legality::is_legal;
 use std::alloc::Global;
 
 /// The state of a run so far, the messages that were not delivered, and the verdict on each EDT
 /// that has started, by its number.
 #[derive(Drop)]
 pub(crate) struct Replay {
-    pub table: Table,
+    pub table: State,
     pub mail: Mail,
     pub verdicts: Vec<Verdict>,
 }
@@ -53,7 +52,8 @@ fn set_verdict(verdicts: &mut Vec<Verdict>, edt: Guid, verdict: Verdict)
 }
 
 impl Replay {
-    ghost use Rattle.ocr_replay.specs.Replaying.{setting_of, entry_at, verdict_at, IsReplaying, IsFirstIllegal, IsNext, IsComing, IsEntered, IsStarted, IsJudged};
+    ghost use Rattle.ocr_machine_history.specs.History.{setting_of};
+    ghost use Rattle.ocr_replay.specs.Replay.{entry_at, verdict_at, IsReplaying, IsFirstIllegal, IsNext, IsComing, IsEntered, IsStarted, IsJudged};
 
     /// Before the first entry.
     pub fn opened(
@@ -70,7 +70,7 @@ impl Replay {
         ensures begun { IfOk result (λ replay. (xs : List entries.Entry)
             → IsReplaying (setting_of (checked_tree program.now) args.now limit) xs 0 replay) }
     {
-        let table = Table::opened(alloc, program.main_function(), args, limit)?;
+        let table = State::opened(alloc, program.main_function(), args, limit)?;
         Ok(Replay {
             table,
             mail: Mail::new(alloc),

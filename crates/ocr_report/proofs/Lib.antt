@@ -1,9 +1,9 @@
-pub mod Counting
+pub mod Counts
 pub mod Made
 pub mod Numbered
 pub mod Opened
 mod RacesText
-mod Rising
+mod Ascent
 pub mod Tallied
 pub mod Unstarted
 pub mod Uses

@@ -1,13 +1,13 @@
 -- What an entry adds to what was made.
 use Rattle.std.proofs.Common.{◌≡◌, ℕ, List, ◌∷◌, Bool, true, false, refl, if◌then◌else◌}
 use Rattle.std.specs.Prelude.{Some, None}
-use Rattle.ocr_meaning.specs.declared.call.Call.TheVariants as call
-use Rattle.ocr_meaning.specs.Holds.{is_done}
-use Rattle.ocr_history.specs.declared.entry.Entry.{Entry}
-use Rattle.ocr_history.specs.declared.entry.Entry.TheVariants as an
-use Rattle.ocr_history.specs.History.{History}
-use Rattle.ocr_history.specs.Made.{made_edts}
-use Rattle.ocr_history.specs.Numbers.{placed}
+use Rattle.ocr_body_meaning.specs.declared.call.Call.TheVariants as call
+use Rattle.ocr_body_meaning.specs.Holds.{is_done}
+use Rattle.ocr_machine_history.specs.declared.entry.Entry.{Entry}
+use Rattle.ocr_machine_history.specs.declared.entry.Entry.TheVariants as an
+use Rattle.ocr_machine_history.specs.History.{History}
+use Rattle.ocr_machine_history.specs.Made.{made_edts}
+use Rattle.ocr_machine_history.specs.Numbers.{placed}
 use Rattle.ocr_report.specs.Made.{edt_in, with_number}
 
 of_done : (b : Bool) (n : ℕ) (ns : List ℕ)

@@ -1,7 +1,7 @@
 -- The blocks up to one number more.
 use Rattle.std.proofs.Common.{◌≡◌, ◌+◌, ℕ, suc, [], ◌∷◌, ◌++◌, if◌then◌else◌, refl, arith, subst}
-use Rattle.ocr_parts.specs.declared.part.Part.{Part}
-use Rattle.ocr_parts.specs.Kinds.{is_block}
+use Rattle.ocr_machine_parts.specs.declared.part.Part.{Part}
+use Rattle.ocr_machine_parts.specs.Kinds.{is_block}
 use Rattle.ocr_report.specs.Blocks.{blocks_to}
 
 pub blocks_more : (face : ℕ → Part) (n : ℕ) → blocks_to face (n + 1)

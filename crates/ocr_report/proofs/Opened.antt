@@ -7,10 +7,10 @@ use Rattle.std.proofs.lemmas.List.Elements.{filter_agree}
 use Rattle.std.proofs.lemmas.Grind.{flat_map-append}
 use Rattle.std.proofs.Math.Bool.{or-false}
 use Rattle.ocr_slots.specs.Slots.{SlotCall, Linking, Setting, is_set, payload_of}
-use Rattle.ocr_history.specs.History.{Setting as Set, History}
-use Rattle.ocr_history.specs.Made.{Made, MadeBlock, MadeTemplate, MadeEdt, MadeEvent, MadeScope, made}
-use Rattle.ocr_history.specs.Made as what
-use Rattle.ocr_parts.specs.Calls.{set_calls, open_slots, depc_of}
+use Rattle.ocr_machine_history.specs.History.{Setting as Set, History}
+use Rattle.ocr_machine_history.specs.Made.{Made, MadeBlock, MadeTemplate, MadeEdt, MadeEvent, MadeScope, made}
+use Rattle.ocr_machine_history.specs.Made as what
+use Rattle.ocr_machine_parts.specs.Calls.{set_calls, open_slots, depc_of}
 use Rattle.ocr_report.specs.declared.slots.Counted.{Counted}
 use Rattle.ocr_report.specs.Edts.{kept_if}
 use Rattle.ocr_report.specs.Left.{left_line, left_lines}

@@ -2,9 +2,9 @@
 use Rattle.std.proofs.Common.{◌≡◌, ◌≤◌, ◌<◌, inl, inr, List, length, refl, ap, arith}
 use Rattle.std.proofs.lemmas.Bool.{cases_lt}
 use Rattle.std.proofs.lemmas.List.{length-reverse}
-use Rattle.ocr_history.specs.declared.entry.Entry.{Entry}
-use Rattle.ocr_history.specs.History.{history_of}
-use Rattle.ocr_memory_model.specs.declared.ordering.TheConstants.{MOST_ORDERED}
+use Rattle.ocr_machine_history.specs.declared.entry.Entry.{Entry}
+use Rattle.ocr_machine_history.specs.History.{history_of}
+use Rattle.ocr_memory_model.specs.declared.happens_before.TheConstants.{MOST_ORDERED}
 use Rattle.ocr_memory_model.proofs.Sole.{sole_law}
 use Rattle.ocr_report.specs.Races.{races_told, told, unknown, SoleTextLaw}
 

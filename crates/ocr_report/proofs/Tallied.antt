@@ -6,8 +6,8 @@ use Rattle.std.specs.BTreeMap.{get}
 use Rattle.ocr_guid.specs.Target.{EventCall, Satisfaction}
 use Rattle.ocr_event.specs.Event as event
 use Rattle.ocr_latch.specs.Latch as latch
-use Rattle.ocr_any_event.specs.declared.TheConstants.{ONCE, LATCH}
-use Rattle.ocr_history.specs.History.{History}
+use Rattle.ocr_event_any.specs.declared.TheConstants.{ONCE, LATCH}
+use Rattle.ocr_machine_history.specs.History.{History}
 use Rattle.ocr_report.specs.declared.destroyed.Ends.{Ends}
 use Rattle.ocr_report.specs.Destroyed.{is_destroyed, was_destroyed}
 use Rattle.ocr_report.specs.Ends.{AreEnds, is_ended}

@@ -3,10 +3,10 @@ use Rattle.std.proofs.Common.{◌≡◌, ◌≤◌, ◌+◌, ◌-◌, ◌∙◌,
 use Rattle.std.specs.List.{flat_map}
 use Rattle.std.proofs.lemmas.List.Elements.{filter_agree}
 use Rattle.std.proofs.lemmas.List.Filters.{length-filter_both}
-use Rattle.ocr_history.specs.History.{History}
-use Rattle.ocr_history.specs.Made.{made_edts}
-use Rattle.ocr_history.specs.Edts.{is_started}
-use Rattle.ocr_history.specs.Output.{left_edts}
+use Rattle.ocr_machine_history.specs.History.{History}
+use Rattle.ocr_machine_history.specs.Made.{made_edts}
+use Rattle.ocr_machine_history.specs.Edts.{is_started}
+use Rattle.ocr_machine_history.specs.Output.{left_edts}
 use Rattle.ocr_report.specs.Edts.{started_edts, kept_if}
 
 kept_first : (b : Bool) (t : ℕ) (ts : List ℕ) → kept_if b t ++ ts ≡ (if not b then t ∷ ts else ts)

@@ -1,12 +1,12 @@
 -- One entry more among the uses of destroyed objects.
 use Rattle.std.proofs.Common.{◌≡◌, ◌∙◌, ℕ, List, [], ◌∷◌, ◌++◌, Bool, ◌||◌, if◌then◌else◌, refl, ap, codes}
-use Rattle.ocr_history.specs.declared.entry.Entry.{Entry}
-use Rattle.ocr_history.specs.declared.entry.Entry.TheVariants as an
-use Rattle.ocr_history.specs.History.{History}
+use Rattle.ocr_machine_history.specs.declared.entry.Entry.{Entry}
+use Rattle.ocr_machine_history.specs.declared.entry.Entry.TheVariants as an
+use Rattle.ocr_machine_history.specs.History.{History}
 use Rattle.ocr_journal.specs.Phrase.{Text, phrase}
 use Rattle.ocr_report.specs.Destroyed.{is_destroyed, is_victim, victim_in, was_destroyed}
 use Rattle.ocr_report.specs.Stale.{stale_line, stale_lines, first_stale, objects_of}
-use Rattle.ocr_history.specs.Stale.{is_stale}
+use Rattle.ocr_machine_history.specs.Stale.{is_stale}
 
 first_same : (f g : ℕ → Bool) → ((n : ℕ) → f n ≡ g n) → (ns : List ℕ) → first_stale f ns ≡ first_stale g ns
 first_same f g same [] = refl

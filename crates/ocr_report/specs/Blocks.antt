@@ -3,12 +3,12 @@
 use Rattle.std.specs.Prelude.{ℕ, zero, suc, List, [], ◌∷◌, ◌++◌, Bool, true, false, if◌then◌else◌, codes, length}
 use Rattle.std.specs.List.{flat_map}
 use Rattle.ocr_datablock.specs.Block as block
-use Rattle.ocr_history.specs.History.{History, Setting}
+use Rattle.ocr_machine_history.specs.History.{History, Setting}
 use Rattle.ocr_journal.specs.Phrase.{Text, phrase}
-use Rattle.ocr_parts.specs.declared.part.Part.{Part}
-use Rattle.ocr_parts.specs.declared.part.Part.TheVariants as part
-use Rattle.ocr_parts.specs.Kinds.{is_block}
-use Rattle.ocr_parts.specs.Parts.{parts_of}
+use Rattle.ocr_machine_parts.specs.declared.part.Part.{Part}
+use Rattle.ocr_machine_parts.specs.declared.part.Part.TheVariants as part
+use Rattle.ocr_machine_parts.specs.Kinds.{is_block}
+use Rattle.ocr_machine_parts.specs.Parts.{parts_of}
 use Rattle.ocr_report.specs.Headed.{headed}
 
 -- a block that is destroyed is gone where nobody holds it

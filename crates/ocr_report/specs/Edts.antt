@@ -1,8 +1,8 @@
 -- The EDTs that have started, and those that have not.
 use Rattle.std.specs.Prelude.{◌≡◌, ◌<◌, ℕ, List, [], ◌∷◌, Bool, true, false, filter, length, slice_index_or}
-use Rattle.ocr_history.specs.History.{History}
-use Rattle.ocr_history.specs.Made.{made_edts}
-use Rattle.ocr_history.specs.Edts.{is_started}
+use Rattle.ocr_machine_history.specs.History.{History}
+use Rattle.ocr_machine_history.specs.Made.{made_edts}
+use Rattle.ocr_machine_history.specs.Edts.{is_started}
 
 abbrev pub started_edts : History → List ℕ
 started_edts past = filter (is_started past) (made_edts past)

@@ -3,17 +3,17 @@ use Rattle.std.specs.Prelude.{ℕ, List, [], ◌∷◌, Bool, ◌||◌, ◌&&◌
 use Rattle.ocr_guid.specs.Target.{EventCall, Satisfaction}
 use Rattle.ocr_event.specs.Event as event
 use Rattle.ocr_latch.specs.Latch as latch
-use Rattle.ocr_any_event.specs.declared.TheConstants.{ONCE, LATCH}
-use Rattle.ocr_meaning.specs.Holds.{is_done}
-use Rattle.ocr_meaning.specs.declared.call.Call as body
-use Rattle.ocr_meaning.specs.declared.call.Call.TheVariants as call
-use Rattle.ocr_meaning.specs.declared.call.Answer.{Answer}
-use Rattle.ocr_history.specs.declared.objects.TheConstants.{OUTPUT_KIND}
-use Rattle.ocr_history.specs.declared.entry.Entry.{Entry}
-use Rattle.ocr_history.specs.declared.entry.Entry.TheVariants as an
-use Rattle.ocr_history.specs.declared.entry.What.{What}
-use Rattle.ocr_history.specs.declared.entry.What.TheVariants as what
-use Rattle.ocr_history.specs.History.{History}
+use Rattle.ocr_event_any.specs.declared.TheConstants.{ONCE, LATCH}
+use Rattle.ocr_body_meaning.specs.Holds.{is_done}
+use Rattle.ocr_body_meaning.specs.declared.call.Call as body
+use Rattle.ocr_body_meaning.specs.declared.call.Call.TheVariants as call
+use Rattle.ocr_body_meaning.specs.declared.call.Answer.{Answer}
+use Rattle.ocr_machine_history.specs.declared.objects.TheConstants.{OUTPUT_KIND}
+use Rattle.ocr_machine_history.specs.declared.entry.Entry.{Entry}
+use Rattle.ocr_machine_history.specs.declared.entry.Entry.TheVariants as an
+use Rattle.ocr_machine_history.specs.declared.entry.What.{What}
+use Rattle.ocr_machine_history.specs.declared.entry.What.TheVariants as what
+use Rattle.ocr_machine_history.specs.History.{History}
 
 -- an entry makes an event, or an EDT with its output event: the event's number and its kind
 abbrev pub output_kind : ℕ → Option (ℕ × ℕ)

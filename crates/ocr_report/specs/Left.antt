@@ -1,9 +1,9 @@
 -- The EDTs that have not started, rising, each with those of its slots that are not set.
 use Rattle.std.specs.Prelude.{ℕ, List, [], ◌∷◌, ◌++◌, codes, length}
 use Rattle.std.specs.List.{flat_map}
-use Rattle.ocr_history.specs.History.{Setting, History}
-use Rattle.ocr_history.specs.Output.{left_edts}
-use Rattle.ocr_parts.specs.Calls.{open_slots}
+use Rattle.ocr_machine_history.specs.History.{Setting, History}
+use Rattle.ocr_machine_history.specs.Output.{left_edts}
+use Rattle.ocr_machine_parts.specs.Calls.{open_slots}
 use Rattle.ocr_journal.specs.Phrase.{Text, phrase}
 use Rattle.ocr_report.specs.Headed.{headed}
 

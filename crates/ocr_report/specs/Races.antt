@@ -1,10 +1,10 @@
 -- The text on the races of a run.
 use Rattle.std.specs.Prelude.{◌≡◌, ◌≤◌, ◌<◌, ℕ, List, [], ◌∷◌, ◌++◌, length, codes}
 use Rattle.std.specs.List.{flat_map}
-use Rattle.ocr_history.specs.History.{History, Setting}
+use Rattle.ocr_machine_history.specs.History.{History, Setting}
 use Rattle.ocr_journal.specs.Phrase.{Text, phrase}
 use Rattle.ocr_memory_model.specs.RaceList.{AreRaces}
-use Rattle.ocr_memory_model.specs.declared.ordering.TheConstants.{MOST_ORDERED}
+use Rattle.ocr_memory_model.specs.declared.happens_before.TheConstants.{MOST_ORDERED}
 use Rattle.ocr_memory_model.specs.declared.race.Race.{Race}
 use Rattle.ocr_report.specs.Headed.{headed}
 

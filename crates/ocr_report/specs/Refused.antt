@@ -1,11 +1,11 @@
 -- The satisfactions by messages that were refused, but for those on destroyed events.
 use Rattle.std.specs.Prelude.{ℕ, ◌+◌, [], ◌∷◌, ◌++◌, ◌||◌, ◌==◌, if◌then◌else◌, codes, Option, Some, None}
 use Rattle.ocr_guid.specs.Code.{number_of}
-use Rattle.ocr_history.specs.declared.entry.Entry.{Entry}
-use Rattle.ocr_history.specs.declared.entry.Entry.TheVariants as an
-use Rattle.ocr_history.specs.declared.entry.What.{What}
-use Rattle.ocr_history.specs.declared.entry.What.TheVariants as what
-use Rattle.ocr_history.specs.History.{History}
+use Rattle.ocr_machine_history.specs.declared.entry.Entry.{Entry}
+use Rattle.ocr_machine_history.specs.declared.entry.Entry.TheVariants as an
+use Rattle.ocr_machine_history.specs.declared.entry.What.{What}
+use Rattle.ocr_machine_history.specs.declared.entry.What.TheVariants as what
+use Rattle.ocr_machine_history.specs.History.{History}
 use Rattle.ocr_journal.specs.Phrase.{Text, phrase}
 use Rattle.ocr_report.specs.Headed.{headed}
 

@@ -4,18 +4,18 @@ use Rattle.std.specs.Ordering.{nat_cmp}
 use Rattle.std.specs.BTreeMap.{BTreeMap, get}
 use Rattle.ocr_slots.specs.Slots.{SlotCall, Linking, Setting}
 use Rattle.ocr_template.specs.Template.{count_meant}
-use Rattle.ocr_meaning.specs.Call.{is_creation}
-use Rattle.ocr_meaning.specs.Holds.{is_done}
-use Rattle.ocr_meaning.specs.declared.call.Call as body
-use Rattle.ocr_meaning.specs.declared.call.Call.TheVariants as call
-use Rattle.ocr_meaning.specs.declared.call.Answer.{Answer}
-use Rattle.ocr_history.specs.declared.entry.Entry.{Entry}
-use Rattle.ocr_history.specs.declared.entry.Entry.TheVariants as an
-use Rattle.ocr_history.specs.declared.entry.What.{What}
-use Rattle.ocr_history.specs.declared.entry.What.TheVariants as what
-use Rattle.ocr_history.specs.History as history
-use Rattle.ocr_history.specs.Made.{Made, MadeTemplate, MadeEdt, made}
-use Rattle.ocr_parts.specs.Calls.{set_calls}
+use Rattle.ocr_body_meaning.specs.Call.{is_creation}
+use Rattle.ocr_body_meaning.specs.Holds.{is_done}
+use Rattle.ocr_body_meaning.specs.declared.call.Call as body
+use Rattle.ocr_body_meaning.specs.declared.call.Call.TheVariants as call
+use Rattle.ocr_body_meaning.specs.declared.call.Answer.{Answer}
+use Rattle.ocr_machine_history.specs.declared.entry.Entry.{Entry}
+use Rattle.ocr_machine_history.specs.declared.entry.Entry.TheVariants as an
+use Rattle.ocr_machine_history.specs.declared.entry.What.{What}
+use Rattle.ocr_machine_history.specs.declared.entry.What.TheVariants as what
+use Rattle.ocr_machine_history.specs.History as history
+use Rattle.ocr_machine_history.specs.Made.{Made, MadeTemplate, MadeEdt, made}
+use Rattle.ocr_machine_parts.specs.Calls.{set_calls}
 use Rattle.ocr_report.specs.declared.slots.Counted.{Counted}
 use Rattle.ocr_report.specs.declared.slots.Counted.TheVariants as counts
 use Rattle.ocr_report.specs.Lists.{list_at}

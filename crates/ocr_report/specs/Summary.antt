@@ -1,10 +1,10 @@
 -- How many EDTs were made, have started and have not, and how many uses of destroyed objects there
 -- are.
 use Rattle.std.specs.Prelude.{ℕ, [], ◌∷◌, ◌++◌, length, codes}
-use Rattle.ocr_history.specs.History.{History}
-use Rattle.ocr_history.specs.Made.{made_edts}
-use Rattle.ocr_history.specs.Output.{left_edts}
-use Rattle.ocr_history.specs.Stale.{stale_uses}
+use Rattle.ocr_machine_history.specs.History.{History}
+use Rattle.ocr_machine_history.specs.Made.{made_edts}
+use Rattle.ocr_machine_history.specs.Output.{left_edts}
+use Rattle.ocr_machine_history.specs.Stale.{stale_uses}
 use Rattle.ocr_journal.specs.Phrase.{Text, phrase}
 use Rattle.ocr_report.specs.Edts.{started_edts}
 

@@ -4,8 +4,8 @@ use Rattle.std.specs.Ordering.{nat_cmp}
 use Rattle.std.specs.BTreeMap.{BTreeMap, get}
 use Rattle.ocr_guid.specs.Target.{EventCall}
 use Rattle.ocr_latch.specs.Latch as latch
-use Rattle.ocr_any_event.specs.declared.TheConstants.{ONCE, LATCH}
-use Rattle.ocr_history.specs.History.{History}
+use Rattle.ocr_event_any.specs.declared.TheConstants.{ONCE, LATCH}
+use Rattle.ocr_machine_history.specs.History.{History}
 use Rattle.ocr_report.specs.declared.tallies.Tally.{Tally}
 use Rattle.ocr_report.specs.Fired.{kind_of, satisfactions_of}
 

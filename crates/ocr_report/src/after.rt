@@ -1,15 +1,15 @@
 // The parts of the machine after a run.
 ghost use Rattle.std.specs.Prelude.{◌≡◌, ◌≤◌, length, IfOk};
-ghost use Rattle.ocr_facts.specs.Ocr.{setting_of};
-ghost use Rattle.ocr_history.specs.History.{history_of};
-ghost use Rattle.ocr_parts.specs.Legal.{IsRun};
-ghost use Rattle.ocr_table.specs.Table.{IsOf};
+ghost use Rattle.ocr_worker_machine.specs.Ocr.{setting_in};
+ghost use Rattle.ocr_machine_history.specs.History.{history_of};
+ghost use Rattle.ocr_machine_parts.specs.Legal.{IsRun};
+ghost use Rattle.ocr_machine_state.specs.State.{IsStateOf};
 
 use ocr_base::NoMemory;
-use ocr_facts::Setting;
-use ocr_history::Entry;
-use ocr_parts::event_laws;
-use ocr_table::Table;
+use ocr_machine_history::Entry;
+use ocr_machine_parts::event_laws;
+use ocr_machine_state::State;
+use ocr_worker_machine::Setting;
 use std::alloc::Global;
 
 /// The table of a run after all its entries.
@@ -18,16 +18,16 @@ pub fn table_after(
     setting: &Setting,
     limit: u64,
     entries: &[Entry],
-) -> Result<Table, NoMemory>
+) -> Result<State, NoMemory>
     requires args { length setting.now.args.items ≤ 32 }
     requires limit { (2 ≤ limit) × (limit ≤ 65536) }
-    requires run { IsRun (setting_of setting.now limit) (history_of entries.now) }
+    requires run { IsRun (setting_in setting.now limit) (history_of entries.now) }
     ensures { IfOk result (λ table.
-        IsOf (setting_of setting.now limit) (history_of entries.now) table) }
+        IsStateOf (setting_in setting.now limit) (history_of entries.now) table) }
 {
     event_laws(); // only for the proof: a latch counts no more than the entries so far
     let main = setting.program.main_function();
-    let mut table = Table::opened(alloc, main, setting.args.as_slice(), limit)?;
+    let mut table = State::opened(alloc, main, setting.args.as_slice(), limit)?;
     for entry in entries {
         table.enter(alloc, entry)?;
     }

@@ -2,12 +2,12 @@
 ghost use Rattle.std.specs.Prelude.{◌≡◌, ℕ, None, if◌then◌else◌};
 ghost use Rattle.std.specs.Ordering.{nat_cmp};
 ghost use Rattle.std.specs.BTreeMap as map;
-ghost use Rattle.ocr_history.specs.Made.{names_new};
+ghost use Rattle.ocr_machine_history.specs.Made.{names_new};
 ghost use Rattle.ocr_report.specs.Made.{is_beside_in};
 
+use ocr_body_meaning::{Answer, Call};
 use ocr_guid::{Code, Guid};
-use ocr_history::Entry;
-use ocr_meaning::{Answer, Call};
+use ocr_machine_history::Entry;
 use std::collections::BTreeMap;
 
 // Takes out what a table keeps at a number, unless it is NULL_GUID.

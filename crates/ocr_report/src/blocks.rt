@@ -1,26 +1,26 @@
 // The blocks that were made.
 ghost use Rattle.std.specs.Prelude.{◌≡◌, ◌++◌, ◌≤◌, length, OnOk, IfOk};
 ghost use Rattle.ocr_datablock.specs.Block.{is_gone};
-ghost use Rattle.ocr_facts.specs.Ocr.{setting_of};
-ghost use Rattle.ocr_history.specs.History.{history_of};
-ghost use Rattle.ocr_parts.specs.Kinds.{is_block};
-ghost use Rattle.ocr_parts.specs.Legal.{IsRun};
+ghost use Rattle.ocr_worker_machine.specs.Ocr.{setting_in};
+ghost use Rattle.ocr_machine_history.specs.History.{history_of};
+ghost use Rattle.ocr_machine_parts.specs.Kinds.{is_block};
+ghost use Rattle.ocr_machine_parts.specs.Legal.{IsRun};
 ghost use Rattle.ocr_report.specs.Blocks as spec;
-ghost use Rattle.ocr_table.specs.Table.{face_on};
+ghost use Rattle.ocr_machine_state.specs.State.{face_on};
 
 use crate::after::table_after;
 use crate::headed::{headed, line};
 use ocr_base::NoMemory;
 use ocr_datablock::Block;
-use ocr_facts::Setting;
-use ocr_history::Journal;
 use ocr_journal::phrase;
-use ocr_parts::Part;
-use ocr_table::Table;
+use ocr_machine_history::Journal;
+use ocr_machine_parts::Part;
+use ocr_machine_state::State;
+use ocr_worker_machine::Setting;
 use std::alloc::Global;
 
 // Whether an object is a block.
-fn is_block(table: &Table, object: u64) -> bool
+fn is_block(table: &State, object: u64) -> bool
     ensures { result ≡ is_block (face_on table.now object) }
 {
     matches!(table.face(object), Some(Part::Block(_)))
@@ -28,7 +28,7 @@ fn is_block(table: &Table, object: u64) -> bool
 
 // The blocks, rising.
 #[tactic(auto, using(crate::proofs::Numbered::blocks_more))]
-fn blocks(alloc: Global, table: &Table) -> Result<Vec<u64>, NoMemory>
+fn blocks(alloc: Global, table: &State) -> Result<Vec<u64>, NoMemory>
     ensures { IfOk result (λ blocks.
         blocks.items ≡ spec.blocks_to (face_on table.now) table.now.limit) }
 {
@@ -62,7 +62,7 @@ fn block_line(text: &mut Vec<u8>, number: u64, block: &Block) -> Result<(), NoMe
 }
 
 // Writes the line of an object, where it is a block.
-fn line_of(text: &mut Vec<u8>, table: &Table, object: u64) -> Result<(), NoMemory>
+fn line_of(text: &mut Vec<u8>, table: &State, object: u64) -> Result<(), NoMemory>
     ensures { OnOk result (text.new.items
         ≡ text.old.items ++ spec.line_of object (face_on table.now object)) }
 {
@@ -72,7 +72,7 @@ fn line_of(text: &mut Vec<u8>, table: &Table, object: u64) -> Result<(), NoMemor
     }
 }
 
-fn block_lines(alloc: Global, table: &Table, blocks: &[u64]) -> Result<Vec<u8>, NoMemory>
+fn block_lines(alloc: Global, table: &State, blocks: &[u64]) -> Result<Vec<u8>, NoMemory>
     ensures { IfOk result (λ text.
         text.items ≡ spec.block_lines (face_on table.now) blocks.now) }
 {
@@ -84,7 +84,7 @@ fn block_lines(alloc: Global, table: &Table, blocks: &[u64]) -> Result<Vec<u8>, 
 }
 
 // The report on the blocks of a table.
-fn blocks_in(alloc: Global, table: &Table) -> Result<Vec<u8>, NoMemory>
+fn blocks_in(alloc: Global, table: &State) -> Result<Vec<u8>, NoMemory>
     ensures { IfOk result (λ text.
         text.items ≡ spec.blocks_in (face_on table.now) table.now.limit) }
 {
@@ -104,9 +104,9 @@ pub fn blocks_text(
 ) -> Result<Vec<u8>, NoMemory>
     requires args { length setting.now.args.items ≤ 32 }
     requires limit { (2 ≤ limit) × (limit ≤ 65536) }
-    requires run { IsRun (setting_of setting.now limit) (history_of journal.now) }
+    requires run { IsRun (setting_in setting.now limit) (history_of journal.now) }
     ensures { IfOk result (λ text.
-        text.items ≡ spec.blocks_text (setting_of setting.now limit) (history_of journal.now)) }
+        text.items ≡ spec.blocks_text (setting_in setting.now limit) (history_of journal.now)) }
 {
     let table = table_after(alloc, setting, limit, journal.entries())?;
     blocks_in(alloc, &table)

@@ -3,8 +3,8 @@ ghost use Rattle.std.specs.Prelude.{◌≡◌, ◌||◌, ◌==◌, [], ◌∷◌
 ghost use Rattle.std.specs.Ordering.{nat_cmp};
 ghost use Rattle.std.specs.BTreeMap as map;
 ghost use Rattle.std.specs.BTreeSet as set;
-ghost use Rattle.ocr_history.specs.History as history;
-ghost use Rattle.ocr_history.specs.History.{history_of};
+ghost use Rattle.ocr_machine_history.specs.History as history;
+ghost use Rattle.ocr_machine_history.specs.History.{history_of};
 ghost use Rattle.ocr_report.specs.Destroyed as spec;
 ghost use Rattle.ocr_report.specs.Ends as end;
 ghost use Rattle.ocr_report.specs.Tallies as tally;
@@ -12,9 +12,9 @@ ghost use Rattle.ocr_report.specs.Tallies as tally;
 use crate::edts::add;
 use crate::tallies::{Kinds, Tallies, is_fired, note_kind, note_satisfaction};
 use ocr_base::NoMemory;
+use ocr_body_meaning::{Answer, Call};
 use ocr_guid::Code;
-use ocr_history::Entry;
-use ocr_meaning::{Answer, Call};
+use ocr_machine_history::Entry;
 use std::alloc::Global;
 use std::collections::{BTreeMap, BTreeSet};
 

@@ -3,19 +3,19 @@ ghost use Rattle.std.specs.Prelude.{◌≡◌, ◌||◌, ◌==◌, ◌<◌, ◌�
 ghost use Rattle.std.specs.List.{flat_map};
 ghost use Rattle.std.specs.Ordering.{nat_cmp};
 ghost use Rattle.std.specs.BTreeSet as set;
-ghost use Rattle.ocr_history.specs.Edts.{is_started};
-ghost use Rattle.ocr_history.specs.History.{history_of};
-ghost use Rattle.ocr_history.specs.Made.{made_edts};
-ghost use Rattle.ocr_history.specs.Numbers.{IsRising, placed};
-ghost use Rattle.ocr_history.specs.Output.{left_edts};
+ghost use Rattle.ocr_machine_history.specs.Edts.{is_started};
+ghost use Rattle.ocr_machine_history.specs.History.{history_of};
+ghost use Rattle.ocr_machine_history.specs.Made.{made_edts};
+ghost use Rattle.ocr_machine_history.specs.Numbers.{IsRising, placed};
+ghost use Rattle.ocr_machine_history.specs.Output.{left_edts};
 ghost use Rattle.ocr_report.specs.Edts.{AreMarks, kept_if};
 ghost use Rattle.ocr_report.specs.Made as spec;
 
 use crate::started::{has_started, mark_count, started_marks};
 use ocr_base::NoMemory;
+use ocr_body_meaning::{Answer, Call};
 use ocr_guid::Code;
-use ocr_history::{Entry, MAIN_EDT};
-use ocr_meaning::{Answer, Call};
+use ocr_machine_history::{Entry, MAIN_EDT};
 use std::alloc::Global;
 use std::collections::BTreeSet;
 
@@ -77,7 +77,7 @@ fn put(numbers: &mut Vec<u64>, number: u64) -> Result<(), NoMemory>
 }
 
 /// The EDTs that were made, rising.
-#[tactic(auto, using(ocr_history::proofs::Left::made_rising))]
+#[tactic(auto, using(ocr_machine_history::proofs::Left::made_rising))]
 pub fn edts(alloc: Global, entries: &[Entry]) -> Result<Vec<u64>, NoMemory>
     ensures { IfOk result (λ edts. edts.items ≡ made_edts (history_of entries.now)) }
 {

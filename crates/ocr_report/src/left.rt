@@ -2,7 +2,7 @@
 ghost use Rattle.std.specs.Prelude.{◌≡◌, ◌++◌, OnOk, IfOk};
 ghost use Rattle.std.specs.Ordering.{nat_cmp};
 ghost use Rattle.std.specs.BTreeMap as map;
-ghost use Rattle.ocr_history.specs.History as history;
+ghost use Rattle.ocr_machine_history.specs.History as history;
 ghost use Rattle.ocr_report.specs.Left as spec;
 ghost use Rattle.ocr_report.specs.Open.{unset_below, open_in};
 ghost use Rattle.ocr_report.specs.Slots.{depc_in};
@@ -12,8 +12,8 @@ use crate::headed::{headed, line};
 use crate::lists::{Lists, list_of};
 use crate::slots::{Counted, Counts, counts, sets};
 use ocr_base::NoMemory;
-use ocr_history::Journal;
 use ocr_journal::phrase;
+use ocr_machine_history::Journal;
 use std::alloc::Global;
 
 // How many slots an EDT has.

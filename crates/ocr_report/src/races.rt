@@ -1,24 +1,24 @@
 // The races of a run.
 ghost use Rattle.std.specs.Prelude.{◌≡◌, ◌++◌, ◌≤◌, ◌<◌, ◌*◌, ◌^◌, [], ◌∷◌, length, ℕ, List, OnOk, IfOk};
 ghost use Rattle.std.specs.List.{flat_map};
-ghost use Rattle.ocr_facts.specs.Ocr.{setting_of};
-ghost use Rattle.ocr_history.specs.History as history;
-ghost use Rattle.ocr_history.specs.History.{History, history_of};
+ghost use Rattle.ocr_worker_machine.specs.Ocr.{setting_in};
+ghost use Rattle.ocr_machine_history.specs.History as history;
+ghost use Rattle.ocr_machine_history.specs.History.{History, history_of};
 ghost use Rattle.ocr_memory_model.specs.Orders.{Orders};
 ghost use Rattle.ocr_memory_model.specs.RaceList.{AreRaces};
 ghost use Rattle.ocr_memory_model.specs.Walk.{all_races, first_pair, pairs_left};
-ghost use Rattle.ocr_memory_model.specs.declared.ordering.TheConstants.{MOST_ORDERED};
+ghost use Rattle.ocr_memory_model.specs.declared.happens_before.TheConstants.{MOST_ORDERED};
 ghost use Rattle.ocr_memory_model.specs.declared.race.Race as race;
-ghost use Rattle.ocr_parts.specs.Legal.{IsRun};
+ghost use Rattle.ocr_machine_parts.specs.Legal.{IsRun};
 ghost use Rattle.ocr_report.specs.Races as spec;
 ghost use Rattle.ocr_report.specs.Races.{IsRacesText};
 
 use crate::headed::line;
 use ocr_base::NoMemory;
-use ocr_facts::Setting;
-use ocr_history::Journal;
 use ocr_journal::phrase;
+use ocr_machine_history::Journal;
 use ocr_memory_model::{HappensBefore, OrderStop, Pair, Race, Touches, order};
+use ocr_worker_machine::Setting;
 use std::alloc::Global;
 
 // How many races there are.
@@ -96,9 +96,9 @@ pub fn push_races(
 ) -> Result<(), NoMemory>
     requires args { length setting.now.args.items ≤ 32 }
     requires limit { (2 ≤ limit) × (limit ≤ 65536) }
-    requires run { IsRun (setting_of setting.now limit) (history_of journal.now) }
+    requires run { IsRun (setting_in setting.now limit) (history_of journal.now) }
     ensures { OnOk result ((report : List ℕ)
-        × IsRacesText (setting_of setting.now limit) (history_of journal.now) report
+        × IsRacesText (setting_in setting.now limit) (history_of journal.now) report
         × (text.new.items ≡ text.old.items ++ report)) }
 {
     match order(alloc, setting, limit, journal) {
@@ -124,9 +124,9 @@ pub fn races_text(
 ) -> Result<Vec<u8>, NoMemory>
     requires args { length setting.now.args.items ≤ 32 }
     requires limit { (2 ≤ limit) × (limit ≤ 65536) }
-    requires run { IsRun (setting_of setting.now limit) (history_of journal.now) }
+    requires run { IsRun (setting_in setting.now limit) (history_of journal.now) }
     ensures { IfOk result (λ text.
-        IsRacesText (setting_of setting.now limit) (history_of journal.now) text.items) }
+        IsRacesText (setting_in setting.now limit) (history_of journal.now) text.items) }
 {
     let mut text = Vec::new(alloc);
     push_races(alloc, &mut text, setting, limit, journal)?;

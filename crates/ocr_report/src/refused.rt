@@ -1,12 +1,12 @@
 // The satisfactions by messages that were refused.
 ghost use Rattle.std.specs.Prelude.{◌≡◌, IfOk};
-ghost use Rattle.ocr_history.specs.History.{history_of};
+ghost use Rattle.ocr_machine_history.specs.History.{history_of};
 ghost use Rattle.ocr_report.specs.Refused as spec;
 
 use crate::headed::{headed, line};
 use ocr_base::NoMemory;
 use ocr_guid::Guid;
-use ocr_history::{Entry, Journal, Message, What};
+use ocr_machine_history::{Entry, Journal, Message, What};
 use std::alloc::Global;
 
 // The event and the code of a satisfaction that an entry refuses, other than as stale.

@@ -2,15 +2,15 @@
 ghost use Rattle.std.specs.Prelude.{◌≡◌, ◌==◌, ◌∷◌, ℕ, OnOk, IfOk, if◌then◌else◌};
 ghost use Rattle.std.specs.Ordering.{nat_cmp};
 ghost use Rattle.std.specs.BTreeMap as map;
-ghost use Rattle.ocr_history.specs.History as history;
+ghost use Rattle.ocr_machine_history.specs.History as history;
 ghost use Rattle.ocr_report.specs.Slots as spec;
 
 use crate::beside::clear_beside;
 use crate::lists::{Lists, append, take};
 use ocr_base::NoMemory;
+use ocr_body_meaning::{Answer, Call};
 use ocr_guid::Code;
-use ocr_history::{Entry, MAIN_EDT, Message, What};
-use ocr_meaning::{Answer, Call};
+use ocr_machine_history::{Entry, MAIN_EDT, Message, What};
 use ocr_template::EDT_PARAM_DEF;
 use std::alloc::Global;
 use std::collections::BTreeMap;

@@ -1,16 +1,16 @@
 // The uses of destroyed objects.
 ghost use Rattle.std.specs.Prelude.{◌≡◌, ◌++◌, [], ◌∷◌, length, OnOk, IfOk};
-ghost use Rattle.ocr_history.specs.History.{history_of};
-ghost use Rattle.ocr_history.specs.Stale as history;
+ghost use Rattle.ocr_machine_history.specs.History.{history_of};
+ghost use Rattle.ocr_machine_history.specs.Stale as history;
 ghost use Rattle.ocr_report.specs.Ends.{is_ended};
 ghost use Rattle.ocr_report.specs.Stale as spec;
 
 use crate::destroyed::Ends;
 use crate::headed::{headed, line};
 use ocr_base::NoMemory;
+use ocr_body_meaning::{Answer, Call};
 use ocr_guid::Code;
-use ocr_history::{Entry, Journal, Message, What};
-use ocr_meaning::{Answer, Call};
+use ocr_machine_history::{Entry, Journal, Message, What};
 use std::alloc::Global;
 
 // Whether an entry uses a destroyed object.

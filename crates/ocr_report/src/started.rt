@@ -1,21 +1,20 @@
 // Which EDTs have started, by marks at their numbers.
-ghost use Rattle.std.specs.Prelude.{◌≡◌, ◌∷◌, IfOk};
-ghost use Rattle.ocr_history.specs.Edts.{is_started};
-ghost use Rattle.ocr_history.specs.History.{History, history_of};
+ghost use Rattle.std.specs.Prelude.{◌≡◌, ◌≤◌, ◌∷◌, IfOk};
+ghost use Rattle.ocr_machine_history.specs.Edts.{is_started};
+ghost use Rattle.ocr_machine_history.specs.History.{History, history_of};
 ghost use Rattle.ocr_report.specs.Edts.{AreMarks};
 
-use ocr_base::NoMemory;
-use ocr_history::Entry;
+use ocr_base::{MOST_OBJECTS, NoMemory};
+use ocr_machine_history::Entry;
 use std::alloc::Global;
 
-// No run makes an object with a greater number.
-const MOST: u64 = 65_536;
-
 /// How many marks there are to be for these EDTs, which rise.
-pub fn mark_count(edts: &[u64]) -> usize {
+pub fn mark_count(edts: &[u64]) -> usize
+    ensures { result ≤ 65537 }
+{
     match edts.last() {
-        Some(last) if *last < MOST => *last as usize + 1,
-        _ => MOST as usize + 1,
+        Some(last) if *last < MOST_OBJECTS => *last as usize + 1,
+        _ => MOST_OBJECTS as usize + 1,
     }
 }
 

@@ -1,14 +1,14 @@
 // The summary.
 ghost use Rattle.std.specs.Prelude.{◌≡◌, ◌-◌, ◌≤◌, IfOk};
-ghost use Rattle.ocr_history.specs.History.{history_of};
+ghost use Rattle.ocr_machine_history.specs.History.{history_of};
 ghost use Rattle.ocr_report.specs.Summary as spec;
 
 use crate::edts::left;
 use crate::headed::line;
 use crate::stale::stale_count;
 use ocr_base::NoMemory;
-use ocr_history::Journal;
 use ocr_journal::phrase;
+use ocr_machine_history::Journal;
 use std::alloc::Global;
 
 // The line of so many EDTs, of which so many have not started, and uses.

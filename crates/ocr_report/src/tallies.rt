@@ -2,15 +2,15 @@
 ghost use Rattle.std.specs.Prelude.{◌≡◌, ◌==◌, ◌∷◌, ℕ, OnOk, if◌then◌else◌};
 ghost use Rattle.std.specs.Ordering.{nat_cmp};
 ghost use Rattle.std.specs.BTreeMap as map;
-ghost use Rattle.ocr_history.specs.History as history;
+ghost use Rattle.ocr_machine_history.specs.History as history;
 ghost use Rattle.ocr_report.specs.Fired as fired;
 ghost use Rattle.ocr_report.specs.Tallies as spec;
 
-use ocr_any_event::{LATCH, ONCE};
 use ocr_base::NoMemory;
+use ocr_body_meaning::{Answer, Call};
+use ocr_event_any::{LATCH, ONCE};
 use ocr_guid::{Code, Guid};
-use ocr_history::{Entry, Message, OUTPUT_KIND, What};
-use ocr_meaning::{Answer, Call};
+use ocr_machine_history::{Entry, Message, OUTPUT_KIND, What};
 use std::collections::BTreeMap;
 
 /// How often an event was satisfied on each slot of a latch, and whether these numbers were ever

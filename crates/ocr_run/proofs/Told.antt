@@ -5,16 +5,16 @@ use Rattle.std.proofs.lemmas.List.{length-map}
 use Rattle.std.specs.Prelude.{IfSome, IfNone, IsSome, IsNone}
 use Rattle.std.specs.Io.KnownBytes.{Appends, Keeps}
 use Rattle.std.proofs.lemmas.Grind.{common_steps}
-use Rattle.ocr_history.specs.declared.entry.Entry.{Entry}
-use Rattle.ocr_history.specs.History.{history_of}
-use Rattle.ocr_history.specs.Output.{ending_of}
-use Rattle.ocr_words.specs.Wanted.{IsAsked, given_in, value}
-use Rattle.ocr_words.specs.declared.wanted.Wanted.{Wanted}
-use Rattle.ocr_words.specs.declared.wanted.Wanted.TheVariants as want
-use Rattle.ocr_execute.specs.declared.text.TextFault.{TextFault}
-use Rattle.ocr_execute.specs.Lines.{ending_line}
+use Rattle.ocr_machine_history.specs.declared.entry.Entry.{Entry}
+use Rattle.ocr_machine_history.specs.History.{history_of}
+use Rattle.ocr_machine_history.specs.Output.{ending_of}
+use Rattle.ocr_run_command.specs.Wanted.{IsAsked, given_in, value}
+use Rattle.ocr_run_command.specs.declared.wanted.Wanted.{Wanted}
+use Rattle.ocr_run_command.specs.declared.wanted.Wanted.TheVariants as want
+use Rattle.ocr_run_execution.specs.declared.text.TextFault.{TextFault}
+use Rattle.ocr_run_execution.specs.Lines.{ending_line}
 use Rattle.ocr_run.specs.Headline as headline
-use Rattle.ocr_execute.specs.Ending.{IsMet, shut_down, stuck, aborted, faulted, out_of_memory, limited}
+use Rattle.ocr_run_execution.specs.Ending.{IsMet, shut_down, stuck, aborted, faulted, out_of_memory, limited}
 use Rattle.ocr_run.specs.Wants.{IsServable, IsAnsweredAs, IsReadAs}
 use Rattle.ocr_run.specs.Headline.{IsHeadline, IsCheck, IsTold, IsStatus, IsStatusOf, IsCaused, IsWritten, whole, front, nothing, CameTo, is_silent, ran, refused, no_program, read_failed, write_failed, IsAllOf, IsLine, of_run, of_check, words_refused, text_too_big, text_refused, read_fault, write_fault, want_of_memory}
 

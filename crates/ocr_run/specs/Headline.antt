@@ -3,18 +3,18 @@
 use Rattle.std.specs.Prelude.{◌≡◌, ◌≢◌, ◌⊎◌, ◌<◌, ◌≤◌, ◌+◌, ◌↔◌, ◌==◌, ◌||◌, ℕ, Bool, List, [], length, take, Option, Some, None, codes}
 use Rattle.std.specs.Io.KnownBytes.{Appends, Keeps}
 use Rattle.ocr_io.specs.Source.{Took}
-use Rattle.ocr_tree.specs.Tree.{FunctionTree}
-use Rattle.ocr_history.specs.declared.entry.Entry.{Entry}
-use Rattle.ocr_history.specs.History.{history_of}
-use Rattle.ocr_history.specs.Output.{ending_of}
-use Rattle.ocr_words.specs.Wanted.{IsAsked}
-use Rattle.ocr_words.specs.declared.wanted.Options.{Options}
-use Rattle.ocr_words.specs.declared.wanted.Wanted.{Wanted}
-use Rattle.ocr_words.specs.declared.wanted.Wanted.TheVariants as want
-use Rattle.ocr_execute.specs.declared.text.TextFault.{TextFault}
-use Rattle.ocr_execute.specs.Executed.{IsExecuted}
-use Rattle.ocr_execute.specs.Lines.{ending_line, fault_line}
-use Rattle.ocr_execute.specs.ProgramText.{IsProgramText, IsCanonicalOf, IsNoProgram, most_bytes}
+use Rattle.ocr_program_tree.specs.Tree.{FunctionTree}
+use Rattle.ocr_machine_history.specs.declared.entry.Entry.{Entry}
+use Rattle.ocr_machine_history.specs.History.{history_of}
+use Rattle.ocr_machine_history.specs.Output.{ending_of}
+use Rattle.ocr_run_command.specs.Wanted.{IsAsked}
+use Rattle.ocr_run_command.specs.declared.wanted.Options.{Options}
+use Rattle.ocr_run_command.specs.declared.wanted.Wanted.{Wanted}
+use Rattle.ocr_run_command.specs.declared.wanted.Wanted.TheVariants as want
+use Rattle.ocr_run_execution.specs.declared.text.TextFault.{TextFault}
+use Rattle.ocr_run_execution.specs.Executed.{IsExecuted}
+use Rattle.ocr_run_execution.specs.Lines.{ending_line, fault_line}
+use Rattle.ocr_run_execution.specs.ProgramText.{IsProgramText, IsCanonicalOf, IsNoProgram, most_bytes}
 
 -- the output of a run with this ending was written: whole, or a front of it where a write failed;
 -- nothing for want of memory

@@ -1,9 +1,9 @@
 -- What is wanted, as the top call hands it on.
 use Rattle.std.specs.Prelude.{◌≤◌, ℕ, List, Option, length}
-use Rattle.ocr_history.specs.declared.entry.Entry.{Entry}
-use Rattle.ocr_words.specs.declared.wanted.Wanted.{Wanted}
-use Rattle.ocr_words.specs.declared.wanted.Wanted.TheVariants as want
-use Rattle.ocr_execute.specs.Executed.{AreWithin}
+use Rattle.ocr_machine_history.specs.declared.entry.Entry.{Entry}
+use Rattle.ocr_run_command.specs.declared.wanted.Wanted.{Wanted}
+use Rattle.ocr_run_command.specs.declared.wanted.Wanted.TheVariants as want
+use Rattle.ocr_run_execution.specs.Executed.{AreWithin}
 use Rattle.ocr_run.specs.Headline.{IsAnswered, IsRead}
 
 -- a run within its bounds, or a check

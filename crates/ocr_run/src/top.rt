@@ -2,22 +2,23 @@
 ghost use Rattle.std.specs.Prelude.{◌≡◌, ◌≢◌, ◌⊎◌, ◌+◌, ◌<◌, ◌≤◌, ◌^◌, true, IfSome, IfNone, IsSome, IsNone, length, List, ℕ, Option, Some};
 ghost use Rattle.std.specs.Io.KnownBytes.{Keeps};
 ghost use Rattle.ocr_base.specs.Count.{Rose};
-ghost use Rattle.ocr_tree.specs.Tree.{FunctionTree};
-ghost use Rattle.ocr_history.specs.History.{history_of};
-ghost use Rattle.ocr_history.specs.Output.{ending_of};
-ghost use Rattle.ocr_words.specs.Form.{texts_of};
-ghost use Rattle.ocr_words.specs.Wanted.{IsAsked};
-ghost use Rattle.ocr_execute.specs.Ending.{IsMet};
-ghost use Rattle.ocr_execute.specs.Executed.{AreWithin};
-ghost use Rattle.ocr_execute.specs.Lines.{ending_line};
-ghost use Rattle.ocr_execute.specs.ProgramText.{IsProgramText, IsNoProgram, most_bytes};
+ghost use Rattle.ocr_program_tree.specs.Tree.{FunctionTree};
+ghost use Rattle.ocr_machine_history.specs.History.{history_of};
+ghost use Rattle.ocr_machine_history.specs.Output.{ending_of};
+ghost use Rattle.ocr_run_command.specs.Form.{texts_of};
+ghost use Rattle.ocr_run_command.specs.Wanted.{IsAsked};
+ghost use Rattle.ocr_run_execution.specs.Ending.{IsMet};
+ghost use Rattle.ocr_run_execution.specs.Executed.{AreWithin};
+ghost use Rattle.ocr_run_execution.specs.Lines.{ending_line};
+ghost use Rattle.ocr_run_execution.specs.ProgramText.{IsProgramText, IsNoProgram, most_bytes};
 ghost use Rattle.ocr_run.specs.Headline.{IsHeadline, IsAnswered, IsCopied, IsCheckedText, IsWritten, IsCheck, IsComplete, IsCaused, CameTo, AreRefused, IsTooBig, IsFirstFault, IsRefusedText, IsLine, IsTold, IsStatus, is_silent};
 ghost use Rattle.ocr_run.specs.Wants.{IsServable, IsAnsweredAs, IsReadAs};
 
-use ocr_clerks::Gate;
-use ocr_execute::{Executed, Merged, TextFault, TextStop, canonical_of, execute, line_of_fault};
 use ocr_io::{ReadStop, Sink, Source, read_all, write_all};
-use ocr_words::{Options, Wanted, WordsStop, command};
+use ocr_run_command::{Options, Wanted, WordsStop, command};
+use ocr_run_execution::{
+    Executed, Gate, Merged, TextFault, TextStop, canonical_of, execute, line_of_fault,
+};
 use std::alloc::Global;
 use std::sync::Wait;
 use std::thread::Threads;
@@ -310,7 +311,7 @@ fn serve<R: Threads + Wait + Sync, S: Source, O: Sink, E: Sink, G: Gate + Sync>(
 /// The program: looks at the words, reads the input, does what the words ask for, and writes what
 /// comes of it.
 ///
-/// The words may be any: docs/SPECIFICATION.md tells in "The words" which forms are taken, and in
+/// The words may be any: docs/LANGUAGE.md tells in "The words" which forms are taken, and in
 /// "The program" the statuses, 2 where the words have no form; the line that goes with a status is
 /// written to `err`. For `run` the journal is given with each of the statuses 0, 4, 5, 6, 8 and 10,
 /// may be given with 9, and is not given with 2, 3 and 7. `check` gives none. Each worker of a run

@@ -15,7 +15,7 @@ use Rattle.crossbeam_deque.specs.Handles.{IsPassOf, view}
 use Rattle.crossbeam_deque.proofs.Lists.{at_index}
 use Rattle.ocr_steal.specs.declared.account.Account.{Account}
 use Rattle.ocr_steal.specs.Deque.{joined}
-use Rattle.ocr_steal.specs.Parts.{IsIdle, Known, Name, deque_of, deques_of_passes}
+use Rattle.ocr_steal.specs.Parts.{IsIdlePass, Known, Name, deque_of, deques_of_passes}
 use Rattle.ocr_steal.specs.Rest.{count_if, Column, HasNothing, HasPart, IsRow, row_weight, rows_weight, taken_weight}
 use Rattle.ocr_steal.proofs.Owners.{name_of_pass}
 use Rattle.ocr_steal.proofs.Steps.{sum_by-snoc}
@@ -40,14 +40,14 @@ pub its_pass : (names : List Name) (ps : List Known) (k : ℕ) (p : Known) (name
 its_pass names ps k p name row at is =
     let within : k < length ps = omega (arith, at_lt names k name at, row_long names ps row.deques) in
     let same = its_name names ps k p name row.deques at is in
-    let idle : IsIdle p = subst IsIdle (sym is) (row.idle k p within) in
+    let idle : IsIdlePass p = subst IsIdlePass (sym is) (row.idle k p within) in
     (ap (λ (d : Name). d.0) same, ap (λ (d : Name). d.1) same, idle.hand, idle.spare)
 
 -- another pass of the same deque in its place
 pub row_kept : (names : List Name) (ps qs : List Known) (k : ℕ) (p other : Known) (name : Name) → p ≡ get_or ps k p → qs ≡ set ps k other → deque_of p ≡ name → IsPassOf name other → IsRow names ps → IsRow names qs
 row_kept names ps qs k p other name is after same of_it row = record {
   deques = ap deques_of_passes after ∙ map-set_same deque_of ps k other p (name_of_pass other name of_it ∙ sym same ∙ ap deque_of is) ∙ row.deques;
-  idle = subst (All IsIdle) (sym after) (All-set IsIdle ps k other (record { hand = of_it.2; spare = of_it.3 }) row.idle);
+  idle = subst (All IsIdlePass) (sym after) (All-set IsIdlePass ps k other (record { hand = of_it.2; spare = of_it.3 }) row.idle);
 }
 
 pub row_loses : (f : ℕ → ℕ) (ps qs : List Known) (k : ℕ) (p other : Known) → k < length ps → p ≡ get_or ps k p → qs ≡ set ps k other → (view other).taken ≡ [] → row_weight f qs + taken_weight f (view p) ≡ row_weight f ps

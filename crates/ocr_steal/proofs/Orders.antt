@@ -6,7 +6,7 @@ use mathlib.Core.Logic.{dite}
 use native.Mathlib.Decide.{ℕ_discrete}
 use Rattle.ocr_steal.specs.declared.hand.Hand.{Hand}
 use Rattle.ocr_steal.specs.declared.pool.Pool.{Pool}
-use Rattle.ocr_steal.specs.Pool.{AreAll, IsOf, hands_in}
+use Rattle.ocr_steal.specs.Pool.{AreAll, IsOfPool, hands_in}
 use Rattle.ocr_steal.specs.Rest.{count_if}
 use Rattle.ocr_steal.proofs.Columns.{count_other, count_same}
 
@@ -47,7 +47,7 @@ once number first (h ∷ hs) low high are = dite (ℕ_discrete number first)
     let rest = once number (first + 1) hs (omega (arith, low, apart)) (omega (arith, high)) (later first h hs are) in
     omega (arith, times-cons number h hs, none, rest))
 
-pub all_in_order : (pool : Pool) (hands : List Hand) → length hands ≡ hands_in pool → All (IsOf pool) hands → ((k : ℕ) (d : Hand) → k < length hands → (get_or hands k d).number ≡ k) → AreAll pool hands
+pub all_in_order : (pool : Pool) (hands : List Hand) → length hands ≡ hands_in pool → All (IsOfPool pool) hands → ((k : ℕ) (d : Hand) → k < length hands → (get_or hands k d).number ≡ k) → AreAll pool hands
 unfolding times
 all_in_order pool hands many each order = record {
   many = many;

@@ -7,7 +7,7 @@ use lib.ListN.{get_elem?}
 use Rattle.crossbeam_deque.specs.Tasks.{Admits, FindsFew, Finds, Forks, Merges, Pushes, Takes}
 use Rattle.crossbeam_deque.proofs.Lists.{at_set, at_snoc}
 use Rattle.ocr_steal.specs.declared.account.Account.{Account}
-use Rattle.ocr_steal.specs.Deque.{IsFound, IsState, Keeps, TakesFirst, all_parts, joined, newcomer, numbered, pushed_by}
+use Rattle.ocr_steal.specs.Deque.{IsFound, IsState, IsDequeState, TakesFirst, all_parts, joined, newcomer, numbered, pushed_by}
 
 -- ---- one pass changes
 
@@ -65,7 +65,7 @@ numbered-from xs ys = numbered-append 0 xs ys ∙ ap (λ k. numbered 0 xs ++ num
 
 -- ---- passes come, are split and joined
 
-pub begins : Keeps [] (newcomer all_parts ∷ [])
+pub begins : IsDequeState [] (newcomer all_parts ∷ [])
 begins = (
   [],
   record {
@@ -76,7 +76,7 @@ begins = (
   },
 )
 
-pub admits : Admits Keeps (newcomer 0)
+pub admits : Admits IsDequeState (newcomer 0)
 admits items ps h = (
   h.0,
   record {
@@ -87,7 +87,7 @@ admits items ps h = (
   },
 )
 
-pub forks : (port : ℕ) (v : Account) → 1 < v.parts → Forks Keeps port v (record v { parts = v.parts - 1 }) (newcomer 1)
+pub forks : (port : ℕ) (v : Account) → 1 < v.parts → Forks IsDequeState port v (record v { parts = v.parts - 1 }) (newcomer 1)
 forks port v some_left items ps h at =
     let left : Account = record v { parts = v.parts - 1 } in
     let new : Account = newcomer 1 in (
@@ -106,7 +106,7 @@ forks port v some_left items ps h at =
       },
     )
 
-pub merges : (port : ℕ) (v : Account) (other : ℕ) (u : Account) → port ≡ 0 → Merges Keeps port v other u (joined v u) (newcomer 0)
+pub merges : (port : ℕ) (v : Account) (other : ℕ) (u : Account) → port ≡ 0 → Merges IsDequeState port v other u (joined v u) (newcomer 0)
 merges port v other u owner items ps h at apart at' =
     let both : Account = joined v u in
     let none : Account = newcomer 0 in
@@ -131,7 +131,7 @@ merges port v other u owner items ps h at apart at' =
 
 -- ---- tasks come and go
 
-pub pushes : (port : ℕ) (v : Account) (xs : List ℕ) → port ≡ 0 → Pushes Keeps port v xs (λ w. w ≡ record v { pushed = v.pushed ++ xs })
+pub pushes : (port : ℕ) (v : Account) (xs : List ℕ) → port ≡ 0 → Pushes IsDequeState port v xs (λ w. w ≡ record v { pushed = v.pushed ++ xs })
 pushes port v xs owner items ps h at =
     let w : Account = record v { pushed = v.pushed ++ xs } in
     let here = head_here ps v w (subst (λ k. get_elem? ps k ≡ some v) owner at) in (
@@ -152,7 +152,7 @@ pushes port v xs owner items ps h at =
       refl,
     )
 
-pub takes : (port : ℕ) (v : Account) (most : ℕ) → 0 < v.parts → Takes Keeps port v most (TakesFirst port v)
+pub takes : (port : ℕ) (v : Account) (most : ℕ) → 0 < v.parts → Takes IsDequeState port v most (TakesFirst port v)
 takes port v most some_part xs items ps some_xs few h at =
     let w : Account = record v { taken = v.taken ++ numbered (length h.0) xs } in (
       w,
@@ -174,24 +174,24 @@ takes port v most some_part xs items ps some_xs few h at =
       record { rest = items; found = record { gone = h.0; passes = ps; state = h.1; knows = at }; then_knows = refl },
     )
 
-pub finds : (port : ℕ) (v : Account) → Finds Keeps port v (IsFound port [] v)
+pub finds : (port : ℕ) (v : Account) → Finds IsDequeState port v (IsFound port [] v)
 finds port v ps h at = record { gone = h.0; passes = ps; state = h.1; knows = at }
 
 pub no_items : {X : Type 0} (items : List X) → length items ≤ 0 → items ≡ []
 no_items [] few = refl
 no_items (x ∷ xs) few = absurd (omega arith)
 
-pub finds_none : (most port : ℕ) (v : Account) → most ≡ 0 → FindsFew Keeps most port v ((at : ℕ) × IsFound at [] v)
+pub finds_none : (most port : ℕ) (v : Account) → most ≡ 0 → FindsFew IsDequeState most port v ((at : ℕ) × IsFound at [] v)
 finds_none most port v zero_most items ps few h at =
     let none = no_items items (omega arith) in
     (port, record { gone = h.0; passes = ps; state = subst (λ l. IsState h.0 l ps) none h.1; knows = at })
 
 -- the owner's pass has the number 0
-pub takes_own : (port : ℕ) (v : Account) → port ≡ 0 → 0 < v.parts → Takes Keeps port v 1 (TakesFirst 0 v)
+pub takes_own : (port : ℕ) (v : Account) → port ≡ 0 → 0 < v.parts → Takes IsDequeState port v 1 (TakesFirst 0 v)
 takes_own port v owner some_part =
-    subst (λ (k : ℕ). Takes Keeps port v 1 (TakesFirst k v)) owner (takes port v 1 some_part)
+    subst (λ (k : ℕ). Takes IsDequeState port v 1 (TakesFirst k v)) owner (takes port v 1 some_part)
 
-pub takes_other : (port : ℕ) (v : Account) → 0 < v.parts → Takes Keeps port v 1 (λ xs w. (at : ℕ) × TakesFirst at v xs w)
+pub takes_other : (port : ℕ) (v : Account) → 0 < v.parts → Takes IsDequeState port v 1 (λ xs w. (at : ℕ) × TakesFirst at v xs w)
 takes_other port v some_part xs items ps some_xs few h at =
     let taken = takes port v 1 some_part xs items ps some_xs few h at in
     (taken.0, taken.1, (port, taken.2))

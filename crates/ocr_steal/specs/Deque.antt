@@ -38,8 +38,8 @@ pub record IsState (gone items : List ℕ) (passes : List Account) : Type 0 wher
   pub idle : (k : ℕ) (p : Account) → get_elem? passes k ≡ some p → p.parts ≡ 0 → p.taken ≡ []
 
 -- the rule of a deque
-abbrev pub Keeps : List ℕ → List Account → Type 0
-Keeps items passes = (gone : List ℕ) × IsState gone items passes
+abbrev pub IsDequeState : List ℕ → List Account → Type 0
+IsDequeState items passes = (gone : List ℕ) × IsState gone items passes
 
 -- At one step the deque held these items, when the pass with this number knew this. Which states
 -- there may be at that step is what the rule says of it: all passes together account for the items.

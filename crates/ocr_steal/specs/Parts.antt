@@ -27,7 +27,7 @@ abbrev pub deques_of_passes : List Known → List Name
 deques_of_passes ps = map deque_of ps
 
 -- a pass that carries nothing
-pub record IsIdle (p : Known) : Type 0 where
+pub record IsIdlePass (p : Known) : Type 0 where
   pub hand : p.me.hand ≡ None
   pub spare : p.me.spare ≡ None
 

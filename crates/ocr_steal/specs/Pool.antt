@@ -16,8 +16,8 @@ abbrev pub hands_in : Pool → ℕ
 hands_in pool = length pool.stealers.items
 
 -- the hand is of this pool
-abbrev pub IsOf : Pool → Hand → Type 0
-IsOf pool h = pool_of h ≡ deques_in pool
+abbrev pub IsOfPool : Pool → Hand → Type 0
+IsOfPool pool h = pool_of h ≡ deques_in pool
 
 -- the pass pushed and took nothing
 pub record IsNew (v : Account) : Type 0 where
@@ -41,6 +41,6 @@ AreFresh deques least hands =
 -- these are all hands of the pool, each once
 pub record AreAll (pool : Pool) (hands : List Hand) : Type 0 where
   pub many : length hands ≡ hands_in pool
-  pub each : All (IsOf pool) hands
+  pub each : All (IsOfPool pool) hands
   pub once : (number : ℕ) → number < hands_in pool
       → sum_by (λ h. count_if number h.number) hands ≡ 1

@@ -8,7 +8,7 @@ use Rattle.crossbeam_deque.specs.Handles.{view, worker_deque, worker_flavor, wor
 use Rattle.crossbeam_deque.specs.declared.handles.Worker.{Worker}
 use Rattle.ocr_steal.specs.declared.account.Account.{Account}
 use Rattle.ocr_steal.specs.Deque.{all_parts}
-use Rattle.ocr_steal.specs.Parts.{ArePasses, IsIdle, IsOwner, Known, Name, deques_of_passes}
+use Rattle.ocr_steal.specs.Parts.{ArePasses, IsIdlePass, IsOwner, Known, Name, deques_of_passes}
 
 -- 1 for this number, and 0 for any other
 abbrev pub count_if : ℕ → ℕ → ℕ
@@ -49,7 +49,7 @@ pub record IsPlaced {P : Type 0} (names : List Name) (o : ℕ × Worker ℕ Glob
 -- the passes of a hand: one of each deque of the pool
 pub record IsRow (names : List Name) (ps : List Known) : Type 0 where
   pub deques : deques_of_passes ps ≡ names
-  pub idle : All IsIdle ps
+  pub idle : All IsIdlePass ps
 
 -- the same, each with its part
 pub record IsFullRow (names : List Name) (ps : List Known) : Type 0 where

@@ -21,9 +21,9 @@ pub struct Account {
 pub struct Deque;
 
 impl Protocol<Guid, Account> for Deque {
-    ghost use Rattle.ocr_steal.specs.Deque.{all_parts, newcomer, Keeps};
+    ghost use Rattle.ocr_steal.specs.Deque.{all_parts, newcomer, IsDequeState};
 
-    ghost holds = { Keeps };
+    ghost holds = { IsDequeState };
 
     ghost first = { newcomer all_parts };
 

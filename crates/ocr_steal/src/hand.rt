@@ -9,9 +9,9 @@ use ocr_guid::Guid;
 pub enum Steal {
     /// This EDT was the first in the victim's deque, and left it.
     Got(Guid),
-    /// The victim's deque was empty.
+    /// Nothing was taken: the rule of the victim's deque has a state in which it is empty.
     Empty,
-    /// Nothing was taken: another hand took an EDT first, or the victim's deque was empty.
+    /// Nothing was taken: another hand took an EDT first, or as for `Empty`.
     Again,
 }
 

@@ -4,8 +4,8 @@
 
 mod account;
 mod bell;
+mod creation;
 mod hand;
-mod making;
 mod moves;
 mod pool;
 mod remainder;

@@ -2,7 +2,7 @@
 ghost use Rattle.std.specs.Prelude.{◌≡◌, ◌≢◌, ◌<◌, ◌≤◌, ◌++◌, [], ◌∷◌, length, OnOk, OnErr, IfNone, IfSome};
 ghost use Rattle.ocr_steal.specs.Deque.{IsFound, TakesFirst};
 ghost use Rattle.ocr_steal.specs.Hand.{own, knows, misses_of, missed, pool_of, room, IsSame, HasNoMisses, IsMissed, OnSteal};
-ghost use Rattle.ocr_steal.specs.Pool.{IsOf, hands_in};
+ghost use Rattle.ocr_steal.specs.Pool.{IsOfPool, hands_in};
 
 use crate::account::{Looks, Pushes, Steals, Takes};
 use crate::hand::{Hand, Steal};
@@ -46,7 +46,8 @@ impl Hand {
         self.own.len_as::<Looks>() > 1
     }
 
-    /// Takes the first EDT of the hand's deque. `None` exactly where the deque was found empty.
+    /// Takes the first EDT of the hand's deque. With `None` the hand is as before, and the rule of the
+    /// deque has a state in which it is empty; no clause tells at which step it was.
     pub fn take(&mut self) -> Option<Guid>
         ensures same { IsSame self.old self.new × (knows self.new ≡ knows self.old) }
         ensures none { IfNone result (IsFound 0 [] (own self.old) × (own self.new ≡ own self.old)
@@ -61,7 +62,7 @@ impl Hand {
 
     /// Takes the first EDT of another hand's deque.
     pub fn steal(&mut self, pool: &Pool, victim: u32) -> Steal
-        requires pool { IsOf pool.now self.old }
+        requires pool { IsOfPool pool.now self.old }
         requires victim { (victim < hands_in pool.now) × (victim ≢ self.old.number) }
         ensures same { IsSame self.old self.new × (own self.new ≡ own self.old) }
         ensures steal { OnSteal result self.old self.new victim }

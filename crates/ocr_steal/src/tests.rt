@@ -1,6 +1,6 @@
 ghost use Rattle.std.specs.Prelude.{◌≡◌, ◌<◌, ℕ, All, IfOk, length, slice_index_or, vec_len};
 ghost use Rattle.ocr_steal.specs.Hand.{pool_of};
-ghost use Rattle.ocr_steal.specs.Pool.{IsOf};
+ghost use Rattle.ocr_steal.specs.Pool.{IsOfPool};
 
 use crate::{Hand, Pool, Steal, gather};
 use ocr_guid::Guid;
@@ -54,7 +54,7 @@ struct Played {
 }
 
 fn rob(pool: &Pool, hand: &mut Hand) -> Option<Guid>
-    requires { IsOf pool.now hand.old }
+    requires { IsOfPool pool.now hand.old }
     ensures { (hand.new.number ≡ hand.old.number) × (pool_of hand.new ≡ pool_of hand.old) }
 {
     for victim in 0..pool.hands() {
@@ -69,7 +69,7 @@ fn rob(pool: &Pool, hand: &mut Hand) -> Option<Guid>
 
 // Pushes as many, and takes or steals after two pushes of three.
 fn play(alloc: Global, pool: &Pool, mut hand: Hand) -> Played
-    requires { IsOf pool.now hand }
+    requires { IsOfPool pool.now hand }
     ensures { (result.hand.number ≡ hand.number) × (pool_of result.hand ≡ pool_of hand) }
 {
     let first = u64::from(hand.number()) * PUSHES + 1;
@@ -99,17 +99,17 @@ fn play_all<R: Threads + Sync>(
     pool: &Pool,
     hands: Vec<Hand>,
 ) -> Result<Vec<Played>, AllocError>
-    requires { All (λ h. IsOf pool.now h) hands.items }
+    requires { All (λ h. IsOfPool pool.now h) hands.items }
     ensures many { IfOk result (λ played. vec_len played ≡ vec_len hands) }
     ensures hands { IfOk result (λ played. (k : ℕ) (p : Played) (h : Hand) → k < length hands.items
         → ((slice_index_or played.items k p).hand.number ≡ (slice_index_or hands.items k h).number)
-        × IsOf pool.now (slice_index_or played.items k p).hand) }
+        × IsOfPool pool.now (slice_index_or played.items k p).hand) }
 {
     thread::map_vec(
         rt,
         hands,
         &|hand: Hand| -> Played
-            requires { IsOf pool.now hand }
+            requires { IsOfPool pool.now hand }
             ensures { (result.hand.number ≡ hand.number) × (pool_of result.hand ≡ pool_of hand) }
         { play(alloc, pool, hand) },
     )

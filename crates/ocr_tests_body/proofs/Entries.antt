@@ -3,15 +3,16 @@ use Rattle.std.proofs.Common.{◌≡◌, ◌<◌, ◌==◌, ℕ, [], length, Boo
 use Rattle.std.proofs.lemmas.Bool.{lt-ltb}
 use Rattle.ocr_acquire.specs.declared.Mode.TheVariants.{Ew}
 use Rattle.ocr_datablock.specs.Lent.{Loan}
-use Rattle.ocr_meaning.specs.Behaviour.{Ends}
-use Rattle.ocr_meaning.specs.Body.{says}
-use Rattle.ocr_meaning.specs.Holds.{Hold, Holds, Access, Refused, Silent, Entered, load_of, store_of, after_store, is_isolated, is_writable}
-use Rattle.ocr_meaning.specs.Meaning.{State, with_holds}
-use Rattle.ocr_meaning.specs.declared.call.BodyStop.TheVariants as stop
-use Rattle.ocr_meaning.specs.declared.call.Call.TheVariants as call
-use Rattle.ocr_meaning.specs.declared.call.BodyStop.{BodyStop}
-use Rattle.ocr_api.specs.Serving.{IsNextWhereEntered, IsAccessStop, IsRefusal, refused_closed, refused_memory}
-use Rattle.ocr_api.proofs.Accesses.{accessed_next}
+use Rattle.ocr_body_meaning.specs.Behaviour.{Ends}
+use Rattle.ocr_body_meaning.specs.Body.{says}
+use Rattle.ocr_body_meaning.specs.Holds.{Hold, Holds, Access, Refused, Silent, Entered, load_of, store_of, after_store}
+use Rattle.ocr_acquire.specs.Mode.{is_isolated, is_writable}
+use Rattle.ocr_body_meaning.specs.Meaning.{State, with_holds}
+use Rattle.ocr_body_meaning.specs.declared.call.BodyStop.TheVariants as stop
+use Rattle.ocr_body_meaning.specs.declared.call.Call.TheVariants as call
+use Rattle.ocr_body_meaning.specs.declared.call.BodyStop.{BodyStop}
+use Rattle.ocr_body_steps.specs.Api.{IsNextWhereEntered, IsAccessStop, IsRefusal, refused_closed, refused_memory}
+use Rattle.ocr_body_steps.proofs.Accesses.{accessed_next}
 use Rattle.ocr_tests_body.specs.Served.{asked_of, body_of, held, hold_of, start_of, lent_hold, shared_hold, IsFitting}
 use Rattle.ocr_tests_body.specs.declared.hold.Access.TheVariants as access
 use Rattle.ocr_tests_body.specs.declared.hold.Hold as kept

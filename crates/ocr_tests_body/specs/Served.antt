@@ -1,15 +1,16 @@
 -- One hold, and the body that makes one load or one store of it.
 use Rattle.std.specs.Prelude.{◌≡◌, ℕ, List, [], ◌∷◌, length, map, true, false, ◌==◌, if◌then◌else◌, Some, None}
-use Rattle.ocr_tree.specs.Tree as tree
-use Rattle.ocr_tree.specs.declared.tree.CallName.TheVariants as name
+use Rattle.ocr_program_tree.specs.Tree as tree
+use Rattle.ocr_program_tree.specs.declared.tree.CallName.TheVariants as name
 use Rattle.ocr_acquire.specs.declared.Mode.{Mode}
 use Rattle.ocr_datablock.specs.Lent.{Loan}
-use Rattle.ocr_meaning.specs.Behaviour.{Asked}
-use Rattle.ocr_meaning.specs.Body.{Body}
-use Rattle.ocr_meaning.specs.Holds as holds
-use Rattle.ocr_meaning.specs.Holds.{Holds, is_isolated}
-use Rattle.ocr_meaning.specs.declared.call.Answer.{Answer}
-use Rattle.ocr_meaning.specs.declared.call.Call.{Call}
+use Rattle.ocr_body_meaning.specs.Behaviour.{Asked}
+use Rattle.ocr_body_meaning.specs.Body.{Body}
+use Rattle.ocr_body_meaning.specs.Holds as holds
+use Rattle.ocr_body_meaning.specs.Holds.{Holds}
+use Rattle.ocr_acquire.specs.Mode.{is_isolated}
+use Rattle.ocr_body_meaning.specs.declared.call.Answer.{Answer}
+use Rattle.ocr_body_meaning.specs.declared.call.Call.{Call}
 use Rattle.ocr_tests_body.specs.declared.hold.Access.{Access}
 use Rattle.ocr_tests_body.specs.declared.hold.Access.TheVariants as access
 use Rattle.ocr_tests_body.specs.declared.hold.Hold.{Hold}

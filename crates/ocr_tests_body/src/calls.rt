@@ -1,5 +1,5 @@
 use ocr_base::{NoMemory, Seq};
-use ocr_meaning::{BodyStop, Call};
+use ocr_body_meaning::{BodyStop, Call};
 
 #[test]
 fn calls_are_the_same_where_all_that_they_name_is(_rt: HostRuntime) {

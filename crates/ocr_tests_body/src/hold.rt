@@ -2,18 +2,19 @@
 // finds. What it holds in `Ew` or `Const` is a loan; what is held otherwise, all share.
 ghost use Rattle.std.specs.Prelude.{◌≡◌, ◌≤◌, ◌<◌, ◌∷◌, ℕ, List, Some, true, false, length, IfOk, OnOk, OnErr, IfErr};
 ghost use Rattle.ocr_base.specs.Count.{Rose};
-ghost use Rattle.ocr_meaning.specs.Behaviour.{Asked};
-ghost use Rattle.ocr_meaning.specs.Holds.{Silent, Entered, load_of, store_of, with_write, is_isolated};
-ghost use Rattle.ocr_meaning.specs.declared.call.Call as body;
-ghost use Rattle.ocr_api.specs.Serving.{IsAccessed, IsAccessStop, answer_with};
+ghost use Rattle.ocr_body_meaning.specs.Behaviour.{Asked};
+ghost use Rattle.ocr_body_meaning.specs.Holds.{Silent, Entered, load_of, store_of, with_write};
+ghost use Rattle.ocr_acquire.specs.Mode.{is_isolated};
+ghost use Rattle.ocr_body_meaning.specs.declared.call.Call as body;
+ghost use Rattle.ocr_body_steps.specs.Api.{IsAccessed, IsAccessStop, answer_with};
 ghost use Rattle.ocr_tests_body.specs.Served.{asked_of, lent_hold, shared_hold};
 
 use ocr_acquire::Mode;
-use ocr_api::Api;
 use ocr_base::NoMemory;
+use ocr_body_meaning::{Answer, BodyStop, Call};
+use ocr_body_steps::Api;
 use ocr_datablock::Lent;
 use ocr_guid::{Code, Guid};
-use ocr_meaning::{Answer, BodyStop, Call};
 use std::alloc::Global;
 
 /// A load of a block's word, or a store of a value in it.

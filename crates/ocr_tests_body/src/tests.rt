@@ -3,10 +3,10 @@ ghost use Rattle.ocr_tests_body.specs.Served.{IsFitting};
 
 use super::*;
 use ocr_acquire::Mode;
-use ocr_api::Api;
+use ocr_body_meaning::BodyStop;
+use ocr_body_steps::Api;
 use ocr_datablock::Block;
 use ocr_guid::Guid;
-use ocr_meaning::BodyStop;
 use std::alloc::Global;
 use std::test::Fail;
 

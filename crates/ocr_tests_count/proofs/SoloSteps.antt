@@ -4,15 +4,15 @@ use Rattle.std.proofs.lemmas.List.{reverse-append}
 use mathlib.Core.Option.{some, some-injective, some-ne-none}
 use lib.ListN.{get_elem?}
 use Rattle.atomic_table.specs.Seated.{TableId}
-use Rattle.ocr_rule.specs.Contract.{Claims, Legal, MayClose, MayCommit, OpensWith, TermsAre, faces}
-use Rattle.ocr_rule.specs.Owing.{times}
-use Rattle.ocr_rule.specs.Steps.{deed}
-use Rattle.ocr_rule.specs.Sums.{is_among, one_at, sum_of, weigh}
-use Rattle.ocr_rule.specs.Units.{one_each}
-use Rattle.ocr_rule.specs.Words.{IsOver}
-use Rattle.ocr_rule.specs.declared.view.Terms.{Terms}
-use Rattle.ocr_rule.specs.declared.view.View.{View}
-use Rattle.ocr_rule.proofs.Totals.{among_append}
+use Rattle.ocr_turns_rule.specs.Contract.{Claims, Legal, MayClose, MayCommit, OpensWith, TermsAre, faces}
+use Rattle.ocr_turns_rule.specs.Debts.{times}
+use Rattle.ocr_turns_rule.specs.Steps.{deed}
+use Rattle.ocr_turns_rule.specs.Sums.{is_among, one_at, sum_of, weigh}
+use Rattle.ocr_turns_rule.specs.Units.{one_each}
+use Rattle.ocr_turns_rule.specs.Words.{IsOver}
+use Rattle.ocr_turns_rule.specs.declared.view.Terms.{Terms}
+use Rattle.ocr_turns_rule.specs.declared.view.View.{View}
+use Rattle.ocr_turns_rule.proofs.Totals.{among_append}
 use Rattle.ocr_tests_count.specs.Solo.{MayFollow, after, before, legal, meaning, part, places, started, state, stops, worked}
 use Rattle.ocr_tests_count.specs.SoloClerks.{Entered, SoloHand}
 use Rattle.ocr_tests_count.specs.declared.solo.Act.{Act}

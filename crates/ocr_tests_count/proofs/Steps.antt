@@ -5,14 +5,14 @@ use Rattle.std.proofs.lemmas.List.{reverse-append}
 use Rattle.std.proofs.lemmas.Option.{same_Some}
 use mathlib.Core.Option.{some, some-injective, some-ne-none}
 use lib.ListN.{get_elem?}
-use Rattle.ocr_rule.specs.Contract.{MayCommit, MayGive, OpensWith, TermsAre, faces}
-use Rattle.ocr_rule.specs.Rule.{FactsOf, PartsOf}
-use Rattle.ocr_rule.specs.Sums.{find, one_at, replace_all, sum_of, weigh}
-use Rattle.ocr_rule.specs.Owing.{times}
-use Rattle.ocr_rule.specs.Units.{one_each}
-use Rattle.ocr_rule.specs.Words.{HasSlot, Waits}
-use Rattle.ocr_rule.specs.declared.view.Terms.{Terms}
-use Rattle.ocr_rule.specs.declared.view.View.{View}
+use Rattle.ocr_turns_rule.specs.Contract.{MayCommit, MayGive, OpensWith, TermsAre, faces}
+use Rattle.ocr_turns_rule.specs.Rule.{FactsOf, PartsOf}
+use Rattle.ocr_turns_rule.specs.Sums.{find, one_at, replace_all, sum_of, weigh}
+use Rattle.ocr_turns_rule.specs.Debts.{times}
+use Rattle.ocr_turns_rule.specs.Units.{one_each}
+use Rattle.ocr_turns_rule.specs.Words.{HasSlot, Waits}
+use Rattle.ocr_turns_rule.specs.declared.view.Terms.{Terms}
+use Rattle.ocr_turns_rule.specs.declared.view.View.{View}
 use Rattle.ocr_tests_count.specs.Laws.{PlaceIf, awaited_is, place_if, slots_are, is_put}
 use Rattle.ocr_tests_count.specs.Toy.{is_waiting, wait_part, IsOpen, IsSetTo, is_made, legal, meaning, part, part_at, payload, slot_part, stands}
 use Rattle.ocr_tests_count.specs.declared.toy.Entry.{Entry}

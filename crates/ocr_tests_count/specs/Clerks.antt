@@ -3,9 +3,9 @@ use Rattle.std.specs.Prelude.{◌≡◌, ◌<◌, ◌≤◌, ◌+◌, ℕ, List,
 use mathlib.Core.Option.{some}
 use lib.ListN.{get_elem?}
 use Rattle.atomic_table.specs.Seated.{TableId}
-use Rattle.ocr_rule.specs.Contract.{IsOf, Known}
-use Rattle.ocr_rule.specs.Sums.{one_at, sum_of}
-use Rattle.ocr_rule.specs.declared.view.Terms.{Terms}
+use Rattle.ocr_turns_rule.specs.Contract.{IsOfTable, Known}
+use Rattle.ocr_turns_rule.specs.Sums.{one_at, sum_of}
+use Rattle.ocr_turns_rule.specs.declared.view.Terms.{Terms}
 use Rattle.ocr_tests_count.specs.declared.toy.Entry.{Entry}
 
 -- a clerk of the toy
@@ -14,7 +14,7 @@ Hand = Known ℕ Entry ℕ ℕ (ℕ × ℕ × ℕ)
 
 -- the clerk keeps nothing, has claimed nothing, and owes the countdown of these slots alone
 pub record Owes (t : TableId × Terms ℕ) (owed : List (ℕ × ℕ × ℕ)) (c : Hand) : Type 0 where
-  pub table : IsOf t c
+  pub table : IsOfTable t c
   pub limit : t.1.limit ≡ 2
   pub hand : c.parts ≡ []
   pub parts : c.view.parts ≡ []
@@ -29,7 +29,7 @@ IsIdle t c = Owes t [] c
 
 -- a clerk that was idle has drawn the EDT's number and keeps the parts of its slots, unmade
 pub record CanMake (t : TableId × Terms ℕ) (old new : Hand) : Type 0 where
-  pub table : IsOf t new
+  pub table : IsOfTable t new
   pub drawn : 1 ≤ sum_of (one_at 2) new.view.drawn
   pub hand : new.parts ≡ (3, Some 0) ∷ (4, Some 0) ∷ []
   pub parts : new.view.parts ≡ (3, 0) ∷ (4, 0) ∷ []
@@ -50,7 +50,7 @@ pub record CanSet (t : TableId × Terms ℕ) (k : ℕ) (c : Hand) : Type 0 where
 
 -- a clerk that has claimed the EDT, knows its payloads, and keeps nothing
 pub record CanWait (t : TableId × Terms ℕ) (x y : ℕ) (c : Hand) : Type 0 where
-  pub table : IsOf t c
+  pub table : IsOfTable t c
   pub limit : t.1.limit ≡ 2
   pub hand : c.parts ≡ []
   pub parts : c.view.parts ≡ []
@@ -62,7 +62,7 @@ pub record CanWait (t : TableId × Terms ℕ) (x y : ℕ) (c : Hand) : Type 0 wh
 
 -- a clerk that let the EDT wait, and has parked it, with a unit to spare
 pub record CanWake (t : TableId × Terms ℕ) (c : Hand) : Type 0 where
-  pub table : IsOf t c
+  pub table : IsOfTable t c
   pub limit : t.1.limit ≡ 2
   pub hand : c.parts ≡ (2, Some 1) ∷ []
   pub parts : c.view.parts ≡ (2, 1) ∷ []

@@ -5,11 +5,11 @@ use Rattle.std.proofs.lemmas.List.{reverse-append, reverse-reverse}
 use mathlib.Core.Logic.{dite}
 use native.Mathlib.Decide.{ℕ_discrete}
 use Rattle.std.proofs.lemmas.Option.{same_Some, some_pair_parts}
-use Rattle.ocr_rule.specs.Counting.{CountingLaws, IsReady, MayCome, awaited, slots_of, payload_of}
-use Rattle.ocr_rule.specs.Meaning.{ArePlaces, IsNewNumber, Lawful}
-use Rattle.ocr_rule.specs.Sums.{is_among, made_sum, one_at, sum_of}
-use Rattle.ocr_rule.proofs.Totals.{made_snoc, one_else, one_most, one_same}
-use Rattle.ocr_rule.specs.declared.view.Terms.{Terms}
+use Rattle.ocr_turns_rule.specs.Counts.{CountingLaws, IsReady, MayCome, awaited, slots_of, payload_of}
+use Rattle.ocr_turns_rule.specs.Meaning.{ArePlaces, IsNewNumber, Lawful}
+use Rattle.ocr_turns_rule.specs.Sums.{is_among, made_sum, one_at, sum_of}
+use Rattle.ocr_turns_rule.proofs.Totals.{made_snoc, one_else, one_most, one_same}
+use Rattle.ocr_turns_rule.specs.declared.view.Terms.{Terms}
 use Rattle.ocr_tests_count.specs.declared.toy.Entry.{Entry}
 use Rattle.ocr_tests_count.specs.declared.toy.Entry.TheVariants.{Make, Set, Wait, Wake}
 use Rattle.ocr_tests_count.specs.Toy.{IsOpen, IsSetTo, MayFollow, MayWait, creates, is_made, is_waiting, makes, resumes, wait_part, waits, legal, meaning, part, part_at, payload, places, slot_at, stands}

@@ -1,7 +1,7 @@
 -- The meaning of the machine with one EDT, which is ready at the opening.
 use Rattle.std.specs.Prelude.{◌≡◌, ◌==◌, ◌&&◌, ℕ, zero, suc, Bool, true, false, if◌then◌else◌, List, [], ◌∷◌, reverse, None}
-use Rattle.ocr_rule.specs.Meaning.{Counting, Meaning}
-use Rattle.ocr_rule.specs.Sums.{one_at, sum_of}
+use Rattle.ocr_turns_rule.specs.Meaning.{Counting, Meaning}
+use Rattle.ocr_turns_rule.specs.Sums.{one_at, sum_of}
 use Rattle.ocr_tests_count.specs.declared.solo.Act.{Act}
 use Rattle.ocr_tests_count.specs.declared.solo.Act.TheVariants.{Start, Work, End, Destroy, Stop}
 

@@ -1,9 +1,9 @@
 -- What the tests ask of a clerk of the machine with one EDT.
 use Rattle.std.specs.Prelude.{◌≡◌, ◌≤◌, ℕ, [], ◌∷◌, Some}
 use Rattle.atomic_table.specs.Seated.{TableId}
-use Rattle.ocr_rule.specs.Contract.{IsOf, Known}
-use Rattle.ocr_rule.specs.Steps.{deed, logged}
-use Rattle.ocr_rule.specs.declared.view.Terms.{Terms}
+use Rattle.ocr_turns_rule.specs.Contract.{IsOfTable, Known}
+use Rattle.ocr_turns_rule.specs.Steps.{deed, logged}
+use Rattle.ocr_turns_rule.specs.declared.view.Terms.{Terms}
 use Rattle.ocr_tests_count.specs.Solo.{after, meaning}
 use Rattle.ocr_tests_count.specs.declared.solo.Act.{Act}
 
@@ -12,7 +12,7 @@ SoloHand = Known ℕ Act ℕ ℕ ℕ
 
 -- a clerk that entered nothing, keeps nothing and has claimed nothing, with so many units to spare
 pub record IsFree (t : TableId × Terms ℕ) (units : ℕ) (c : SoloHand) : Type 0 where
-  pub table : IsOf t c
+  pub table : IsOfTable t c
   pub limit : t.1.limit ≡ 2
   pub share : t.1.share ≡ 16
   pub hand : c.parts ≡ []
@@ -26,7 +26,7 @@ pub record IsFree (t : TableId × Terms ℕ) (units : ℕ) (c : SoloHand) : Type
 
 -- a clerk that has claimed the EDT and keeps its core, in such a state
 pub record HasEdt (t : TableId × Terms ℕ) (state entries units : ℕ) (c : SoloHand) : Type 0 where
-  pub table : IsOf t c
+  pub table : IsOfTable t c
   pub limit : t.1.limit ≡ 2
   pub share : t.1.share ≡ 16
   pub hand : c.parts ≡ (3, Some state) ∷ []
@@ -46,7 +46,7 @@ pub record Entered (t : TableId × Terms ℕ) (e : Act) (old new : SoloHand) : T
 
 -- the clerk has no claim, so many units to spare, and did not end the run
 pub record IsDone (t : TableId × Terms ℕ) (units : ℕ) (c : SoloHand) : Type 0 where
-  pub table : IsOf t c
+  pub table : IsOfTable t c
   pub limit : t.1.limit ≡ 2
   pub claims : c.view.claims ≡ []
   pub spares : c.view.spares ≡ units

@@ -2,11 +2,11 @@
 use Rattle.std.proofs.Common.{◌≡◌, ℕ, zero, suc, ◌+◌, ◌*◌, ◌<◌, ◌≤◌, ◌==◌, ◌⊎◌, ◌||◌, inl, inr, Bool, true, false, if◌then◌else◌, List, [], ◌∷◌, ◌++◌, reverse, ap, sym, ◌∙◌, subst, refl, arith}
 use Rattle.std.specs.Prelude.{Option, Some, None}
 use Rattle.std.proofs.lemmas.List.{reverse-append, reverse-reverse}
-use Rattle.ocr_rule.specs.Counting.{CountingLaws, IsReady, MayCome, awaited, is_ended, is_started, place_or, slots_of, payload_of}
-use Rattle.ocr_rule.specs.Meaning.{ArePlaces, IsBare, Lawful}
-use Rattle.ocr_rule.specs.Sums.{one_at, picked, sum_of}
-use Rattle.ocr_rule.proofs.Totals.{one_most, one_same, picked_append}
-use Rattle.ocr_rule.specs.declared.view.Terms.{Terms}
+use Rattle.ocr_turns_rule.specs.Counts.{CountingLaws, IsReady, MayCome, awaited, is_ended, is_started, place_or, slots_of, payload_of}
+use Rattle.ocr_turns_rule.specs.Meaning.{ArePlaces, IsBare, Lawful}
+use Rattle.ocr_turns_rule.specs.Sums.{one_at, picked, sum_of}
+use Rattle.ocr_turns_rule.proofs.Totals.{one_most, one_same, picked_append}
+use Rattle.ocr_turns_rule.specs.declared.view.Terms.{Terms}
 use Rattle.ocr_tests_count.specs.declared.solo.Act.{Act}
 use Rattle.ocr_tests_count.specs.declared.solo.Act.TheVariants.{Start, Work, End, Destroy, Stop}
 use Rattle.ocr_tests_count.specs.Solo.{heavy, legal, meaning, part, part_at, places, started, state, stops, worked}

@@ -1,7 +1,7 @@
 -- The toy machine's meaning.
 use Rattle.std.specs.Prelude.{◌≡◌, ◌<◌, ◌+◌, ◌==◌, ℕ, Bool, true, false, if◌then◌else◌, List, [], ◌∷◌, reverse, Option, Some, None}
-use Rattle.ocr_rule.specs.Meaning.{Counting, Meaning}
-use Rattle.ocr_rule.specs.Sums.{one_at, sum_of}
+use Rattle.ocr_turns_rule.specs.Meaning.{Counting, Meaning}
+use Rattle.ocr_turns_rule.specs.Sums.{one_at, sum_of}
 use Rattle.ocr_tests_count.specs.declared.toy.Entry.{Entry}
 use Rattle.ocr_tests_count.specs.declared.toy.Entry.TheVariants.{Make, Set, Wait, Wake}
 

@@ -1,6 +1,6 @@
 // The life of the one EDT.
 ghost use Rattle.std.specs.Prelude.{◌≡◌, ◌≤◌, ◌+◌, [], true, false, IfOk};
-ghost use Rattle.ocr_rule.specs.Contract.{IsOf};
+ghost use Rattle.ocr_turns_rule.specs.Contract.{IsOfTable};
 ghost use Rattle.ocr_tests_count.specs.Solo.{before, stops};
 ghost use Rattle.ocr_tests_count.specs.SoloClerks.{Entered, HasEdt, IsDone, IsFree};
 
@@ -105,10 +105,10 @@ pub fn destroy(
 
 /// Ends the run. `false`, where it had ended.
 pub fn stop(turns: &Turns<Solo>, clerk: &mut Clerk<Solo>) -> bool
-    requires table { IsOf turns.now clerk.old }
+    requires table { IsOfTable turns.now clerk.old }
     requires room { 1 ≤ clerk.old.room }
     requires unit { 1 ≤ clerk.old.view.spares }
-    ensures { IsOf turns.now clerk.new }
+    ensures { IsOfTable turns.now clerk.new }
 {
     matches!(turns.close(clerk, Act::Stop, &[]), Committed::At(_))
 }

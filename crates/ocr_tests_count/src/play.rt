@@ -1,6 +1,6 @@
 // What clerks do with the toy's EDT.
 ghost use Rattle.std.specs.Prelude.{◌≡◌, All, true, ◌<◌, ◌≤◌, ◌+◌, ◌++◌, ◌∷◌, [], Some, IfOk, MatchOption};
-ghost use Rattle.ocr_rule.specs.Contract.{IsOf, TermsAre};
+ghost use Rattle.ocr_turns_rule.specs.Contract.{IsOfTable, TermsAre};
 ghost use Rattle.ocr_tests_count.specs.Clerks.{CanMake, CanSet, CanWait, CanWake, IsIdle, Owes};
 
 use crate::toy::{Entry, FILLED, OPEN, SLOTS, Toy, UNMADE, WAITING, WAITS};
@@ -249,7 +249,7 @@ pub fn wait<R: Wait>(
 /// Resumes the EDT.
 pub fn wake(alloc: Global, turns: &Turns<Toy>, clerk: &mut Clerk<Toy>) -> Result<bool, NoMemory>
     requires { CanWake turns.now clerk.old }
-    ensures { IfOk result (λ done. done ≡ true → IsOf turns.now clerk.new) }
+    ensures { IfOk result (λ done. done ≡ true → IsOfTable turns.now clerk.new) }
 {
     let parts = vec![in alloc; (WAITS, 0)]?;
     turns.reserve(alloc, clerk, 0)?;
@@ -275,7 +275,7 @@ pub fn rest<R: Wait>(
     second: u64,
 ) -> Result<Option<u64>, NoMemory>
     requires { CanWait turns.now first second clerk.old }
-    ensures { IfOk result (λ r. MatchOption r (Unit {0}) (λ _. IsOf turns.now clerk.new)) }
+    ensures { IfOk result (λ r. MatchOption r (Unit {0}) (λ _. IsOfTable turns.now clerk.new)) }
 {
     if !wait(rt, alloc, turns, clerk, first, second)? {
         return Ok(None);

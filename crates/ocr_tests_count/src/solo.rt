@@ -3,9 +3,7 @@ ghost use Rattle.std.specs.Prelude.{◌≡◌};
 ghost use Rattle.ocr_tests_count.specs.Solo as solo;
 ghost use Rattle.ocr_tests_count.specs.SoloLaws as laws;
 
-use ocr_base::NoMemory;
 use ocr_turns::Machine;
-use std::alloc::Global;
 
 /// What its history consists of.
 #[derive(Drop)]
@@ -50,22 +48,11 @@ impl Machine for Solo {
         (1, 0)
     }
 
-    fn places(alloc: Global, entry: &Act, _limit: u64) -> Result<Vec<u64>, NoMemory> {
-        match entry {
-            Act::Stop => Ok(Vec::new(alloc)),
-            _ => Ok(vec![in alloc; CORE]?),
-        }
-    }
-
     fn weight(entry: &Act) -> u64 {
         match entry {
             Act::Stop => 0,
             _ => 1,
         }
-    }
-
-    fn ends(entry: &Act) -> bool {
-        matches!(entry, Act::Stop)
     }
 
     fn delivers(_entry: &Act) -> Option<(u64, u32)> {

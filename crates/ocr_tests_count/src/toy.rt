@@ -2,9 +2,7 @@
 ghost use Rattle.ocr_tests_count.specs.Toy as toy;
 ghost use Rattle.ocr_tests_count.specs.Laws as laws;
 
-use ocr_base::NoMemory;
 use ocr_turns::Machine;
-use std::alloc::Global;
 
 /// What the toy's history consists of.
 #[derive(Drop)]
@@ -58,20 +56,8 @@ impl Machine for Toy {
         (1, 0)
     }
 
-    fn places(alloc: Global, entry: &Entry, _limit: u64) -> Result<Vec<u64>, NoMemory> {
-        match entry {
-            Entry::Make => Ok(vec![in alloc; SLOTS, SLOTS + 1]?),
-            Entry::Set { slot, .. } => Ok(vec![in alloc; SLOTS + *slot as u64]?),
-            Entry::Wait | Entry::Wake => Ok(vec![in alloc; WAITS]?),
-        }
-    }
-
     fn weight(_entry: &Entry) -> u64 {
         1
-    }
-
-    fn ends(_entry: &Entry) -> bool {
-        false
     }
 
     fn delivers(_entry: &Entry) -> Option<(u64, u32)> {

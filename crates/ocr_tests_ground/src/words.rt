@@ -1,4 +1,4 @@
-use ocr_words::{Options, Reports, Wanted, WordsStop, command};
+use ocr_run_command::{Options, Reports, Wanted, WordsStop, command};
 use std::alloc::Global;
 use std::test::Fail;
 

@@ -1,8 +1,8 @@
 // Entries written short, as in the text of a journal: first the EDT, then what it acts on.
 use ocr_base::Seq;
+use ocr_body_meaning::{Answer, Call};
 use ocr_guid::{Code, Guid};
-use ocr_history::{Entry, Fault, Message, Stop, What, Writes};
-use ocr_meaning::{Answer, Call};
+use ocr_machine_history::{Entry, Fault, Message, Stop, What, Writes};
 use std::alloc::Global;
 use std::test::Fail;
 

@@ -5,16 +5,16 @@ use crate::lines::Line::{
 };
 use crate::lines::{BOTH, Form, Line, OUTPUT, entry_of};
 use ocr_acquire::Mode;
-use ocr_any_event::{LATCH, event_of};
-use ocr_codes::{decide, delivery_code, footprint, weight};
+use ocr_body_meaning::Call;
+use ocr_event_any::{LATCH, event_of};
 use ocr_finish::Scope;
 use ocr_guid::Code::{Done, Einval, Enoent, Eperm};
 use ocr_guid::Guid;
-use ocr_history::Entry;
 use ocr_machine::{home_of, opening};
-use ocr_meaning::Call;
-use ocr_parts::{BoxedEvent, Part};
-use ocr_table::Table;
+use ocr_machine_codes::{decide, delivery_code, footprint, weight};
+use ocr_machine_history::Entry;
+use ocr_machine_parts::{BoxedEvent, Part};
+use ocr_machine_state::State;
 use ocr_template::Template;
 use std::alloc::Global;
 use std::test::Fail;
@@ -179,8 +179,8 @@ fn the_opening_has_three_parts(rt: HostRuntime) -> Result<(), Fail> {
 }
 
 // A table of the latch, and of a scope whose output event is 4.
-fn table_at_hand(alloc: Global) -> Result<Table, Fail> {
-    let mut table = Table::new(alloc, 10)?;
+fn table_at_hand(alloc: Global) -> Result<State, Fail> {
+    let mut table = State::new(alloc, 10)?;
     let latch = BoxedEvent::new(alloc, event_of(alloc, LATCH, 0, 0))?;
     table.give(vec![in alloc; (3, Part::Event(latch))]?);
     let scope = Scope::new(Guid::NULL, Guid(4));
@@ -189,7 +189,7 @@ fn table_at_hand(alloc: Global) -> Result<Table, Fail> {
 }
 
 // What the table says of the latch's slots and of scopes.
-fn facts_of(table: &Table) -> [bool; 6] {
+fn facts_of(table: &State) -> [bool; 6] {
     [
         table.is_satisfiable(LATCH_EVENT, 1),
         table.is_satisfiable(LATCH_EVENT, 2),
@@ -211,7 +211,7 @@ fn a_table_tells_of_events_and_scopes(rt: HostRuntime) -> Result<(), Fail> {
 #[test]
 fn a_table_opens_with_the_first_edt(rt: HostRuntime) -> Result<(), Fail> {
     let alloc = rt.alloc();
-    let table = Table::opened(alloc, 1, &[7], OBJECTS)?;
+    let table = State::opened(alloc, 1, &[7], OBJECTS)?;
     let first = (Guid(1), Mode::Rw);
     assert!(rt; table.is_full(2));
     assert_eq!(rt; table.plan(alloc, 2)?.as_slice(), [first].as_slice());
@@ -220,13 +220,13 @@ fn a_table_opens_with_the_first_edt(rt: HostRuntime) -> Result<(), Fail> {
     Ok(())
 }
 
-fn first_home(table: &Table) -> Option<Guid> {
+fn first_home(table: &State) -> Option<Guid> {
     table.core(2).map(|core| home_of(core))
 }
 
 #[test]
 fn the_first_edt_has_no_home(rt: HostRuntime) -> Result<(), Fail> {
-    let table = Table::opened(rt.alloc(), 1, &[7], OBJECTS)?;
+    let table = State::opened(rt.alloc(), 1, &[7], OBJECTS)?;
     assert_eq!(rt; table.home(EDT), Guid::NULL);
     assert_eq!(rt; first_home(&table), Some(Guid::NULL));
     let released = Call::DbRelease { block: 3 };

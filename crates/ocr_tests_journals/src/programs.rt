@@ -1,7 +1,7 @@
 // Programs of texts.
-use ocr_check::check;
-use ocr_code::Checked;
+use ocr_body_code::Checked;
 use ocr_program::parse;
+use ocr_program_check::check;
 use ocr_text::tokens;
 use std::alloc::Global;
 use std::test::Fail;

@@ -7,7 +7,7 @@ use crate::lines::{Line, Words};
 use crate::tables::Change::{Doubled, Dropped, Ends, Is, Swapped};
 use crate::tables::{Row, Table, wrong_in, wrong_of};
 use ocr_guid::Code::{Done, Eperm};
-use ocr_history::Fault;
+use ocr_machine_history::Fault;
 use std::alloc::Global;
 use std::test::Fail;
 

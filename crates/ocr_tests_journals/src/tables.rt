@@ -1,7 +1,7 @@
 // Journals as tables of lines, and what replay says of them, as they are and changed.
 use crate::lines::{Line, entries_of};
 use crate::programs::program_of;
-use ocr_code::Checked;
+use ocr_body_code::Checked;
 use ocr_replay::{ReplayStop, replay};
 use std::alloc::Global;
 use std::test::Fail;

@@ -1,5 +1,5 @@
 use crate::sent::{is_sent_to, slot};
-use ocr_any_event::{CHANNEL, IDEM, LATCH, ONCE, STICKY, event_of};
+use ocr_event_any::{CHANNEL, IDEM, LATCH, ONCE, STICKY, event_of};
 use ocr_guid::target::{Linked, Satisfied};
 use ocr_guid::{Code, Guid};
 use std::test::Fail;

@@ -1,7 +1,7 @@
 // Entries in another order, and changed.
+use ocr_body_meaning::{Answer, Call};
 use ocr_guid::Guid;
-use ocr_history::{Entry, Writes};
-use ocr_meaning::{Answer, Call};
+use ocr_machine_history::{Entry, Writes};
 use std::alloc::Global;
 use std::test::Fail;
 

@@ -1,11 +1,11 @@
 // Small programs that end quiet, run again and again.
 use crate::edits::add;
 use crate::runs::{Recording, verdict};
-use ocr_clerks::{Gate, Ocr};
-use ocr_history::Entry;
+use ocr_machine_history::Entry;
 use ocr_tests_journals::program_of;
 use ocr_tests_run::{NO_FAULTS, outcome_at};
 use ocr_turns::Clerk;
+use ocr_worker_clerk::{Gate, Ocr};
 use std::alloc::Global;
 use std::sync::Wait;
 use std::sync::atomic::{AtomicU64, Ordering};

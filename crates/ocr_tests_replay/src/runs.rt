@@ -2,8 +2,8 @@
 ghost use Rattle.std.specs.Prelude.{◌<◌, ◌+◌, ◌^◌, length};
 
 use crate::edits::add;
-use ocr_code::Checked;
-use ocr_history::Entry;
+use ocr_body_code::Checked;
+use ocr_machine_history::Entry;
 use ocr_replay::{ReplayStop, replay};
 use ocr_tests_journals::program_of;
 use ocr_tests_run::run_by;

@@ -3,7 +3,7 @@ use crate::edits::add;
 use crate::journals::CREATIONS;
 use crate::runs::{Recording, are_runs, recording_of, verdict, wanted};
 use ocr_guid::Guid;
-use ocr_history::{Entry, Fault, Stop};
+use ocr_machine_history::{Entry, Fault, Stop};
 use std::alloc::Global;
 use std::test::Fail;
 

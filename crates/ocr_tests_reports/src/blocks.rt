@@ -3,12 +3,12 @@ use Line::{
     Acquire, Block, Depends, Destroy, Edt, End, Free, Print, Release, Set, Shutdown, Stale, Start,
     Template, Wait,
 };
-use ocr_facts::Setting;
 use ocr_guid::Code::Done;
-use ocr_history::Journal;
+use ocr_machine_history::Journal;
 use ocr_replay::replay;
 use ocr_report::blocks_text;
 use ocr_tests_journals::{Line, Words, entries_of, program_of};
+use ocr_worker_machine::Setting;
 use std::alloc::Global;
 use std::test::Fail;
 

@@ -1,10 +1,10 @@
 // Journals with each kind of line, their texts written by hand.
 use ocr_base::Seq;
+use ocr_body_meaning::{Answer, Call};
 use ocr_guid::{Code, Guid};
-use ocr_history::{Entry, Fault, Journal, Message, Stop, What, Writes};
 use ocr_journal::{entry_text, journal_text};
-use ocr_meaning::{Answer, Call};
-use ocr_tree::{Function, Name, Program};
+use ocr_machine_history::{Entry, Fault, Journal, Message, Stop, What, Writes};
+use ocr_program_tree::{Function, Name, Program};
 use std::alloc::Global;
 use std::test::Fail;
 

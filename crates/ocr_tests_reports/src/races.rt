@@ -4,12 +4,12 @@ use Line::{
     Acquire, Block, Depends, Destroy, Edt, End, Event, Free, Load, Satisfies, Set, Start, Store,
     Template, Wait,
 };
-use ocr_facts::Setting;
 use ocr_guid::Code::Done;
-use ocr_history::Journal;
+use ocr_machine_history::Journal;
 use ocr_replay::replay;
 use ocr_report::races_text;
 use ocr_tests_journals::{Line, Words, entries_of, program_of};
+use ocr_worker_machine::Setting;
 use std::alloc::Global;
 use std::test::Fail;
 

@@ -1,8 +1,8 @@
 // A journal with each kind of line of each report, which were written by hand.
 use ocr_base::Seq;
+use ocr_body_meaning::{Answer, Call};
 use ocr_guid::{Code, Guid};
-use ocr_history::{Entry, Journal, Message, Stop, What, Writes};
-use ocr_meaning::{Answer, Call};
+use ocr_machine_history::{Entry, Journal, Message, Stop, What, Writes};
 use ocr_report::{left_text, refused_text, stale_text, summary_text};
 use std::alloc::Global;
 use std::test::Fail;

@@ -1,7 +1,6 @@
 // The top call over sources and sinks in memory.
-use ocr_clerks::{Gate, NoGate};
 use ocr_io::{MemorySink, MemorySource};
-use ocr_run::{Ended, ocr_main};
+use ocr_run::{Ended, Gate, NoGate, ocr_main};
 use std::alloc::Global;
 use std::sync::Wait;
 use std::test::Fail;

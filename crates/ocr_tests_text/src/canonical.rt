@@ -1,6 +1,6 @@
 // Canonical texts.
-use crate::reading::canonical_of;
 use crate::stencil::STENCIL;
+use crate::texts::canonical_of;
 use std::alloc::Global;
 
 const SMALL: &[u8] = b"fn mainEdt{print (1+2)*3;if 0{}else{}}";

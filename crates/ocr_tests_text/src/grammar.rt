@@ -1,7 +1,7 @@
 // What stands between the brackets of a call, and what a symbol is: claims, proved by the contracts
 // alone.
-use ocr_grammar::{ArgumentKind, Lexeme, shape, symbol};
-use ocr_tree::{BinaryOp, CallName};
+use ocr_program_grammar::{ArgumentKind, Lexeme, shape, symbol};
+use ocr_program_tree::{BinaryOp, CallName};
 
 #[test]
 fn a_satisfaction_has_an_event_and_a_payload(_rt: HostRuntime) {

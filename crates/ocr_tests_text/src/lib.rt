@@ -9,12 +9,12 @@ mod editors;
 #[cfg(test)]
 mod grammar;
 #[cfg(test)]
-mod highlighting;
-#[cfg(test)]
-mod reading;
+mod highlights;
 #[cfg(test)]
 mod stencil;
 #[cfg(test)]
 mod stops;
+#[cfg(test)]
+mod texts;
 #[cfg(test)]
 mod tokens;

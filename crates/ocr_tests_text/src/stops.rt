@@ -1,5 +1,5 @@
 // Where texts stop.
-use crate::reading::{Stop, stop_of};
+use crate::texts::{Stop, stop_of};
 use std::alloc::{AllocError, Global};
 
 // A text of a front, a piece that comes a number of times, and an end.

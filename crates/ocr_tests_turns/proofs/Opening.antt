@@ -2,8 +2,8 @@
 use Rattle.std.proofs.Common.{◌≡◌, ℕ, zero, suc, ◌≤◌, List, [], ◌∷◌, ap, sym, subst, refl, arith}
 use mathlib.Core.Option.{some, some-injective, some-ne-none}
 use lib.ListN.{get_elem?}
-use Rattle.ocr_rule.specs.Contract.{OpensWith, TermsAre, faces}
-use Rattle.ocr_rule.specs.declared.view.Terms.{Terms}
+use Rattle.ocr_turns_rule.specs.Contract.{OpensWith, TermsAre, faces}
+use Rattle.ocr_turns_rule.specs.declared.view.Terms.{Terms}
 use Rattle.ocr_tests_turns.specs.Toy.{part, meaning}
 
 zeros : (k p x : ℕ) → get_elem? {A = ℕ × ℕ} ((1, 0) ∷ []) k ≡ some (p, x) → 0 ≡ x

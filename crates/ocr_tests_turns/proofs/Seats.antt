@@ -1,9 +1,9 @@
 -- Clerks of the toy that are made and come home.
 use Rattle.std.proofs.Common.{◌≡◌, ℕ, ◌+◌, ◌-◌, ◌≤◌, [], ap, ◌∙◌, arith}
 use Rattle.atomic_table.specs.Seated.{TableId}
-use Rattle.ocr_rule.specs.Living.{raising}
-use Rattle.ocr_rule.specs.Steps.{fresh_spare, gathered, parted_spare}
-use Rattle.ocr_rule.specs.declared.view.Terms.{Terms}
+use Rattle.ocr_turns_rule.specs.Live.{raising}
+use Rattle.ocr_turns_rule.specs.Steps.{fresh_spare, gathered, parted_spare}
+use Rattle.ocr_turns_rule.specs.declared.view.Terms.{Terms}
 use Rattle.ocr_tests_turns.specs.Clerks.{Hand, HasUnit, IsIdle, IsRoot}
 
 pub hired : (t : TableId × Terms ℕ) (root clerk : Hand) (n : ℕ) → IsRoot t root n → clerk.table ≡ root.table → clerk.view ≡ fresh_spare root.view → clerk.parts ≡ [] → 1 ≤ clerk.room → 64 ≤ clerk.spare → IsIdle t clerk

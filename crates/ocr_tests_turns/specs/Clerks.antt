@@ -1,13 +1,13 @@
 -- What the tests ask of a clerk.
 use Rattle.std.specs.Prelude.{◌≡◌, ◌≤◌, ◌+◌, ◌++◌, ◌∷◌, ℕ, List, [], length, Option}
 use Rattle.atomic_table.specs.Seated.{TableId}
-use Rattle.ocr_mail.specs.Mail.{tally, without}
-use Rattle.ocr_rule.specs.Contract.{IsOf, Known}
-use Rattle.ocr_rule.specs.Meaning.{Run}
-use Rattle.ocr_rule.specs.Rule.{LogsOf}
-use Rattle.ocr_rule.specs.Sums.{below, weigh_all}
-use Rattle.ocr_rule.specs.Units.{one_each}
-use Rattle.ocr_rule.specs.declared.view.Terms.{Terms}
+use Rattle.ocr_base.specs.Mail.{tally, without}
+use Rattle.ocr_turns_rule.specs.Contract.{IsOfTable, Known}
+use Rattle.ocr_turns_rule.specs.Meaning.{Run}
+use Rattle.ocr_turns_rule.specs.Rule.{LogsOf}
+use Rattle.ocr_turns_rule.specs.Sums.{below, weigh_all}
+use Rattle.ocr_turns_rule.specs.Units.{one_each}
+use Rattle.ocr_turns_rule.specs.declared.view.Terms.{Terms}
 use Rattle.ocr_tests_turns.specs.declared.toy.Entry.{Entry}
 use Rattle.ocr_tests_turns.specs.Toy.{legal}
 
@@ -17,7 +17,7 @@ Hand = Known ℕ Entry ℕ ℕ ℕ
 
 -- the clerk is of the table, and not the root
 abbrev pub IsOut : TableId × Terms ℕ → Hand → Type 0
-IsOut t c = IsOf t c × (c.view.root ≡ 0)
+IsOut t c = IsOfTable t c × (c.view.root ≡ 0)
 
 -- the table has the places that the tests use; the clerk keeps nothing and has claimed nothing,
 -- there is room for a part and for a last entry, and it has a unit to spare or owes a message
@@ -42,7 +42,7 @@ pub record Adds (t : TableId × Terms ℕ) (n count : ℕ) (delivered : Option (
 -- the clerk is the root, with so many others out
 pub record IsRoot (t : TableId × Terms ℕ) (c : Hand) (others : ℕ) : Type 0 where
   pub limit : 2 ≤ t.1.limit
-  pub of : IsOf t c
+  pub of : IsOfTable t c
   pub root : c.view.root ≡ 1
   pub out : c.view.out ≡ others
 

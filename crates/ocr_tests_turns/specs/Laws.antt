@@ -1,10 +1,10 @@
 -- The laws of the toy machine.
 use Rattle.std.proofs.Common.{◌≡◌, ℕ, ◌+◌, ◌*◌, ◌≤◌, ◌==◌, sym, subst, Bool, true, false, if◌then◌else◌, List, [], ◌∷◌, ◌++◌, reverse, ap, ◌∙◌, refl, arith}
 use Rattle.std.proofs.lemmas.List.{reverse-append}
-use Rattle.ocr_rule.specs.Counting.{CountingLaws}
-use Rattle.ocr_rule.specs.Meaning.{ArePlaces, IsBare, Lawful}
-use Rattle.ocr_rule.specs.Sums.{one_at, sum_of}
-use Rattle.ocr_rule.proofs.Totals.{one_most, one_same}
+use Rattle.ocr_turns_rule.specs.Counts.{CountingLaws}
+use Rattle.ocr_turns_rule.specs.Meaning.{ArePlaces, IsBare, Lawful}
+use Rattle.ocr_turns_rule.specs.Sums.{one_at, sum_of}
+use Rattle.ocr_turns_rule.proofs.Totals.{one_most, one_same}
 use Rattle.ocr_tests_turns.specs.declared.toy.Entry.{Entry}
 use Rattle.ocr_tests_turns.specs.declared.toy.Entry.TheVariants.{Add, Stop}
 use Rattle.ocr_tests_turns.specs.Toy.{counter_at, heavy, legal, meaning, part, places, stops}

@@ -1,8 +1,8 @@
 // What clerks do with the toy's counters.
 ghost use Rattle.std.specs.Prelude.{◌≡◌, ◌<◌, ◌≤◌, ◌+◌, ◌*◌, [], All, IfNone, IfOk, IfSome, IsTrue, vec_len};
-ghost use Rattle.ocr_mail.specs.Mail as mail;
-ghost use Rattle.ocr_rule.specs.Steps as steps;
-ghost use Rattle.ocr_rule.specs.Contract.{IsOf};
+ghost use Rattle.ocr_base.specs.Mail as mail;
+ghost use Rattle.ocr_turns_rule.specs.Steps as steps;
+ghost use Rattle.ocr_turns_rule.specs.Contract.{IsOfTable};
 ghost use Rattle.ocr_tests_turns.specs.Clerks.{Adds, IsIdle, IsOut};
 
 use crate::toy::{Entry, Toy};

@@ -1,6 +1,6 @@
 // A clerk that owes many messages.
 ghost use Rattle.std.specs.Prelude.{◌≡◌, ◌≤◌, ◌+◌, ℕ, Some, IfSome, IsTrue};
-ghost use Rattle.ocr_mail.specs.Mail as mail;
+ghost use Rattle.ocr_base.specs.Mail as mail;
 ghost use Rattle.ocr_tests_turns.specs.Clerks.{IsIdle, IsOut};
 
 use crate::play::{PLACES, add, owed_message};

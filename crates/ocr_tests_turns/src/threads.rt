@@ -1,6 +1,6 @@
 // Runs of the toy in threads.
 ghost use Rattle.std.specs.Prelude.{◌≡◌, ◌≤◌, ◌<◌, ◌+◌, ◌∷◌, [], All, IfOk, length, map, vec_len};
-ghost use Rattle.ocr_rule.specs.Contract.{TermsAre};
+ghost use Rattle.ocr_turns_rule.specs.Contract.{TermsAre};
 ghost use Rattle.ocr_tests_turns.specs.Clerks.{HasUnit, IsIdle, IsOneRun, IsOut, IsRoot};
 
 use crate::play::{Job, Worked, work_all};

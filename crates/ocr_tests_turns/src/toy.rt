@@ -2,9 +2,7 @@
 ghost use Rattle.ocr_tests_turns.specs.Toy as toy;
 ghost use Rattle.ocr_tests_turns.specs.Laws as laws;
 
-use ocr_base::NoMemory;
 use ocr_turns::Machine;
-use std::alloc::Global;
 
 /// What the toy's history consists of.
 #[derive(Drop)]
@@ -46,22 +44,11 @@ impl Machine for Toy {
         (1, 0)
     }
 
-    fn places(alloc: Global, entry: &Entry, _limit: u64) -> Result<Vec<u64>, NoMemory> {
-        match entry {
-            Entry::Add { place, .. } => Ok(vec![in alloc; *place]?),
-            Entry::Stop => Ok(Vec::new(alloc)),
-        }
-    }
-
     fn weight(entry: &Entry) -> u64 {
         match entry {
             Entry::Add { .. } => 1,
             Entry::Stop => 0,
         }
-    }
-
-    fn ends(entry: &Entry) -> bool {
-        matches!(entry, Entry::Stop)
     }
 
     fn delivers(entry: &Entry) -> Option<(u64, u32)> {

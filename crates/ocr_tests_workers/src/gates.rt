@@ -1,8 +1,8 @@
 // A run that no one worker can do alone: a gate holds whoever is ahead.
-use ocr_clerks::{Gate, Ocr};
-use ocr_codes::weight;
+use ocr_machine_codes::weight;
 use ocr_tests_run::{NO_FAULTS, outcome_at};
 use ocr_turns::Clerk;
+use ocr_worker_clerk::{Gate, Ocr};
 use std::alloc::Global;
 use std::sync::Wait;
 use std::sync::atomic::{AtomicU64, Ordering};

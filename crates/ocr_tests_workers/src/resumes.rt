@@ -1,9 +1,9 @@
 // An EDT that a release lets go on, run by the worker that did not release.
-use ocr_clerks::{Gate, Ocr};
-use ocr_history::Entry;
-use ocr_meaning::Call;
+use ocr_body_meaning::Call;
+use ocr_machine_history::Entry;
 use ocr_tests_run::{NO_FAULTS, outcome_at};
 use ocr_turns::Clerk;
+use ocr_worker_clerk::{Gate, Ocr};
 use std::alloc::Global;
 use std::sync::Wait;
 use std::sync::atomic::{AtomicU64, Ordering};

@@ -1,8 +1,8 @@
 // A worker that slept is there once somebody has an EDT to spare.
-use ocr_clerks::{Gate, Ocr};
-use ocr_history::Entry;
+use ocr_machine_history::Entry;
 use ocr_tests_run::{NO_FAULTS, outcome_at};
 use ocr_turns::Clerk;
+use ocr_worker_clerk::{Gate, Ocr};
 use std::sync::Wait;
 use std::sync::atomic::{AtomicU64, Ordering};
 use std::test::Fail;

@@ -1,7 +1,7 @@
 // How often one worker touches the word that counts all that can still come.
-use ocr_clerks::{Gate, Ocr};
 use ocr_tests_run::{NO_FAULTS, outcome_at};
 use ocr_turns::Clerk;
+use ocr_worker_clerk::{Gate, Ocr};
 use std::alloc::Global;
 use std::sync::Wait;
 use std::sync::atomic::{AtomicU64, Ordering};

@@ -1,7 +1,7 @@
 -- Numbers beside entries.
 use Rattle.std.proofs.Common.{◌≡◌, ℕ, List, [], ◌∷◌, ◌++◌, length, refl, ap, arith}
 use Rattle.std.specs.List.{zip}
-use Rattle.ocr_rule.specs.Sums.{entries, keys}
+use Rattle.ocr_turns_rule.specs.Sums.{entries, keys}
 
 module _ {E : Type 0} where
   pub keys_zip : (ns : List ℕ) (es : List E) → length ns ≡ length es → keys (zip ns es) ≡ ns

@@ -1,12 +1,12 @@
 -- A clerk with another value where one of its parts stood.
 use Rattle.std.proofs.Common.{◌≡◌, ℕ, ◌-◌, ◌∙◌, sym, ap, List, length, Option, Some}
 use Rattle.atomic_table.specs.Table.{Me}
-use Rattle.ocr_rule.specs.Clerks.{IsTrueTo}
-use Rattle.ocr_rule.specs.Contract.{Known}
-use Rattle.ocr_rule.specs.Sums.{find, keys, replace}
-use Rattle.ocr_rule.specs.declared.view.View.{View}
-use Rattle.ocr_rule.proofs.Numbered.{keys_replace}
-use Rattle.ocr_rule.proofs.Opens.{replace_length}
+use Rattle.ocr_turns_rule.specs.Clerks.{IsTrueTo}
+use Rattle.ocr_turns_rule.specs.Contract.{Known}
+use Rattle.ocr_turns_rule.specs.Sums.{find, keys, replace}
+use Rattle.ocr_turns_rule.specs.declared.view.View.{View}
+use Rattle.ocr_turns_rule.proofs.Numbered.{keys_replace}
+use Rattle.ocr_turns_rule.proofs.Opens.{replace_length}
 
 module _ {G E P N F : Type 0} where
   -- what is found in the clerk as it is seen stands in its own list

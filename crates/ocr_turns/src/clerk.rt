@@ -3,19 +3,19 @@ ghost use Rattle.std.specs.Prelude.{◌≡◌, ◌<◌, ◌≤◌, ◌+◌, ℕ,
 ghost use Rattle.std.specs.List.{remove};
 ghost use mathlib.Core.Option.{some};
 ghost use lib.ListN.{get_elem?};
-ghost use Rattle.ocr_rule.specs.Clerks.{IsFirst};
-ghost use Rattle.ocr_rule.specs.Sums.{find, replace};
-ghost use Rattle.ocr_rule.specs.Contract.{SameRoom};
-ghost use Rattle.ocr_rule.specs.Units.{units};
+ghost use Rattle.ocr_turns_rule.specs.Clerks.{IsFirst};
+ghost use Rattle.ocr_turns_rule.specs.Sums.{find, replace};
+ghost use Rattle.ocr_turns_rule.specs.Contract.{SameRoom};
+ghost use Rattle.ocr_turns_rule.specs.Units.{units};
 
 use crate::log::Log;
 use crate::owed::Owed;
 use atomic_table::Seat;
-use ocr_rule::{Machine, View};
+use ocr_turns_rule::{Machine, View};
 use std::marker::Model;
 
 /// The parts that a clerk keeps, by place. `None` stands where a part was lifted.
-pub(crate) type Hand<P> = Vec<(u64, Option<P>)>;
+pub(crate) type Parts<P> = Vec<(u64, Option<P>)>;
 
 /// A clerk of a table: it keeps parts, logs the entries that it makes, and owes the messages that
 /// these sent until it delivers them.
@@ -27,7 +27,7 @@ pub struct Clerk<M: Machine> {
     >,
     pub(crate) log: Log<M::Entry>,
     pub(crate) joined: Vec<Log<M::Entry>>,
-    pub(crate) parts: Hand<M::Part>,
+    pub(crate) parts: Parts<M::Part>,
     pub(crate) owed: Owed<M::Message>,
     pub(crate) weight: u64,
     pub(crate) closed: Option<u64>,
@@ -37,10 +37,10 @@ pub struct Clerk<M: Machine> {
 
 impl<M: Machine> Model for Clerk<M> {
     ghost use Rattle.std.specs.Prelude.{◌≡◌, ◌≤◌, ◌⊎◌, ℕ, List, vec_capacity, ◌-◌, length, map, [], None, MatchOption};
-    ghost use Rattle.ocr_rule.specs.declared.view.View.{View};
+    ghost use Rattle.ocr_turns_rule.specs.declared.view.View.{View};
     ghost use Rattle.atomic_table.specs.Seated.{TableId};
-    ghost use Rattle.ocr_rule.specs.Contract.{Known};
-    ghost use Rattle.ocr_rule.specs.Clerks.{IsTrueTo};
+    ghost use Rattle.ocr_turns_rule.specs.Contract.{Known};
+    ghost use Rattle.ocr_turns_rule.specs.Clerks.{IsTrueTo};
 
     ghost Value = { Known M.Setting M.Entry M.Part M.Message M.Fact };
 
@@ -170,7 +170,7 @@ pub(crate) fn position<P>(parts: &[(u64, Option<P>)], place: u64) -> usize
 }
 
 /// Puts another value where the place first stands, and hands out what stood there.
-pub(crate) fn swap_part<P>(parts: &mut Hand<P>, place: u64, part: Option<P>) -> Option<P>
+pub(crate) fn swap_part<P>(parts: &mut Parts<P>, place: u64, part: Option<P>) -> Option<P>
     requires { (x : Option P) × (find place parts.old.items ≡ Some x) }
     ensures found { find place parts.old.items ≡ Some result }
     ensures replaced { parts.new.items ≡ replace place part parts.old.items }

@@ -1,15 +1,15 @@
 // The end: the logs of all clerks.
 ghost use Rattle.std.specs.Prelude.{◌≡◌, ◌<◌, ◌≤◌, ◌+◌, ◌^◌, map, length, IfOk};
 ghost use Rattle.std.specs.Slots.{IsFull};
-ghost use Rattle.ocr_rule.specs.Sums.{weigh_all};
-ghost use Rattle.ocr_rule.specs.Contract.{Finished, IsOf};
+ghost use Rattle.ocr_turns_rule.specs.Sums.{weigh_all};
+ghost use Rattle.ocr_turns_rule.specs.Contract.{Finished, IsOfTable};
 
 use crate::clerk::Clerk;
 use crate::log::Log;
 use crate::turns::Turns;
 use atomic_table::Closed;
 use ocr_base::NoMemory;
-use ocr_rule::Machine;
+use ocr_turns_rule::Machine;
 use std::alloc::Global;
 use std::marker::Model;
 
@@ -64,7 +64,7 @@ impl<M: Machine> Closing<M> {
 impl<M: Machine> Turns<M> {
     /// All logs, once every other clerk has come home.
     pub fn finish(self, _alloc: Global, root: Clerk<M>) -> Result<Closing<M>, NoMemory>
-        requires table { IsOf self root }
+        requires table { IsOfTable self root }
         requires root { (root.view.root ≡ 1) × (root.view.out ≡ 0) }
         ensures { IfOk result (λ c. (f : Finished M.meaning self.1 root.view c.0)
             × (c.1 ≡ length f.history)) }

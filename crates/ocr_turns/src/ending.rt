@@ -1,20 +1,20 @@
 // Entering an entry that ends the run.
 ghost use Rattle.std.specs.Prelude.{◌≡◌, ◌<◌, ◌≤◌, ◌+◌, None, Some};
-ghost use Rattle.ocr_rule.specs.Steps as steps;
-ghost use Rattle.ocr_rule.specs.Contract.{CloseTells, IsOf, MayClose};
+ghost use Rattle.ocr_turns_rule.specs.Steps as steps;
+ghost use Rattle.ocr_turns_rule.specs.Contract.{CloseTells, IsOfTable, MayClose};
 
 use crate::clerk::Clerk;
 use crate::turns::{COMMIT, ENDED, Turns};
 use atomic_table::Seat;
-use ocr_rule::rule::{Closes, Stops};
-use ocr_rule::{Committed, Machine, View};
+use ocr_turns_rule::rule::{Closes, Stops};
+use ocr_turns_rule::{Committed, Machine, View};
 use std::marker::Brand;
 
 impl<M: Machine> Turns<M> {
     /// Enters an entry that ends the run, by one step, which also tells all clerks so. The clerk
     /// learns facts that stand from then on; only clauses keep these.
     pub fn close(&self, clerk: &mut Clerk<M>, entry: M::Entry, learns: &[M::Fact]) -> Committed
-        requires table { IsOf self.now clerk.old }
+        requires table { IsOfTable self.now clerk.old }
         requires room { 1 ≤ clerk.old.room }
         requires may { clerk.old.view.closed ≡ None → MayClose M.meaning self.now.1 clerk.old.view
             entry learns.now }

@@ -5,22 +5,22 @@
 mod clerk;
 mod closing;
 mod ending;
-mod entering;
-mod entering_at_hand;
-mod giving;
-mod living;
+mod entry;
+mod entry_at_hand;
+mod give;
+mod live;
 mod log;
 mod opening;
 mod owed;
 mod seats;
-mod taking;
+mod take;
 mod turns;
 mod words;
 
 pub use clerk::Clerk;
 pub use closing::{Closing, Remains};
 pub use log::Log;
-pub use ocr_rule::{
+pub use ocr_turns_rule::{
     Change, Committed, Debts, Drawn, LiveStep, Machine, Taken, Terms, View, WordStep, sole_laws,
 };
 pub use owed::Owed;

@@ -1,6 +1,6 @@
 // A log of entries with numbers.
 ghost use Rattle.std.specs.Prelude.{◌≡◌, ◌<◌, ◌≤◌, ◌+◌, ◌-◌, ◌++◌, ◌∷◌, [], ◌↔◌, IsTrue, length, vec_capacity, IfOk, MatchOption};
-ghost use Rattle.ocr_rule.specs.Sums.{entries, keys};
+ghost use Rattle.ocr_turns_rule.specs.Sums.{entries, keys};
 
 use std::alloc::{AllocError, Global};
 use std::marker::Model;

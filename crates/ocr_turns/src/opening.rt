@@ -1,21 +1,21 @@
 // A table at the opening.
-ghost use Rattle.ocr_rule.specs.declared.view.Terms.{Terms};
+ghost use Rattle.ocr_turns_rule.specs.declared.view.Terms.{Terms};
 ghost use Rattle.std.specs.Prelude.{[], ◌≡◌, ◌<◌, ◌≤◌, ◌+◌, ◌*◌, ◌∷◌, ◌++◌, ℕ, Some, replicate, length, vec_len, IfOk};
 ghost use mathlib.Core.Option.{some};
 ghost use lib.ListN.{get_elem?};
-ghost use Rattle.ocr_rule.specs.Steps as steps;
-ghost use Rattle.ocr_rule.specs.Contract.{OpensWith, TermsAre, faces};
-ghost use Rattle.ocr_rule.specs.Beginning.{IsLaidOut, front_words, unmade_words};
-ghost use Rattle.ocr_rule.specs.Openings.{placed};
+ghost use Rattle.ocr_turns_rule.specs.Steps as steps;
+ghost use Rattle.ocr_turns_rule.specs.Contract.{OpensWith, TermsAre, faces};
+ghost use Rattle.ocr_turns_rule.specs.Beginning.{IsLaidOut, front_words, unmade_words};
+ghost use Rattle.ocr_turns_rule.specs.Openings.{placed};
 
 use crate::clerk::Clerk;
 use crate::log::Log;
 use crate::owed::Owed;
-use crate::taking::TURNS;
+use crate::take::TURNS;
 use crate::turns::{DRAW, LIVE, Turns};
 use atomic_table::{Seat, Table};
 use ocr_base::NoMemory;
-use ocr_rule::{Machine, Terms};
+use ocr_turns_rule::{Machine, Terms};
 use std::alloc::{AllocError, Global};
 use std::snapshot::Snapshot;
 

@@ -3,8 +3,8 @@ ghost use Rattle.std.specs.Prelude.{◌≡◌, ◌<◌, ◌≤◌, ◌+◌, ◌+
 ghost use Rattle.std.specs.VecDeque.{deque_capacity};
 ghost use mathlib.Core.Option.{some};
 ghost use lib.ListN.{get_elem?};
-ghost use Rattle.ocr_mail.specs.Mail as mail;
-ghost use Rattle.ocr_rule.specs.Clerks.{IsFirstNamed};
+ghost use Rattle.ocr_base.specs.Mail as mail;
+ghost use Rattle.ocr_turns_rule.specs.Clerks.{IsFirstNamed};
 
 use std::alloc::{AllocError, Global};
 use std::collections::VecDeque;

@@ -1,8 +1,8 @@
 // New clerks, and clerks that come home.
 ghost use Rattle.std.specs.Prelude.{◌≡◌, ◌<◌, ◌≤◌, ◌+◌, ◌++◌, [], length, vec_len, vec_capacity, IfOk, IfErr, OnErr};
-ghost use Rattle.ocr_rule.specs.Steps as steps;
-ghost use Rattle.ocr_rule.specs.Contract.{IsOf, SameHand};
-ghost use Rattle.ocr_rule.specs.Living.{MayLower};
+ghost use Rattle.ocr_turns_rule.specs.Steps as steps;
+ghost use Rattle.ocr_turns_rule.specs.Contract.{IsOfTable, SameHand};
+ghost use Rattle.ocr_turns_rule.specs.Live.{MayLower};
 
 use crate::clerk::Clerk;
 use crate::log::Log;
@@ -10,14 +10,14 @@ use crate::opening::KEPT;
 use crate::owed::Owed;
 use crate::turns::Turns;
 use ocr_base::NoMemory;
-use ocr_rule::Machine;
-use ocr_rule::rule::{Cut, CutSpare};
+use ocr_turns_rule::Machine;
+use ocr_turns_rule::rule::{Cut, CutSpare};
 use std::alloc::{AllocError, AllocFailed, Global};
 
 impl<M: Machine> Turns<M> {
     /// A new clerk, made by the root, with room for 64 parts and for an entry that ends the run.
     pub fn split(&self, alloc: Global, root: &mut Clerk<M>) -> Result<Clerk<M>, NoMemory>
-        requires table { IsOf self.now root.old }
+        requires table { IsOfTable self.now root.old }
         requires root { (root.old.view.root ≡ 1) × (0 < root.old.view.quota) }
         ensures root { IfOk result (λ _. SameHand root.old root.new
             × (root.new.view ≡ steps.parted root.old.view)) }
@@ -44,7 +44,7 @@ impl<M: Machine> Turns<M> {
 
     /// The same, and the new clerk has a spare unit of the root's.
     pub fn split_spare(&self, alloc: Global, root: &mut Clerk<M>) -> Result<Clerk<M>, NoMemory>
-        requires table { IsOf self.now root.old }
+        requires table { IsOfTable self.now root.old }
         requires root { (root.old.view.root ≡ 1) × (0 < root.old.view.quota) }
         requires spare { MayLower root.old.view 1 }
         ensures root { IfOk result (λ _. SameHand root.old root.new
@@ -79,7 +79,7 @@ impl<M: Machine> Turns<M> {
         root: &mut Clerk<M>,
         clerk: Clerk<M>,
     ) -> Result<(), AllocFailed<Clerk<M>>>
-        requires table { IsOf self.now root.old × IsOf self.now clerk }
+        requires table { IsOfTable self.now root.old × IsOfTable self.now clerk }
         requires root { (root.old.view.root ≡ 1) × (clerk.view.root ≡ 0) }
         ensures view { IfOk result (λ _. (root.new.table ≡ root.old.table)
             × (root.new.view ≡ steps.gathered root.old.view clerk.view)) }
@@ -87,6 +87,9 @@ impl<M: Machine> Turns<M> {
             × (root.new.room ≡ root.old.room) × (64 ≤ root.new.spare)) }
         ensures err { IfErr result (λ f. (f.value ≡ clerk) × (root.new.view ≡ root.old.view)
             × (root.new.parts ≡ root.old.parts)) }
+        ensures kept { OnErr result ((root.new.table ≡ root.old.table)
+            × (root.new.room ≡ root.old.room) × (root.old.spare ≤ root.new.spare)
+            × (root.old.space ≤ root.new.space)) }
     {
         let parts = clerk.parts.len() + KEPT;
         let owed = clerk.owed.len();
@@ -131,6 +134,8 @@ fn make_room<L: Drop, P: Drop, N: Drop>(
 ) -> Result<(), AllocError>
     ensures same { (joined.new.items ≡ joined.old.items) × (parts.new.items ≡ parts.old.items)
         × (owed.new.items ≡ owed.old.items) }
+    ensures grows { (vec_capacity parts.old ≤ vec_capacity parts.new)
+        × (owed.old.room ≤ owed.new.room) }
     ensures room { IfOk result (λ _. (vec_len joined.new < vec_capacity joined.new)
         × (length parts.new.items + more_parts ≤ vec_capacity parts.new)
         × (more_owed ≤ owed.new.room)) }

@@ -1,11 +1,11 @@
 // The table, and the calls on its commit word and its draw word that make no entry.
 ghost use Rattle.std.specs.Prelude.{◌≡◌, ◌<◌, ◌≤◌, ◌+◌, ◌^◌, None, Some, MatchOption};
-ghost use Rattle.ocr_rule.specs.Contract.{DrawTells, LookTells, IsOf};
+ghost use Rattle.ocr_turns_rule.specs.Contract.{DrawTells, LookTells, IsOfTable};
 
 use crate::clerk::Clerk;
 use atomic_table::Table;
-use ocr_rule::rule::{Draws, Looks, Rules};
-use ocr_rule::{Drawn, Machine, Terms, View};
+use ocr_turns_rule::rule::{Draws, Looks, Rules};
+use ocr_turns_rule::{Drawn, Machine, Terms, View};
 use std::alloc::Global;
 use std::marker::Model;
 
@@ -34,9 +34,9 @@ pub struct Turns<M: Machine> {
 
 impl<M: Machine> Model for Turns<M> {
     ghost use Rattle.std.specs.Prelude.{◌≡◌, ◌≤◌, ◌+◌};
-    ghost use Rattle.ocr_rule.specs.declared.view.Terms.{Terms};
+    ghost use Rattle.ocr_turns_rule.specs.declared.view.Terms.{Terms};
     ghost use Rattle.atomic_table.specs.Seated.{TableId};
-    ghost use Rattle.ocr_rule.specs.Clerks.{IsLaidFor};
+    ghost use Rattle.ocr_turns_rule.specs.Clerks.{IsLaidFor};
 
     ghost Value = { TableId × Terms M.Setting };
 
@@ -63,7 +63,7 @@ impl<M: Machine> Turns<M> {
     /// The commit word, where the run has ended. A clerk that knows it is answered again without a
     /// step.
     pub fn look(&self, clerk: &mut Clerk<M>) -> Option<u64>
-        requires { IsOf self.now clerk.old }
+        requires { IsOfTable self.now clerk.old }
         ensures { LookTells M.meaning result clerk.old clerk.new }
     {
         if let Some(word) = clerk.closed {
@@ -80,7 +80,7 @@ impl<M: Machine> Turns<M> {
     /// A number for a new object. A clerk that was answered Full is answered so again without a
     /// step.
     pub fn draw(&self, clerk: &mut Clerk<M>) -> Drawn
-        requires { IsOf self.now clerk.old }
+        requires { IsOfTable self.now clerk.old }
         ensures { DrawTells M.meaning self.now.1.limit result clerk.old clerk.new }
     {
         if let Some(count) = clerk.full {

@@ -1,15 +1,15 @@
 // The words that count an EDT's open slots, behind the turn words.
 ghost use Rattle.std.specs.Prelude.{◌≡◌, ◌<◌, ◌≤◌, ◌+◌, ◌*◌, ◌-◌, ◌^◌, Some};
-ghost use Rattle.ocr_rule.specs.Counting.{state_at};
-ghost use Rattle.ocr_rule.specs.Owing.{IsNumber};
-ghost use Rattle.ocr_rule.specs.Words.{FitsSlots, MayStep, StepTells, count_after, steps_word};
-ghost use Rattle.ocr_rule.specs.Contract.{IsOf, SameHand};
+ghost use Rattle.ocr_turns_rule.specs.Counts.{state_at};
+ghost use Rattle.ocr_turns_rule.specs.Debts.{IsNumber};
+ghost use Rattle.ocr_turns_rule.specs.Words.{FitsSlots, MayStep, StepTells, count_after, steps_word};
+ghost use Rattle.ocr_turns_rule.specs.Contract.{IsOfTable, SameHand};
 
 use crate::clerk::Clerk;
-use crate::taking::TURNS;
+use crate::take::TURNS;
 use crate::turns::Turns;
 use atomic_table::{Play, Seat};
-use ocr_rule::{Machine, View, WordStep};
+use ocr_turns_rule::{Machine, View, WordStep};
 use std::marker::{Brand, PhantomData};
 
 /// The words of an EDT that can be claimed, that is claimed, and that waits.
@@ -25,7 +25,7 @@ const UNMADE: u64 = 33;
 // Which step is made, for the proof alone. A call at `Brand` picks it.
 pub(crate) trait Chosen {
     ghost use Rattle.std.specs.Prelude.{Option, ℕ};
-    ghost use Rattle.ocr_rule.specs.declared.words.WordStep.{WordStep};
+    ghost use Rattle.ocr_turns_rule.specs.declared.words.WordStep.{WordStep};
 
     ghost step: { Option (ℕ × WordStep) };
 }
@@ -53,7 +53,7 @@ impl<M: Machine> Turns<M> {
     /// crate `ocr_count` has a call for each step; nothing else uses this.
     #[inline(always)]
     pub fn step_word(&self, clerk: &mut Clerk<M>, edt: u64, step: WordStep) -> u64
-        requires table { IsOf self.now clerk.old }
+        requires table { IsOfTable self.now clerk.old }
         requires may { MayStep M.meaning self.now.1 clerk.old.view edt step }
         ensures hand { SameHand clerk.old clerk.new }
         ensures told { StepTells M.meaning edt step clerk.old.view result clerk.new.view }

@@ -1,15 +1,15 @@
 -- A worker that gave up all its units.
 use Rattle.std.proofs.Common.{◌≡◌, inl, ℕ, List, [], ◌∷◌, Option, refl, sym, ◌∙◌, subst, arith}
 use Rattle.std.specs.Prelude.{MatchOption}
-use Rattle.ocr_clerks.specs.Entering.{OcrKnown}
-use Rattle.ocr_clerks.specs.Work.{HasLeft, IsIdle, IsOwnStop, IsResting, OcrTable, Stays}
-use Rattle.ocr_code.specs.declared.checked.Checked.{Checked}
-use Rattle.ocr_facts.specs.Clerks.{OcrView}
-use Rattle.ocr_history.specs.declared.entry.Stop as run
-use Rattle.ocr_history.specs.declared.entry.What.{What}
-use Rattle.ocr_mail.specs.Mail.{tally}
-use Rattle.ocr_rule.specs.Units.{one_each, units}
-use Rattle.ocr_worker.specs.Leaving.{HasGivenUp, IsWorker}
+use Rattle.ocr_worker_clerk.specs.Entry.{OcrKnown}
+use Rattle.ocr_worker_clerk.specs.Work.{IsAway, IsIdleClerk, IsOwnStop, IsResting, OcrTable, Stays}
+use Rattle.ocr_body_code.specs.declared.checked.Checked.{Checked}
+use Rattle.ocr_worker_machine.specs.Clerks.{OcrView}
+use Rattle.ocr_machine_history.specs.declared.entry.Stop as run
+use Rattle.ocr_machine_history.specs.declared.entry.What.{What}
+use Rattle.ocr_base.specs.Mail.{tally}
+use Rattle.ocr_turns_rule.specs.Units.{one_each, units}
+use Rattle.ocr_worker.specs.Leave.{HasGivenUp, IsWorker}
 
 no_letters : (xs : List (ℕ × ℕ × What)) → tally one_each xs ≡ 0 → xs ≡ []
 no_letters [] none = refl
@@ -19,7 +19,7 @@ no_letters (x ∷ xs) none = absurd (omega (arith, none))
 no_mail : (v : OcrView) → units v ≡ 0 → v.owed ≡ []
 no_mail v none = no_letters v.owed (omega (arith, none))
 
-pub given_up : (table : OcrTable) (program : Checked) (c : OcrKnown) → IsResting table program c → IsIdle c → units c.view ≡ 0 → HasGivenUp table program c
+pub given_up : (table : OcrTable) (program : Checked) (c : OcrKnown) → IsResting table program c → IsIdleClerk c → units c.view ≡ 0 → HasGivenUp table program c
 given_up table program c rests idle none =
     let delivered = no_mail c.view none in record {
       between = record { rests = rests; idle = idle; stake = inl delivered };
@@ -28,7 +28,7 @@ given_up table program c rests idle none =
     }
 
 -- it left nothing behind that is not its own
-pub rested_left : (table : OcrTable) (program : Checked) (worker : ℕ) (c : OcrKnown) → IsResting table program c → HasLeft table worker c
+pub rested_left : (table : OcrTable) (program : Checked) (worker : ℕ) (c : OcrKnown) → IsResting table program c → IsAway table worker c
 rested_left table program worker c rests = record {
   of_table = rests.of_table;
   few = rests.few;

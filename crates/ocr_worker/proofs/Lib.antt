@@ -1,4 +1,9 @@
+pub mod Advances
+pub mod Comings
+pub mod Owed
+pub mod Ended
 pub mod Idle
 pub mod Missed
-pub mod Rounds
+pub mod Searches
 pub mod Still
+pub mod Unchanged

@@ -9,15 +9,15 @@ use Rattle.ocr_steal.specs.declared.hand.Hand.{Hand}
 use Rattle.ocr_steal.specs.declared.pool.Pool.{Pool}
 use Rattle.ocr_steal.specs.Deque.{IsFound, TakesFirst, newcomer}
 use Rattle.ocr_steal.specs.Hand.{Gets, IsMissed, IsSame, known, knows, missed, misses_of, own}
-use Rattle.ocr_steal.specs.Pool.{IsOf, hands_in}
+use Rattle.ocr_steal.specs.Pool.{IsOfPool, hands_in}
 use Rattle.ocr_steal.proofs.Passes.{same_length}
-use Rattle.ocr_worker.specs.Stealing.{HasGot, HasGotNone, HasMissedMore}
+use Rattle.ocr_worker.specs.Steal.{HasGot, HasGotNone, HasMissedMore}
 
-pub of_pool : (pool : Pool) (a b : Hand) → IsSame a b → IsOf pool a → IsOf pool b
+pub of_pool : (pool : Pool) (a b : Hand) → IsSame a b → IsOfPool pool a → IsOfPool pool b
 of_pool pool a b same is = same.pool ∙ is
 
 -- a hand counts the steals from each hand of its pool
-pub long_misses : (pool : Pool) (h : Hand) → IsOf pool h → length (misses_of h) ≡ hands_in pool
+pub long_misses : (pool : Pool) (h : Hand) → IsOfPool pool h → length (misses_of h) ≡ hands_in pool
 long_misses pool h is = h.counted.long ∙ same_length h.passes.items pool.stealers.items is
 
 abbrev pub more : Bool → ℕ → ℕ

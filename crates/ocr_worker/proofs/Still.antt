@@ -2,22 +2,22 @@
 use Rattle.std.proofs.Common.{◌≡◌, ℕ, List, length, refl, sym, ◌∙◌, ap, subst, Option, Some, None, MatchOption, Result, Ok, Err, OnOk}
 use lib.ListN.{get_elem?}
 use Rattle.atomic_table.proofs.Lists.{at_last}
-use Rattle.ocr_advancing.specs.Resting.{HasDelivered, IsAlone, IsAtRest, SeesQuiet}
-use Rattle.ocr_advancing.specs.Working.{IsBetween}
-use Rattle.ocr_clerks.specs.Entering.{OcrKnown}
-use Rattle.ocr_clerks.specs.Work.{OcrTable, Stays}
-use Rattle.ocr_code.specs.declared.checked.Checked.{Checked}
-use Rattle.ocr_drained.specs.Drained.{OwesNothing}
-use Rattle.ocr_drained.proofs.Drained.{pass_law, rest_law}
-use Rattle.ocr_facts.specs.Clerks.{OcrView}
-use Rattle.ocr_facts.specs.Ocr.{meaning}
-use Rattle.ocr_history.specs.declared.entry.Entry.{Entry}
-use Rattle.ocr_rule.specs.Contract.{ClosedBy}
-use Rattle.ocr_rule.specs.Meaning.{Ended, Open}
-use Rattle.ocr_rule.specs.Steps.{SeesEnd, SeesOpen, shut_by}
-use Rattle.ocr_rule.proofs.Sole.{same_end}
-use Rattle.ocr_worker.specs.Leaving.{AllUnready}
-use Rattle.ocr_advancing.proofs.Still.{lone}
+use Rattle.ocr_worker.specs.Debts.{HasDelivered, IsAlone, IsAtRest, SeesQuiet}
+use Rattle.ocr_worker.specs.Progress.{IsBetween}
+use Rattle.ocr_worker_clerk.specs.Entry.{OcrKnown}
+use Rattle.ocr_worker_clerk.specs.Work.{OcrTable, Stays}
+use Rattle.ocr_body_code.specs.declared.checked.Checked.{Checked}
+use Rattle.ocr_worker_machine.specs.Drained.{OwesNothing}
+use Rattle.ocr_worker_machine.proofs.Quiet.{pass_law, rest_law}
+use Rattle.ocr_worker_machine.specs.Clerks.{OcrView}
+use Rattle.ocr_worker_machine.specs.Ocr.{meaning}
+use Rattle.ocr_machine_history.specs.declared.entry.Entry.{Entry}
+use Rattle.ocr_turns_rule.specs.Contract.{ClosedBy}
+use Rattle.ocr_turns_rule.specs.Meaning.{Ended, Open}
+use Rattle.ocr_turns_rule.specs.Steps.{SeesEnd, SeesOpen, shut_by}
+use Rattle.ocr_turns_rule.proofs.Sole.{same_end}
+use Rattle.ocr_worker.specs.Leave.{AllUnready}
+use Rattle.ocr_worker.proofs.Unchanged.{lone}
 
 pub on_ok : {T E : Type 0} (r : Result T E) (P Q : Type 0) → (P → Q) → OnOk r P → OnOk r Q
 on_ok (Ok x) P Q f p = f p

@@ -1,2 +1,4 @@
-pub mod Stealing
-pub mod Leaving
+pub mod Debts
+pub mod Leave
+pub mod Progress
+pub mod Steal

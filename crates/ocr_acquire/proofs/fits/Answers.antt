@@ -1,6 +1,6 @@
 use Rattle.std.proofs.Common.{arith}
 use Rattle.std.proofs.lemmas.Grind.{common_steps}
-use Rattle.ocr_acquire.proofs.Sharing.{fits_all_decides}
+use Rattle.ocr_acquire.proofs.Shares.{fits_all_decides}
 use Rattle.ocr_acquire.proofs.fits.Goals as goal
 
 pub returns-clause-every : goal.returns-clause-every

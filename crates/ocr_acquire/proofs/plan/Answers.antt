@@ -7,7 +7,7 @@ use Rattle.smallvec.proofs.SmallVecLemmas.{items-with_items}
 use Rattle.ocr_acquire.specs.declared.Mode.{Mode}
 use Rattle.ocr_acquire.specs.Plan.{IsPlan, IsWellFormed, asks, plan_of, last_of_each}
 use Rattle.ocr_acquire.proofs.Order.{ascends}
-use Rattle.ocr_acquire.proofs.Sorting.{sorted_plan}
+use Rattle.ocr_acquire.proofs.Sorts.{sorted_plan}
 use Rattle.ocr_acquire.proofs.Laws.{plan_law, given_law}
 use Rattle.ocr_acquire.proofs.plan.Goals as goal
 

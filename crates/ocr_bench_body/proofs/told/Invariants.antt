@@ -1,4 +1,4 @@
-use Rattle.ocr_bench_body.specs.Lending.{AreIsolated}
+use Rattle.ocr_bench_body.specs.Loans.{AreIsolated}
 use Rattle.ocr_bench_body.proofs.told.Given as goal
 
 abbrev pub invariant-loop-i : goal.invariant-loop-i

@@ -1,18 +1,18 @@
 use Rattle.std.proofs.Common.{rules, arith, ◌≡◌, ◌∙◌, sym, ap, subst, ◌+◌, ◌-◌, ◌<◌, ◌≤◌, ◌∷◌, ◌&&◌, suc, List, true, drop}
 use Rattle.std.proofs.lemmas.Grind.{common_steps}
-use Rattle.ocr_meaning.specs.Behaviour.{Behaviour, IsTrace}
-use Rattle.ocr_tree.specs.Tree as tree
-use Rattle.ocr_code.specs.Code.{name_at, statement_at, statements_in, expression_at, is_step_placed, is_placed, are_placed}
-use Rattle.ocr_meaning.specs.Meaning as meaning
-use Rattle.ocr_plain.specs.Local.{state_of, frame_of, numbers_of}
-use Rattle.ocr_meaning.specs.Body.{Body, says, behaviour}
-use Rattle.ocr_api.specs.Serving.{Begins, IsDone}
-use Rattle.ocr_code.specs.declared.code.StmtCode.{StmtCode}
-use Rattle.ocr_code.proofs.Weight.{weight, weights, weight_at}
-use Rattle.ocr_code.proofs.Rows.{if_view, while_view, if_placed, while_placed}
+use Rattle.ocr_body_meaning.specs.Behaviour.{Behaviour, IsTrace}
+use Rattle.ocr_program_tree.specs.Tree as tree
+use Rattle.ocr_body_code.specs.Code.{name_at, statement_at, statements_in, expression_at, is_step_placed, is_placed, are_placed}
+use Rattle.ocr_body_meaning.specs.Meaning as meaning
+use Rattle.ocr_body_steps.specs.Local.{state_of, frame_of, numbers_of}
+use Rattle.ocr_body_meaning.specs.Body.{Body, says, behaviour}
+use Rattle.ocr_body_steps.specs.Api.{Begins, IsDone}
+use Rattle.ocr_body_code.specs.declared.code.StmtCode.{StmtCode}
+use Rattle.ocr_body_code.proofs.Weight.{weight, weights, weight_at}
+use Rattle.ocr_body_code.proofs.Rows.{if_view, while_view, if_placed, while_placed}
 use Rattle.ocr_body.proofs.Statements.{assigned, assigns, chosen, chosen_first, chosen_second, printed, returned, flows_after}
 use Rattle.ocr_body.proofs.Turns.{tested, turn_ends, turn_goes_on, turns_left, flows_along, flowed_on}
-use Rattle.ocr_code.proofs.Sides.{first_of, second_of}
+use Rattle.ocr_body_code.proofs.Sides.{first_of, second_of}
 use Rattle.ocr_body.proofs.walker.+exec.Goals as goal
 
 pub exec-repeat-requires : goal.exec-repeat-requires

@@ -1,9 +1,9 @@
 use Rattle.std.proofs.Common.{◌≡◌, ◌∙◌, refl}
-use Rattle.ocr_meaning.specs.Behaviour.{Ends}
-use Rattle.ocr_code.specs.Checked.{checked_tree}
-use Rattle.ocr_code.specs.Code.{statements_in}
-use Rattle.ocr_tree.specs.Functions.{statements_at}
-use Rattle.ocr_meaning.specs.declared.call.BodyStop.TheVariants as stop
+use Rattle.ocr_body_meaning.specs.Behaviour.{Ends}
+use Rattle.ocr_body_code.specs.Checked.{checked_tree}
+use Rattle.ocr_body_code.specs.Code.{statements_in}
+use Rattle.ocr_program_tree.specs.Functions.{statements_at}
+use Rattle.ocr_body_meaning.specs.declared.call.BodyStop.TheVariants as stop
 use Rattle.ocr_body.proofs.Start.{starts, state_is_fresh}
 use Rattle.ocr_body.proofs.Turns.{flowed_on}
 use Rattle.ocr_body.proofs.walker.walk.Goals as goal

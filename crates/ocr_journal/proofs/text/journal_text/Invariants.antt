@@ -1,6 +1,6 @@
 use Rattle.std.proofs.Common.{◌≡◌, ◌++◌, [], ◌∷◌, codes, length, take}
-use Rattle.ocr_tree.specs.View.{tree_of}
-use Rattle.ocr_history.specs.History.{history_of}
+use Rattle.ocr_program_tree.specs.View.{tree_of}
+use Rattle.ocr_machine_history.specs.History.{history_of}
 use Rattle.ocr_journal.specs.Phrase.{phrase}
 use Rattle.ocr_journal.specs.JournalText.{lines}
 use Rattle.ocr_journal.proofs.text.journal_text.Given as goal

@@ -1,7 +1,7 @@
 use Rattle.std.proofs.Common.{refl, length, ◌+◌, ◌∷◌, []}
 use Rattle.ocr_datablock.specs.Block as block
 use Rattle.ocr_slots.specs.Slots as slot
-use Rattle.ocr_parts.specs.Calls.{link_calls, stores_from}
+use Rattle.ocr_machine_parts.specs.Calls.{link_calls, stores_from}
 use Rattle.ocr_machine.proofs.Arguments.{opened_parts, three_placed}
 use Rattle.ocr_machine.proofs.beginning.opening.Goals as goal
 

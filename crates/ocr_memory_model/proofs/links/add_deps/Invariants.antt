@@ -1,6 +1,6 @@
 use Rattle.std.proofs.Common.{◌≡◌, ◌++◌, ℕ, drop}
 use Rattle.ocr_memory_model.specs.Links.{links_in}
-use Rattle.ocr_order.specs.Makers.{dep_links_at}
+use Rattle.ocr_memory_model_order.specs.Makers.{dep_links_at}
 use Rattle.ocr_memory_model.proofs.links.add_deps.Given as goal
 
 abbrev pub invariant-loop-k : goal.invariant-loop-k

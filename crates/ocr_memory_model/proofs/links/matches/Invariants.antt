@@ -1,6 +1,6 @@
 use Rattle.std.proofs.Common.{◌≡◌, ◌++◌, drop}
 use Rattle.std.specs.List.{zip}
-use Rattle.ocr_order.specs.Makers.{matched}
+use Rattle.ocr_memory_model_order.specs.Makers.{matched}
 use Rattle.ocr_memory_model.proofs.links.matches.Given as goal
 
 abbrev pub invariant-loop-i : goal.invariant-loop-i

@@ -1,8 +1,8 @@
 use Rattle.std.proofs.Common.{◌≡◌, sym, ◌∙◌, ap}
-use Rattle.ocr_parts.specs.Kinds.{mode_on}
-use Rattle.ocr_table.specs.Table.{core_on}
-use Rattle.ocr_order.proofs.Fronts.{some_same}
-use Rattle.ocr_memory_model.proofs.Telling.{ended_is}
+use Rattle.ocr_machine_parts.specs.Kinds.{mode_on}
+use Rattle.ocr_machine_state.specs.State.{core_on}
+use Rattle.ocr_memory_model_order.proofs.Fronts.{some_same}
+use Rattle.ocr_memory_model.proofs.Tells.{ended_is}
 use Rattle.ocr_memory_model.proofs.modes.ended_mode.Goals as goal
 
 pub returns-in-Some : goal.returns-in-Some

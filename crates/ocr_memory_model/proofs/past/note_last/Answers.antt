@@ -1,6 +1,6 @@
 use Rattle.std.proofs.Common.{◌∙◌}
 use Rattle.std.proofs.lemmas.Bool.{ne_eqb}
-use Rattle.ocr_memory_model.proofs.Keeping.{last_more}
+use Rattle.ocr_memory_model.proofs.Keeps.{last_more}
 use Rattle.ocr_memory_model.proofs.past.note_last.Goals as goal
 
 pub returns : goal.returns

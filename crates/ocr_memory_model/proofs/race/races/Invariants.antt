@@ -1,5 +1,5 @@
 use Rattle.std.proofs.Common.{◌≡◌, ◌++◌}
-use Rattle.ocr_history.specs.History.{Setting, history_of}
+use Rattle.ocr_machine_history.specs.History.{Setting, history_of}
 use Rattle.ocr_memory_model.specs.Orders.{Orders}
 use Rattle.ocr_memory_model.specs.Walk.{all_races, races_left, pairs_left}
 use Rattle.ocr_memory_model.proofs.race.races.Given as goal

@@ -1,6 +1,6 @@
 use Rattle.std.proofs.Common.{Option, sym, ◌∙◌, ap}
-use Rattle.ocr_history.specs.declared.entry.Entry.{Entry}
-use Rattle.ocr_order.specs.Makers.{source_of}
+use Rattle.ocr_machine_history.specs.declared.entry.Entry.{Entry}
+use Rattle.ocr_memory_model_order.specs.Makers.{source_of}
 use Rattle.ocr_memory_model.proofs.Entries.{entry_in}
 use Rattle.ocr_memory_model.proofs.sources.source_at.Goals as goal
 

@@ -1,6 +1,6 @@
 use Rattle.std.proofs.Common.{◌≤◌, take}
 use Rattle.std.specs.BTreeMap.{btree_map_len}
-use Rattle.ocr_history.specs.History.{history_of}
+use Rattle.ocr_machine_history.specs.History.{history_of}
 use Rattle.ocr_memory_model.specs.Touches.{AreMarked}
 use Rattle.ocr_memory_model.proofs.touch.marks.Given as goal
 

@@ -1,4 +1,4 @@
-use Rattle.ocr_history.specs.History.{history_of}
+use Rattle.ocr_machine_history.specs.History.{history_of}
 use Rattle.ocr_memory_model.proofs.Marked.{touches_are}
 use Rattle.ocr_memory_model.proofs.touch.touch_list.Goals as goal
 

@@ -1,5 +1,5 @@
 use Rattle.std.proofs.Common.{arith}
-use Rattle.ocr_memory_model.proofs.Racing.{before_told, one_test, back_test}
+use Rattle.ocr_memory_model.proofs.Racers.{before_told, one_test, back_test}
 use Rattle.ocr_memory_model.proofs.walk.is_unordered.Goals as goal
 
 pub returns-then-a-b : goal.returns-then-a-b

@@ -1,5 +1,5 @@
 use Rattle.std.proofs.Common.{◌≡◌, drop}
-use Rattle.ocr_history.specs.History.{Setting, History}
+use Rattle.ocr_machine_history.specs.History.{Setting, History}
 use Rattle.ocr_memory_model.specs.Orders.{Orders}
 use Rattle.ocr_memory_model.specs.Touches.{races_with}
 use Rattle.ocr_memory_model.specs.Walk.{is_before}

@@ -1,6 +1,6 @@
 use Rattle.std.proofs.Common.{◌≡◌, take}
 use Rattle.ocr_report.specs.Blocks.{block_lines}
-use Rattle.ocr_table.specs.Table.{face_on}
+use Rattle.ocr_machine_state.specs.State.{face_on}
 use Rattle.ocr_report.proofs.blocks.block_lines.Given as goal
 
 abbrev pub invariant-loop-block : goal.invariant-loop-block

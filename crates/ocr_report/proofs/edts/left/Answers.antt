@@ -1,7 +1,7 @@
 use Rattle.std.proofs.Common.{◌∙◌, ap, refl}
 use Rattle.std.specs.List.{flat_map}
-use Rattle.ocr_history.specs.Edts.{is_started}
-use Rattle.ocr_history.specs.History.{history_of}
+use Rattle.ocr_machine_history.specs.Edts.{is_started}
+use Rattle.ocr_machine_history.specs.History.{history_of}
 use Rattle.ocr_report.specs.Edts.{kept_if}
 use Rattle.ocr_report.proofs.Unstarted.{same_left}
 use Rattle.ocr_report.proofs.edts.left.Goals as goal

@@ -1,6 +1,6 @@
 use Rattle.std.proofs.Common.{◌≡◌, ◌-◌, ◌++◌, ℕ, suc, subst, take, drop, arith}
-use Rattle.ocr_history.specs.Numbers.{placed}
-use Rattle.ocr_report.proofs.Rising.{placed_behind}
+use Rattle.ocr_machine_history.specs.Numbers.{placed}
+use Rattle.ocr_report.proofs.Ascent.{placed_behind}
 use Rattle.ocr_report.proofs.edts.less_count.Goals as goal
 
 pub returns-then-numbers-count-clause-before : goal.returns-then-numbers-count-clause-before

@@ -1,7 +1,7 @@
 use Rattle.std.proofs.Common.{◌∙◌, ap, sym, length, codes}
-use Rattle.ocr_history.specs.History.{History, history_of}
-use Rattle.ocr_history.specs.Output.{left_edts}
-use Rattle.ocr_parts.specs.Calls.{open_slots}
+use Rattle.ocr_machine_history.specs.History.{History, history_of}
+use Rattle.ocr_machine_history.specs.Output.{left_edts}
+use Rattle.ocr_machine_parts.specs.Calls.{open_slots}
 use Rattle.ocr_report.specs.Headed.{headed}
 use Rattle.ocr_report.specs.Left.{left_lines, left_text}
 use Rattle.ocr_report.specs.Open.{open_in}

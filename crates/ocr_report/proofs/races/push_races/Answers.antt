@@ -1,15 +1,15 @@
 use Rattle.std.proofs.Common.{◌++◌, List, length, Err, sym, ap, ◌∙◌}
 use Rattle.std.proofs.lemmas.List.{length-reverse}
-use Rattle.ocr_facts.specs.Ocr.{setting_of}
-use Rattle.ocr_history.specs.declared.entry.Entry.{Entry}
-use Rattle.ocr_history.specs.History.{history_of}
+use Rattle.ocr_worker_machine.specs.Ocr.{setting_in}
+use Rattle.ocr_machine_history.specs.declared.entry.Entry.{Entry}
+use Rattle.ocr_machine_history.specs.History.{history_of}
 use Rattle.ocr_report.specs.Races.{races_told, races_unknown, told, unknown}
 use Rattle.ocr_report.proofs.RacesText.{few_past, many_past}
 use Rattle.ocr_report.proofs.races.push_races.Goals as goal
 
 pub returns-in_ok-push_told-in-Ok : goal.returns-in_ok-push_told-in-Ok
 returns-in_ok-push_told-in-Ok c =
-    let found = c.in_ok-push_told-in-Ok.ensures (setting_of c.args.setting.now c.args.limit) c.in-Ok.ensures.orders in
+    let found = c.in_ok-push_told-in-Ok.ensures (setting_in c.args.setting.now c.args.limit) c.in-Ok.ensures.orders in
     (races_told found.0, told found.0 (few_past c.args.journal.now (λ many. cc (c.in-Ok.ensures.too_long.1 many))) found.1, found.2)
 
 pub returns-in_ok-push_unknown-in-Err-TooLong : goal.returns-in_ok-push_unknown-in-Err-TooLong

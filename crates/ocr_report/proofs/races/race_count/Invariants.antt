@@ -1,5 +1,5 @@
 use Rattle.std.proofs.Common.{◌≡◌, ◌≤◌, ◌+◌, length}
-use Rattle.ocr_history.specs.History.{Setting, History}
+use Rattle.ocr_machine_history.specs.History.{Setting, History}
 use Rattle.ocr_memory_model.specs.Orders.{Orders}
 use Rattle.ocr_memory_model.specs.Walk.{all_races, first_pair, pairs_left, races_left}
 use Rattle.ocr_report.proofs.races.race_count.Given as goal

@@ -1,6 +1,6 @@
 use Rattle.std.proofs.Common.{◌≡◌, ◌++◌}
 use Rattle.std.specs.List.{flat_map}
-use Rattle.ocr_history.specs.History.{Setting, History}
+use Rattle.ocr_machine_history.specs.History.{Setting, History}
 use Rattle.ocr_memory_model.specs.Orders.{Orders}
 use Rattle.ocr_memory_model.specs.Walk.{all_races, pairs_left, races_left}
 use Rattle.ocr_report.specs.Races.{race_line}

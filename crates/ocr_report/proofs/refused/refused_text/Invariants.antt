@@ -1,5 +1,5 @@
 use Rattle.std.proofs.Common.{◌≡◌, ◌≤◌, take}
-use Rattle.ocr_history.specs.History.{history_of}
+use Rattle.ocr_machine_history.specs.History.{history_of}
 use Rattle.ocr_report.specs.Refused.{refused_count, refused_lines}
 use Rattle.ocr_report.proofs.refused.refused_text.Given as goal
 

@@ -3,7 +3,7 @@ use Rattle.std.specs.Prelude.{Option}
 use Rattle.std.specs.Ordering.{nat_cmp}
 use Rattle.std.specs.BTreeMap.{get}
 use Rattle.ocr_report.specs.declared.slots.Counted.{Counted}
-use Rattle.ocr_report.proofs.Counting.{count_next}
+use Rattle.ocr_report.proofs.Counts.{count_next}
 use Rattle.ocr_report.proofs.slots.count.Goals as goal
 
 pub returns-in_ok-put : goal.returns-in_ok-put

@@ -1,5 +1,5 @@
 use Rattle.std.proofs.Common.{take}
-use Rattle.ocr_history.specs.History.{Setting, history_of}
+use Rattle.ocr_machine_history.specs.History.{Setting, history_of}
 use Rattle.ocr_report.specs.Slots.{AreCounts}
 use Rattle.ocr_report.proofs.slots.counts.Given as goal
 

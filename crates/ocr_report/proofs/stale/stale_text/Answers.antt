@@ -1,8 +1,8 @@
 use Rattle.std.proofs.Common.{◌≡◌, ◌<◌, List, length, take, subst, sym, arith, length-take}
 use Rattle.std.specs.Prelude.{Option}
 use Rattle.std.proofs.lemmas.List.{length-reverse}
-use Rattle.ocr_history.specs.declared.entry.Entry.{Entry}
-use Rattle.ocr_history.specs.History.{History, history_of}
+use Rattle.ocr_machine_history.specs.declared.entry.Entry.{Entry}
+use Rattle.ocr_machine_history.specs.History.{History, history_of}
 use Rattle.ocr_report.specs.Ends.{AreEnds, is_ended}
 use Rattle.ocr_report.specs.Stale.{stale_lines}
 use Rattle.ocr_report.specs.declared.tallies.Tally.{Tally}
@@ -10,7 +10,7 @@ use Rattle.ocr_report.specs.Tallies.{IsCountable, tally_in}
 use Rattle.ocr_report.proofs.Tallied.{ended_law, few_counted}
 use Rattle.ocr_report.proofs.Uses.{lines_next}
 use Rattle.ocr_report.proofs.stale.stale_text.Goals as goal
-use Rattle.ocr_history.proofs.Fronts.{history_next}
+use Rattle.ocr_machine_history.proofs.Fronts.{history_next}
 
 pub loop-entry-preserved : goal.loop-entry-preserved
 loop-entry-preserved c =

@@ -1,5 +1,5 @@
 use Rattle.std.proofs.Common.{◌≡◌, take}
-use Rattle.ocr_history.specs.History.{history_of}
+use Rattle.ocr_machine_history.specs.History.{history_of}
 use Rattle.ocr_report.specs.Ends.{AreEnds}
 use Rattle.ocr_report.specs.Stale.{stale_lines}
 use Rattle.ocr_report.proofs.stale.stale_text.Given as goal

@@ -1,5 +1,5 @@
 use Rattle.std.proofs.Common.{take}
-use Rattle.ocr_history.specs.History.{history_of}
+use Rattle.ocr_machine_history.specs.History.{history_of}
 use Rattle.ocr_report.specs.Edts.{AreMarks}
 use Rattle.ocr_report.proofs.started.started_marks.Given as goal
 

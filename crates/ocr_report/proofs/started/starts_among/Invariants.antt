@@ -1,6 +1,6 @@
 use Rattle.std.proofs.Common.{◌≡◌, take}
-use Rattle.ocr_history.specs.Edts.{is_started}
-use Rattle.ocr_history.specs.History.{history_of}
+use Rattle.ocr_machine_history.specs.Edts.{is_started}
+use Rattle.ocr_machine_history.specs.History.{history_of}
 use Rattle.ocr_report.proofs.started.starts_among.Given as goal
 
 abbrev pub invariant-loop-entry : goal.invariant-loop-entry

@@ -1,5 +1,5 @@
 use Rattle.std.proofs.Common.{◌≡◌, ◌⊎◌, sym, subst}
-use Rattle.ocr_words.specs.declared.wanted.Wanted.{Wanted}
+use Rattle.ocr_run_command.specs.declared.wanted.Wanted.{Wanted}
 use Rattle.ocr_run.specs.Headline.{IsCheck, IsComplete}
 use Rattle.ocr_run.proofs.Told.{weaker_caused, checked_caused, checked_status, none_first, run_silent, checked_silent}
 use Rattle.ocr_run.proofs.top.answer.Goals as goal

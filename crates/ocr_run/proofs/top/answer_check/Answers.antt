@@ -1,7 +1,7 @@
 use Rattle.std.proofs.Common.{sym, subst, codes}
-use Rattle.ocr_execute.specs.ProgramText.{IsNoProgram}
+use Rattle.ocr_run_execution.specs.ProgramText.{IsNoProgram}
 use Rattle.ocr_run.specs.Headline.{want_of_memory}
-use Rattle.ocr_execute.proofs.Texts.{text_law}
+use Rattle.ocr_run_execution.proofs.Texts.{text_law}
 use Rattle.ocr_run.proofs.Told.{weaker_line, line_at}
 use Rattle.ocr_run.proofs.top.answer_check.Goals as goal
 

@@ -1,6 +1,6 @@
 use Rattle.std.proofs.Common.{◌≡◌, ◌⊎◌, codes, subst, sym}
-use Rattle.ocr_words.specs.Form.{texts_of}
-use Rattle.ocr_words.specs.declared.wanted.Wanted.{Wanted}
+use Rattle.ocr_run_command.specs.Form.{texts_of}
+use Rattle.ocr_run_command.specs.declared.wanted.Wanted.{Wanted}
 use Rattle.ocr_run.specs.Headline.{IsComplete, words_refused, want_of_memory}
 use Rattle.ocr_run.proofs.Told.{line_at, servable, headline_of, check_of, asked_of, caused_as, weaker_caused, given_of}
 use Rattle.ocr_run.proofs.top.ocr_main.Goals as goal

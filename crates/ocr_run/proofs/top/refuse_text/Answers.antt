@@ -1,5 +1,5 @@
 use Rattle.std.proofs.Common.{◌≡◌, ◌∙◌, sym, subst, refl, ℕ, List, codes}
-use Rattle.ocr_execute.specs.declared.text.TextFault.{TextFault}
+use Rattle.ocr_run_execution.specs.declared.text.TextFault.{TextFault}
 use Rattle.ocr_run.specs.Headline.{IsLine, text_refused, want_of_memory}
 use Rattle.ocr_run.proofs.Told.{line_at}
 use Rattle.ocr_run.proofs.top.refuse_text.Goals as goal

@@ -1,5 +1,5 @@
 use Rattle.std.proofs.Common.{◌≡◌, ◌≤◌, length, Err, ap, inr, sym, ◌∙◌, codes, subst, refl, ℕ, List}
-use Rattle.ocr_execute.specs.ProgramText.{IsNoProgram, IsProgramText, most_bytes}
+use Rattle.ocr_run_execution.specs.ProgramText.{IsNoProgram, IsProgramText, most_bytes}
 use Rattle.ocr_run.specs.Headline.{IsAllOf, text_too_big, read_fault, want_of_memory}
 use Rattle.ocr_run.proofs.Told.{weaker_line, line_at, all_of, told_bytes, read_as, weaker_caused, none_silent, none_at}
 use Rattle.ocr_run.proofs.top.serve.Goals as goal

@@ -1,6 +1,6 @@
 use Rattle.std.proofs.Common.{◌++◌, ◌∷◌, [], ℕ, List, ap, ◌∙◌, subst, sym, refl, ◌≤◌}
 use lib.ListN.{get_elem?}
-use Rattle.ocr_rule.specs.Owing.{times}
+use Rattle.ocr_turns_rule.specs.Debts.{times}
 use Rattle.ocr_tests_count.proofs.Steps.{Sight, has_drawn, has_slot}
 use Rattle.ocr_tests_count.proofs.play.claim_and_read.Goals as goal
 

@@ -1,7 +1,7 @@
 use Rattle.std.proofs.Common.{◌≡◌, ◌+◌, ◌++◌, ◌∷◌, [], ℕ, List, false, ap, ◌∙◌, arith}
 use Rattle.std.specs.Prelude.{Option, Some}
-use Rattle.ocr_rule.specs.Sums.{as_some}
-use Rattle.ocr_rule.specs.Owing.{without_all}
+use Rattle.ocr_turns_rule.specs.Sums.{as_some}
+use Rattle.ocr_turns_rule.specs.Debts.{without_all}
 use Rattle.ocr_tests_count.proofs.Steps.{Sight, set_may, may_give, found_put, taken}
 use Rattle.ocr_tests_count.proofs.play.fill.Goals as goal
 

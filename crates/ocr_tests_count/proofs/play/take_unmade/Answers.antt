@@ -1,6 +1,6 @@
 use Rattle.std.proofs.Common.{◌≡◌, ◌≤◌, ◌++◌, ◌∷◌, [], ℕ, List, ap, sym, ◌∙◌, subst, arith}
 use Rattle.std.specs.Prelude.{Option, Some}
-use Rattle.ocr_rule.specs.Sums.{one_at, sum_of}
+use Rattle.ocr_turns_rule.specs.Sums.{one_at, sum_of}
 use Rattle.ocr_tests_count.proofs.Steps.{Both, Sight, both_taken, has_drawn}
 use Rattle.ocr_tests_count.proofs.play.take_unmade.Goals as goal
 

@@ -1,7 +1,7 @@
 use Rattle.std.proofs.Common.{◌≡◌, ◌++◌, ◌∷◌, [], ℕ, List, ap, ◌∙◌, arith}
 use Rattle.std.specs.Prelude.{Option, Some}
 use lib.ListN.{get_elem?}
-use Rattle.ocr_rule.specs.Sums.{replace_all}
+use Rattle.ocr_turns_rule.specs.Sums.{replace_all}
 use Rattle.ocr_tests_count.proofs.Steps.{Sight, may_wait, taken, waits_now}
 use Rattle.ocr_tests_count.proofs.play.wait.Goals as goal
 

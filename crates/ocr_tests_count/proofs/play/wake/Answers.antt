@@ -1,5 +1,5 @@
 use Rattle.std.proofs.Common.{◌≤◌, ap, ◌∙◌, arith, refl, subst, sym}
-use Rattle.ocr_rule.specs.Owing.{times}
+use Rattle.ocr_turns_rule.specs.Debts.{times}
 use Rattle.ocr_tests_count.proofs.Steps.{Sight, has_drawn, may_wake}
 use Rattle.ocr_tests_count.proofs.play.wake.Goals as goal
 

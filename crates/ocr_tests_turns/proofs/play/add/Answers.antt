@@ -1,11 +1,11 @@
 use Rattle.std.proofs.Common.{◌∷◌, [], ◌++◌, ℕ, List, ◌≡◌, ◌+◌, ◌≤◌, length, ap, sym, subst, ◌∙◌, arith, rules}
 use Rattle.std.specs.Prelude.{MatchOption, Option, None, Some}
-use Rattle.ocr_mail.specs.Mail.{Has, named, tally, without}
-use Rattle.ocr_rule.specs.Sums.{find, remove_at}
-use Rattle.ocr_rule.specs.Steps.{without_part}
-use Rattle.ocr_rule.specs.Units.{one_each}
+use Rattle.ocr_base.specs.Mail.{Has, named, tally, without}
+use Rattle.ocr_turns_rule.specs.Sums.{find, remove_at}
+use Rattle.ocr_turns_rule.specs.Steps.{without_part}
+use Rattle.ocr_turns_rule.specs.Units.{one_each}
 use Rattle.ocr_tests_turns.specs.Clerks.{IsIdle}
-use Rattle.ocr_tests_turns.proofs.Adding.{may_add, sent_pays, taken_part}
+use Rattle.ocr_tests_turns.proofs.Adds.{may_add, sent_pays, taken_part}
 use Rattle.ocr_tests_turns.proofs.play.add.Goals as goal
 
 pub commit-requires-clause-may : goal.commit-requires-clause-may

@@ -1,5 +1,5 @@
 use Rattle.std.proofs.Common.{ap, arith}
-use Rattle.ocr_tests_turns.proofs.Adding.{may_stop}
+use Rattle.ocr_tests_turns.proofs.Adds.{may_stop}
 use Rattle.ocr_tests_turns.proofs.play.stop.Goals as goal
 
 pub close-requires-clause-may : goal.close-requires-clause-may

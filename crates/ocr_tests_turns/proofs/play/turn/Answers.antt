@@ -1,4 +1,4 @@
-use Rattle.ocr_tests_turns.proofs.Adding.{pays_send}
+use Rattle.ocr_tests_turns.proofs.Adds.{pays_send}
 use Rattle.ocr_tests_turns.proofs.play.turn.Goals as goal
 
 pub add-requires-clause-unit : goal.add-requires-clause-unit

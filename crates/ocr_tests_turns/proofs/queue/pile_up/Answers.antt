@@ -1,7 +1,7 @@
 use Rattle.std.proofs.Common.{arith, subst}
 use Rattle.std.specs.Prelude.{IfSome, None}
 use Rattle.ocr_tests_turns.specs.Clerks.{Adds}
-use Rattle.ocr_tests_turns.proofs.Adding.{has_last, has_more}
+use Rattle.ocr_tests_turns.proofs.Adds.{has_last, has_more}
 use Rattle.ocr_tests_turns.proofs.queue.pile_up.Goals as goal
 
 pub loop-k-preserved : goal.loop-k-preserved

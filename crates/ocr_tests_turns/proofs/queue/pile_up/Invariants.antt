@@ -1,5 +1,5 @@
 use Rattle.std.proofs.Common.{◌≤◌, ◌+◌, ℕ, Some}
-use Rattle.ocr_mail.specs.Mail.{Has}
+use Rattle.ocr_base.specs.Mail.{Has}
 use Rattle.ocr_tests_turns.specs.Clerks.{IsIdle}
 use Rattle.ocr_tests_turns.proofs.queue.pile_up.Given as goal
 

@@ -1,6 +1,6 @@
 use Rattle.std.proofs.Common.{◌∷◌, [], suc, zero, All, ap, sym, subst, ◌∙◌, arith}
 use Rattle.std.proofs.lemmas.List.Elements.{All-append}
-use Rattle.ocr_rule.specs.Steps.{parted_spare}
+use Rattle.ocr_turns_rule.specs.Steps.{parted_spare}
 use Rattle.ocr_tests_turns.specs.Clerks.{IsIdle}
 use Rattle.ocr_tests_turns.specs.declared.play.Job.{Job}
 use Rattle.ocr_tests_turns.proofs.Seats.{hired, hires, raises, stays}

@@ -1,6 +1,6 @@
 use Rattle.std.proofs.Common.{arith, ap, sym, ◌∙◌}
 use Rattle.atomic_table.proofs.Lists.{at_index}
-use Rattle.ocr_rule.proofs.Numbered.{first_at, not_yet, is_first}
+use Rattle.ocr_turns_rule.proofs.Numbered.{first_at, not_yet, is_first}
 use Rattle.ocr_turns.proofs.clerk.position.Goals as goal
 
 pub loop-i-init : goal.loop-i-init

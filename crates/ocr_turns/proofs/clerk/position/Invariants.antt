@@ -1,5 +1,5 @@
 use Rattle.std.proofs.Common.{◌≤◌, ◌-◌, length, Option}
-use Rattle.ocr_rule.proofs.Numbered.{FirstAt}
+use Rattle.ocr_turns_rule.proofs.Numbered.{FirstAt}
 use Rattle.ocr_turns.proofs.clerk.position.Given as goal
 
 abbrev pub invariant-loop-i : goal.invariant-loop-i

@@ -1,8 +1,8 @@
 use Rattle.std.proofs.Common.{sym, ap, subst, arith, ◌∙◌, ◌≡◌, ◌<◌, length, set, Some, Option, ℕ}
 use mathlib.Core.Option.{some-injective}
 use Rattle.atomic_table.proofs.Lists.{at_index}
-use Rattle.ocr_rule.specs.Clerks.{IsFirst}
-use Rattle.ocr_rule.proofs.Numbered.{find_first, set_first}
+use Rattle.ocr_turns_rule.specs.Clerks.{IsFirst}
+use Rattle.ocr_turns_rule.proofs.Numbered.{find_first, set_first}
 use Rattle.ocr_turns.proofs.clerk.swap_part.Goals as goal
 
 pub returns-clause-found : goal.returns-clause-found

@@ -1,6 +1,6 @@
 use Rattle.std.proofs.Common.{ap, arith, ◌≡◌, ◌+◌, length, map, drop, suc, List, [], ◌∷◌, ℕ, refl}
 use Rattle.atomic_table.proofs.Lists.{at_index, drop_at}
-use Rattle.ocr_rule.specs.Sums.{weigh, weigh_all}
+use Rattle.ocr_turns_rule.specs.Sums.{weigh, weigh_all}
 use Rattle.ocr_turns.proofs.closing.count_entries.Goals as goal
 
 count_of : {A : Type 0} (xs : List (ℕ × A)) → weigh (λ _. 1) xs ≡ length xs

@@ -1,5 +1,5 @@
 use Rattle.std.proofs.Common.{◌≡◌, ◌+◌, map, drop}
-use Rattle.ocr_rule.specs.Sums.{weigh_all}
+use Rattle.ocr_turns_rule.specs.Sums.{weigh_all}
 use Rattle.ocr_turns.proofs.closing.count_entries.Given as goal
 
 abbrev pub invariant-loop-i : goal.invariant-loop-i

@@ -1,5 +1,5 @@
 use Rattle.std.specs.Prelude.{◌≡◌, ◌++◌}
-use Rattle.ocr_rule.specs.Beginning.{front_words, unmade_words}
+use Rattle.ocr_turns_rule.specs.Beginning.{front_words, unmade_words}
 use Rattle.ocr_turns.proofs.opening.bare_words.Given as goal
 
 abbrev pub invariant-loop : goal.invariant-loop

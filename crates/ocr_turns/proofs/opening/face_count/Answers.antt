@@ -2,8 +2,8 @@ use Rattle.std.proofs.Common.{◌≡◌, ◌+◌, ◌<◌, ℕ, if◌then◌else
 use Rattle.std.specs.Prelude.{leb}
 use Rattle.std.proofs.lemmas.Bool.{le-leb, lt-leb}
 use Rattle.std.proofs.lemmas.List.{take_more}
-use Rattle.ocr_rule.specs.Contract.{faces}
-use Rattle.ocr_rule.proofs.Totals.{weigh_snoc}
+use Rattle.ocr_turns_rule.specs.Contract.{faces}
+use Rattle.ocr_turns_rule.proofs.Totals.{weigh_snoc}
 use Rattle.ocr_turns.proofs.opening.face_count.Goals.{then-opening-i, else-opening-i}
 use Rattle.ocr_turns.proofs.opening.face_count.Goals as goal
 

@@ -1,5 +1,5 @@
 use Rattle.std.specs.Prelude.{◌≡◌, ◌≤◌, take}
-use Rattle.ocr_rule.specs.Contract.{faces}
+use Rattle.ocr_turns_rule.specs.Contract.{faces}
 use Rattle.ocr_turns.proofs.opening.face_count.Given as goal
 
 abbrev pub invariant-loop-i : goal.invariant-loop-i

@@ -2,7 +2,7 @@ use Rattle.std.proofs.Common.{sym, ap, arith, ◌∙◌, ◌+◌, ◌*◌, lengt
 use Rattle.std.proofs.Math.ListN.{length-set}
 use Rattle.std.proofs.lemmas.List.{length-replicate}
 use lib.ListN.{get_elem?}
-use Rattle.ocr_rule.specs.Openings.{placed}
+use Rattle.ocr_turns_rule.specs.Openings.{placed}
 use Rattle.ocr_turns.proofs.opening.first_parts.Goals as goal
 
 pub loop-place-init : goal.loop-place-init

@@ -2,7 +2,7 @@ use Rattle.std.proofs.Common.{◌≡◌, ◌≤◌, ◌*◌, ◌+◌, length, re
 use mathlib.Core.Option.{some}
 use lib.ListN.{get_elem?}
 use Rattle.std.specs.Vec.Iter.{into_iter_items, into_iter_len}
-use Rattle.ocr_rule.specs.Openings.{placed}
+use Rattle.ocr_turns_rule.specs.Openings.{placed}
 use Rattle.ocr_turns.proofs.opening.first_parts.Given as goal
 
 abbrev pub invariant-loop-place : goal.invariant-loop-place

@@ -1,7 +1,7 @@
 use Rattle.std.proofs.Common.{◌≡◌, ◌+◌, ◌-◌, ◌*◌, length, set, ap, sym, subst, arith}
-use Rattle.ocr_rule.specs.Beginning.{IsLaidOut}
-use Rattle.ocr_rule.specs.Counting.{state_at, payload_at}
-use Rattle.ocr_rule.proofs.Beginning.{laid_out, bare_length}
+use Rattle.ocr_turns_rule.specs.Beginning.{IsLaidOut}
+use Rattle.ocr_turns_rule.specs.Counts.{state_at, payload_at}
+use Rattle.ocr_turns_rule.proofs.Beginning.{laid_out, bare_length}
 use Rattle.ocr_turns.proofs.opening.first_words.Goals as goal
 
 pub index_mut-requires : goal.index_mut-requires

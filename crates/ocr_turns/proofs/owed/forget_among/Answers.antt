@@ -1,6 +1,6 @@
 use Rattle.std.proofs.Common.{◌≡◌, ◌∙◌, ℕ, arith, subst, OnSome, remove}
-use Rattle.ocr_rule.proofs.Numbered.{drop_first}
-use Rattle.ocr_rule.proofs.Totals.{at_less}
+use Rattle.ocr_turns_rule.proofs.Numbered.{drop_first}
+use Rattle.ocr_turns_rule.proofs.Totals.{at_less}
 use Rattle.ocr_turns.proofs.owed.forget_among.Goals as goal
 
 pub returns-clause-items : goal.returns-clause-items

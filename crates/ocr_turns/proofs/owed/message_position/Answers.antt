@@ -2,11 +2,11 @@ use Rattle.std.proofs.Common.{sym, ap, arith, ◌∙◌, ℕ}
 use mathlib.Core.Logic.{dite}
 use mathlib.Core.Option.{some, some-injective}
 use lib.ListN.{get_elem?}
-use Rattle.ocr_mail.specs.Mail.{same_name}
+use Rattle.ocr_base.specs.Mail.{same_name}
 use native.Mathlib.Decide.{ℕ_discrete}
 use Rattle.atomic_table.proofs.Lists.{at_index}
-use Rattle.ocr_rule.proofs.Numbered.{not_named_yet}
-use Rattle.ocr_rule.proofs.Totals.{at_less, named_same}
+use Rattle.ocr_turns_rule.proofs.Numbered.{not_named_yet}
+use Rattle.ocr_turns_rule.proofs.Totals.{at_less, named_same}
 use Rattle.ocr_turns.proofs.owed.message_position.Goals as goal
 
 pub loop-i-init : goal.loop-i-init

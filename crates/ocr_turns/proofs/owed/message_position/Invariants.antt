@@ -1,7 +1,7 @@
 use Rattle.std.proofs.Common.{◌≡◌, ◌≤◌, ◌<◌, ◌-◌, length, false, ℕ}
 use mathlib.Core.Option.{some}
 use lib.ListN.{get_elem?}
-use Rattle.ocr_mail.specs.Mail.{same_name}
+use Rattle.ocr_base.specs.Mail.{same_name}
 use Rattle.ocr_turns.proofs.owed.message_position.Given as goal
 
 abbrev pub invariant-loop-i : goal.invariant-loop-i

@@ -1,14 +1,14 @@
 use Rattle.std.proofs.Common.{◌≡◌, [], reverse, ◌∙◌, ap, subst, arith}
 use Rattle.std.specs.List.{zip}
-use Rattle.ocr_history.specs.History.{history_of}
-use Rattle.ocr_parts.specs.Parts.{Parts}
-use Rattle.ocr_rows.specs.Order.{IsNextRow}
-use Rattle.ocr_order.specs.Causes.{graph_of}
-use Rattle.ocr_order.specs.Makers.{satisfies, matched, matches_of}
-use Rattle.ocr_order.specs.Places.{places}
-use Rattle.ocr_order.proofs.Graphs.{graph_length}
+use Rattle.ocr_machine_history.specs.History.{history_of}
+use Rattle.ocr_machine_parts.specs.Parts.{Parts}
+use Rattle.ocr_memory_model_rows.specs.Order.{IsNextRow}
+use Rattle.ocr_memory_model_order.specs.Causes.{graph_of}
+use Rattle.ocr_memory_model_order.specs.Makers.{satisfies, matched, matches_of}
+use Rattle.ocr_memory_model_order.specs.Places.{places}
+use Rattle.ocr_memory_model_order.proofs.Graphs.{graph_length}
 use Rattle.ocr_memory_model.proofs.Entries.{history_length}
-use Rattle.ocr_memory_model.proofs.Keeping.{matched_low, made_by_all}
+use Rattle.ocr_memory_model.proofs.Keeps.{matched_low, made_by_all}
 use Rattle.ocr_memory_model.proofs.past.Past.deliver_row.Goals as goal
 
 pub join-requires : goal.join-requires

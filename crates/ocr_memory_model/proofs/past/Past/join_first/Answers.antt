@@ -1,12 +1,12 @@
 use Rattle.std.proofs.Common.{◌≡◌, ◌<◌, ◌++◌, [], ◌∷◌, length, ◌∙◌, ap, subst, arith}
 use Rattle.std.specs.Prelude.{slice_get}
-use Rattle.ocr_rows.specs.Order.{IsNextRow}
-use Rattle.ocr_order.specs.Causes.{graph_of}
-use Rattle.ocr_order.specs.Makers.{satisfies, oldest}
-use Rattle.ocr_order.specs.Places.{places}
+use Rattle.ocr_memory_model_rows.specs.Order.{IsNextRow}
+use Rattle.ocr_memory_model_order.specs.Causes.{graph_of}
+use Rattle.ocr_memory_model_order.specs.Makers.{satisfies, oldest}
+use Rattle.ocr_memory_model_order.specs.Places.{places}
 use Rattle.ocr_memory_model.specs.Keys.{some_place}
-use Rattle.ocr_memory_model.proofs.Keeping.{first_is, first_low}
-use Rattle.ocr_order.proofs.Graphs.{graph_length}
+use Rattle.ocr_memory_model.proofs.Keeps.{first_is, first_low}
+use Rattle.ocr_memory_model_order.proofs.Graphs.{graph_length}
 use Rattle.ocr_memory_model.proofs.past.Past.join_first.Goals as goal
 
 pub join-requires : goal.join-requires

@@ -1,9 +1,9 @@
 use Rattle.std.proofs.Common.{◌++◌, sym, ◌∙◌, ap, subst}
-use Rattle.ocr_parts.specs.declared.part.Part.TheVariants as part
-use Rattle.ocr_rows.specs.Order.{IsNextRow}
-use Rattle.ocr_order.specs.Causes.{graph_of}
-use Rattle.ocr_order.specs.Makers.{satisfies, leaves, set_off_with}
-use Rattle.ocr_order.specs.Places.{places}
+use Rattle.ocr_machine_parts.specs.declared.part.Part.TheVariants as part
+use Rattle.ocr_memory_model_rows.specs.Order.{IsNextRow}
+use Rattle.ocr_memory_model_order.specs.Causes.{graph_of}
+use Rattle.ocr_memory_model_order.specs.Makers.{satisfies, leaves, set_off_with}
+use Rattle.ocr_memory_model_order.specs.Places.{places}
 use Rattle.ocr_memory_model.proofs.past.Past.join_set_off.Goals as goal
 
 pub returns-in_ok-join_first-in-Plain : goal.returns-in_ok-join_first-in-Plain

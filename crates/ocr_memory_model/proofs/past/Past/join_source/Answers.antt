@@ -1,8 +1,8 @@
 use Rattle.std.proofs.Common.{◌++◌, sym, ◌∙◌, ap, subst}
-use Rattle.ocr_rows.specs.Order.{IsNextRow}
-use Rattle.ocr_order.specs.Causes.{graph_of}
-use Rattle.ocr_order.specs.Makers.{set_off_with}
-use Rattle.ocr_memory_model.proofs.Keeping.{face_told}
+use Rattle.ocr_memory_model_rows.specs.Order.{IsNextRow}
+use Rattle.ocr_memory_model_order.specs.Causes.{graph_of}
+use Rattle.ocr_memory_model_order.specs.Makers.{set_off_with}
+use Rattle.ocr_memory_model.proofs.Keeps.{face_told}
 use Rattle.ocr_memory_model.proofs.past.Past.join_source.Goals as goal
 
 pub returns-in_ok-join_set_off-in-Some : goal.returns-in_ok-join_set_off-in-Some

@@ -1,14 +1,14 @@
 use Rattle.std.proofs.Common.{◌≡◌, ◌<◌, ◌++◌, ℕ, length, Option, sym, subst, arith}
 use Rattle.std.proofs.lemmas.Result.{IfOk-weaker}
 use Rattle.ocr_acquire.specs.declared.Mode.{Mode}
-use Rattle.ocr_history.specs.declared.entry.Entry.TheVariants.{Deliver, Acquire}
-use Rattle.ocr_history.specs.History.{history_of}
-use Rattle.ocr_parts.specs.Legal.{IsLegal}
-use Rattle.ocr_rows.specs.Order.{IsNextRow}
-use Rattle.ocr_order.specs.Causes.{last_of, causes, starting, ended_for, graph_of}
-use Rattle.ocr_order.specs.Pairs.{acquired_mode}
-use Rattle.ocr_order.specs.Places.{places}
-use Rattle.ocr_order.proofs.Forward.{message_place}
+use Rattle.ocr_machine_history.specs.declared.entry.Entry.TheVariants.{Deliver, Acquire}
+use Rattle.ocr_machine_history.specs.History.{history_of}
+use Rattle.ocr_machine_parts.specs.Legal.{IsLegal}
+use Rattle.ocr_memory_model_rows.specs.Order.{IsNextRow}
+use Rattle.ocr_memory_model_order.specs.Causes.{last_of, causes, starting, ended_for, graph_of}
+use Rattle.ocr_memory_model_order.specs.Pairs.{acquired_mode}
+use Rattle.ocr_memory_model_order.specs.Places.{places}
+use Rattle.ocr_memory_model_order.proofs.Forward.{message_place}
 use Rattle.ocr_memory_model.proofs.Entries.{history_length}
 use Rattle.ocr_memory_model.proofs.past.Past.next_row.Goals as goal
 

@@ -1,10 +1,10 @@
 use Rattle.std.proofs.Common.{◌≡◌, ◌∷◌, length, arith}
-use Rattle.ocr_order.specs.Causes.{causes, ends, isolated_ends, graph_of}
-use Rattle.ocr_order.specs.Makers.{satisfies, leaves}
+use Rattle.ocr_memory_model_order.specs.Causes.{causes, ends, isolated_ends, graph_of}
+use Rattle.ocr_memory_model_order.specs.Makers.{satisfies, leaves}
 use Rattle.ocr_memory_model.specs.Keys.{satisfied_in, left_in, ended_key, isolated_key}
-use Rattle.ocr_order.specs.Places.{places}
-use Rattle.ocr_order.proofs.Graphs.{graph_length}
-use Rattle.ocr_memory_model.proofs.Keeping.{family_in, satisfied_tells, left_tells, ended_tells, isolated_tells}
+use Rattle.ocr_memory_model_order.specs.Places.{places}
+use Rattle.ocr_memory_model_order.proofs.Graphs.{graph_length}
+use Rattle.ocr_memory_model.proofs.Keeps.{family_in, satisfied_tells, left_tells, ended_tells, isolated_tells}
 use Rattle.ocr_memory_model.proofs.past.Past.note.Goals as goal
 
 pub returns : goal.returns

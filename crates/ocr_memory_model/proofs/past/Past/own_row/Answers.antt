@@ -1,9 +1,9 @@
 use Rattle.std.proofs.Common.{◌<◌, [], length, ◌∙◌, ap, subst, arith}
-use Rattle.ocr_rows.specs.Order.{IsNextRow}
-use Rattle.ocr_order.specs.Causes.{graph_of}
+use Rattle.ocr_memory_model_rows.specs.Order.{IsNextRow}
+use Rattle.ocr_memory_model_order.specs.Causes.{graph_of}
 use Rattle.ocr_memory_model.specs.Keys.{some_place}
-use Rattle.ocr_memory_model.proofs.Keeping.{last_low}
-use Rattle.ocr_order.proofs.Graphs.{graph_length}
+use Rattle.ocr_memory_model.proofs.Keeps.{last_low}
+use Rattle.ocr_memory_model_order.proofs.Graphs.{graph_length}
 use Rattle.ocr_memory_model.proofs.past.Past.own_row.Goals as goal
 
 pub join-requires : goal.join-requires

@@ -1,9 +1,9 @@
 use Rattle.std.proofs.Common.{◌++◌, ◌∙◌, subst, arith}
-use Rattle.ocr_rows.specs.Order.{IsNextRow}
-use Rattle.ocr_order.specs.Causes.{graph_of, last_of, starting}
-use Rattle.ocr_order.specs.Places.{places}
-use Rattle.ocr_memory_model.proofs.Keeping.{starting_low, next_turned}
-use Rattle.ocr_order.proofs.Graphs.{graph_length}
+use Rattle.ocr_memory_model_rows.specs.Order.{IsNextRow}
+use Rattle.ocr_memory_model_order.specs.Causes.{graph_of, last_of, starting}
+use Rattle.ocr_memory_model_order.specs.Places.{places}
+use Rattle.ocr_memory_model.proofs.Keeps.{starting_low, next_turned}
+use Rattle.ocr_memory_model_order.proofs.Graphs.{graph_length}
 use Rattle.ocr_memory_model.proofs.past.Past.start_row.Goals as goal
 
 pub join_all-requires : goal.join_all-requires

@@ -4,7 +4,7 @@ use Rattle.ocr_memory_model.specs.declared.touch.Touch.{Touch}
 use Rattle.ocr_memory_model.specs.declared.race.Race.{Race}
 use Rattle.ocr_memory_model.specs.Touches.{race_of}
 use Rattle.ocr_memory_model.specs.Walk.{is_before, races_past, triangle}
-use Rattle.ocr_memory_model.proofs.Walking.{row_done, row_race, fewer_rows, read_is}
+use Rattle.ocr_memory_model.proofs.Walks.{row_done, row_race, fewer_rows, read_is}
 use Rattle.ocr_memory_model.proofs.walk.Touches.next_race.Goals as goal
 
 -- what an index would give where there is nothing

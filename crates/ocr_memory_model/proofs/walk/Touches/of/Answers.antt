@@ -1,13 +1,13 @@
 use Rattle.std.proofs.Common.{length, sym, subst}
-use Rattle.ocr_history.specs.declared.entry.Entry.{Entry}
-use Rattle.ocr_history.specs.History.{History, history_of}
+use Rattle.ocr_machine_history.specs.declared.entry.Entry.{Entry}
+use Rattle.ocr_machine_history.specs.History.{History, history_of}
 use Rattle.ocr_memory_model.specs.declared.race.Race.{Race}
 use Rattle.ocr_memory_model.specs.RaceList.{AreRaces}
 use Rattle.ocr_memory_model.specs.Touches.{AreTouches}
 use Rattle.ocr_memory_model.specs.Walk.{is_before}
 use Rattle.std.specs.Prelude.{List}
-use Rattle.ocr_memory_model.proofs.Racing.{races_told}
-use Rattle.ocr_memory_model.proofs.Walking.{walk_begun, few_pairs}
+use Rattle.ocr_memory_model.proofs.Racers.{races_told}
+use Rattle.ocr_memory_model.proofs.Walks.{walk_begun, few_pairs}
 use Rattle.ocr_memory_model.proofs.walk.Touches.of.Goals as goal
 
 pub returns-clause-races : goal.returns-clause-races

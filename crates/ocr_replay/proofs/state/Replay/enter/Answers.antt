@@ -1,6 +1,6 @@
 use Rattle.std.proofs.Common.{refl, take}
-use Rattle.ocr_history.specs.History.{history_of}
-use Rattle.ocr_replay.proofs.Playing.{coming_legal, can_deliver, entered_next, few_counted}
+use Rattle.ocr_machine_history.specs.History.{history_of}
+use Rattle.ocr_replay.proofs.Plays.{coming_legal, can_deliver, entered_next, few_counted}
 use Rattle.ocr_replay.proofs.state.Replay.enter.Goals as goal
 
 pub enter-requires-clause-before : goal.enter-requires-clause-before

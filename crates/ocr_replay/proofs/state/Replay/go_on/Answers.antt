@@ -1,9 +1,9 @@
 use Rattle.std.proofs.Common.{ℕ, ◌+◌, List, refl, subst, take}
-use Rattle.ocr_code.specs.Checked.{checked_tree}
-use Rattle.ocr_history.specs.declared.entry.Entry.{Entry}
-use Rattle.ocr_history.specs.History.{Setting, history_of}
-use Rattle.ocr_replay.specs.Replaying.{setting_of, IsNext, IsComing, IsEntered, IsStarted}
-use Rattle.ocr_replay.proofs.Playing.{next_of, comes, may_not, said_not, started_of, start_running, next_other, go_start}
+use Rattle.ocr_body_code.specs.Checked.{checked_tree}
+use Rattle.ocr_machine_history.specs.declared.entry.Entry.{Entry}
+use Rattle.ocr_machine_history.specs.History.{Setting, history_of, setting_of}
+use Rattle.ocr_replay.specs.Replay.{IsNext, IsComing, IsEntered, IsStarted}
+use Rattle.ocr_replay.proofs.Plays.{next_of, comes, may_not, said_not, started_of, start_running, next_other, go_start}
 use Rattle.ocr_replay.proofs.state.Replay.go_on.Goals as goal
 
 pub returns-then-not-branch-clause-illegal : goal.returns-then-not-branch-clause-illegal

@@ -1,6 +1,6 @@
 use Rattle.std.proofs.Common.{take}
-use Rattle.ocr_history.specs.History.{history_of}
-use Rattle.ocr_replay.proofs.Playing.{said_call, said_free, said_end, said_delivery}
+use Rattle.ocr_machine_history.specs.History.{history_of}
+use Rattle.ocr_replay.proofs.Plays.{said_call, said_free, said_end, said_delivery}
 use Rattle.ocr_replay.proofs.state.Replay.is_said.Goals as goal
 
 pub returns-in-Call : goal.returns-in-Call

@@ -1,13 +1,13 @@
 use Rattle.std.proofs.Common.{◌≡◌, ℕ, true, arith, rules, subst, sym}
-use Rattle.ocr_history.specs.History.{History, Setting}
-use Rattle.ocr_judge.specs.Cases.{IsFitCore}
-use Rattle.ocr_judge.proofs.Nexts.{following_start}
-use Rattle.ocr_parts.specs.declared.part.Core.{Core}
-use Rattle.ocr_table.specs.Table.{IsOf}
-use Rattle.ocr_parts.specs.Calls.{depv_of}
-use Rattle.ocr_parts.specs.Kinds.{is_running}
-use Rattle.ocr_parts.specs.Parts.{parts_of}
-use Rattle.ocr_replay.proofs.Playing.{next_same, fresh_now, fit_started, small_started, judged_now}
+use Rattle.ocr_machine_history.specs.History.{History, Setting}
+use Rattle.ocr_replay_body.specs.Cases.{IsFitCore}
+use Rattle.ocr_replay_body.proofs.Nexts.{following_start}
+use Rattle.ocr_machine_parts.specs.declared.part.Core.{Core}
+use Rattle.ocr_machine_state.specs.State.{IsStateOf}
+use Rattle.ocr_machine_parts.specs.Calls.{depv_of}
+use Rattle.ocr_machine_parts.specs.Kinds.{is_running}
+use Rattle.ocr_machine_parts.specs.Parts.{parts_of}
+use Rattle.ocr_replay.proofs.Plays.{next_same, fresh_now, fit_started, small_started, judged_now}
 use Rattle.ocr_replay.proofs.state.Replay.judge.Goals as goal
 
 pub verdict_on-requires-clause-following : goal.verdict_on-requires-clause-following
@@ -28,4 +28,4 @@ set_verdict-requires c = omega (arith, small_started c.args.self.now.table c.arg
 pub returns-clause-verdict : goal.returns-clause-verdict
 returns-clause-verdict c = λ s program started.
     judged_now s c.args.front.now c.args.place c.args.edt c.args.self.now c.in-Some-Core.core c.in_ok-deps.deps.items c.in_ok-verdict.verdict c.set_verdict.new.verdicts.items _ started program c.requires.running (search rules)
-    (subst (λ (k : ℕ). (s' : Setting) (past : History) → IsOf s' past c.args.self.now.table → is_running ((parts_of s' past).core k) ≡ true → c.in_ok-deps.deps.items ≡ depv_of s' past k) c.edt.view_is c.in_ok-deps.ensures) (omega (arith, small_started c.args.self.now.table c.args.edt c.requires.running, c.requires.room)) c.set_verdict.ensures (rw (c.deref.ensures.value, c.get.ensures) at c.in_ok-verdict.ensures)
+    (subst (λ (k : ℕ). (s' : Setting) (past : History) → IsStateOf s' past c.args.self.now.table → is_running ((parts_of s' past).core k) ≡ true → c.in_ok-deps.deps.items ≡ depv_of s' past k) c.edt.view_is c.in_ok-deps.ensures) (omega (arith, small_started c.args.self.now.table c.args.edt c.requires.running, c.requires.room)) c.set_verdict.ensures (rw (c.deref.ensures.value, c.get.ensures) at c.in_ok-verdict.ensures)

@@ -1,7 +1,7 @@
 use Rattle.std.proofs.Common.{refl, sym}
-use Rattle.ocr_code.specs.Checked.{checked_tree}
-use Rattle.ocr_replay.specs.Replaying.{setting_of}
-use Rattle.ocr_replay.proofs.Playing.{first_replaying}
+use Rattle.ocr_body_code.specs.Checked.{checked_tree}
+use Rattle.ocr_machine_history.specs.History.{setting_of}
+use Rattle.ocr_replay.proofs.Plays.{first_replaying}
 use Rattle.ocr_replay.proofs.state.Replay.opened.Goals as goal
 
 pub returns-clause-begun : goal.returns-clause-begun

@@ -1,9 +1,9 @@
 use Rattle.std.proofs.Common.{sym, ap, subst, ◌∙◌, ◌≡◌, ◌<◌, arith, length, Some, None, Option, ℕ}
 use mathlib.Core.Option.{some-injective}
 use Rattle.atomic_table.proofs.Lists.{at_index}
-use Rattle.ocr_rule.specs.Clerks.{IsFirst}
-use Rattle.ocr_rule.specs.Sums.{find}
-use Rattle.ocr_rule.proofs.Numbered.{find_first}
+use Rattle.ocr_turns_rule.specs.Clerks.{IsFirst}
+use Rattle.ocr_turns_rule.specs.Sums.{find}
+use Rattle.ocr_turns_rule.proofs.Numbered.{find_first}
 use Rattle.ocr_turns.proofs.clerk.Clerk.part.Goals as goal
 
 pub position-requires : goal.position-requires

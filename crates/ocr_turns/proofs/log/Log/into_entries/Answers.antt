@@ -1,5 +1,5 @@
 use Rattle.std.proofs.Common.{◌∙◌, sym, ap}
-use Rattle.ocr_rule.specs.Sums.{entries}
+use Rattle.ocr_turns_rule.specs.Sums.{entries}
 use Rattle.ocr_turns.proofs.Logs.{entries_zip}
 use Rattle.ocr_turns.proofs.log.Log.into_entries.Goals as goal
 

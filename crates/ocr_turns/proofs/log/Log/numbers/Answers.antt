@@ -1,5 +1,5 @@
 use Rattle.std.proofs.Common.{◌∙◌, sym, ap}
-use Rattle.ocr_rule.specs.Sums.{keys}
+use Rattle.ocr_turns_rule.specs.Sums.{keys}
 use Rattle.ocr_turns.proofs.Logs.{keys_zip}
 use Rattle.ocr_turns.proofs.log.Log.numbers.Goals as goal
 

@@ -1,6 +1,6 @@
 use Rattle.std.proofs.Common.{sym, ap, subst, arith, ◌∙◌, ◌≡◌, ◌+◌, ◌-◌, ◌++◌, ◌∷◌, [], length, length-append, vec_capacity, refl, Some}
-use Rattle.ocr_rule.specs.Steps.{SeesBoth, with_part}
-use Rattle.ocr_rule.proofs.Clerks.{true_same, took_true}
+use Rattle.ocr_turns_rule.specs.Steps.{SeesBoth, SeesOpen, with_part}
+use Rattle.ocr_turns_rule.proofs.Clerks.{true_same, took_true}
 use Rattle.ocr_turns.proofs.turns.Turns.attempt.Goals as goal
 
 pub invariant_of-clerk : goal.invariant_of-clerk
@@ -27,4 +27,5 @@ returns-then-try_take g c =
       spare,
       ap (λ k. k.space) is ∙ room.2,
       subst (λ v. SeesBoth g.M.Machine.meaning v c.try_take.new.seat.me.0) view took.2,
+      subst (λ v. SeesOpen g.M.Machine.meaning v) look.2 look.3,
     )

@@ -1,9 +1,9 @@
 use Rattle.std.proofs.Common.{sym, ap, subst, ◌∙◌, arith, ◌<◌, ◌≤◌, ◌+◌, ◌∷◌, Some, None}
 use Rattle.atomic_table.specs.Table.{rest}
-use Rattle.ocr_rule.specs.Steps.{settles}
-use Rattle.ocr_rule.specs.Sums.{weigh, one_at}
-use Rattle.ocr_rule.proofs.Takes.{allows_settle}
-use Rattle.ocr_rule.proofs.Clerks.{place_fits}
+use Rattle.ocr_turns_rule.specs.Steps.{settles}
+use Rattle.ocr_turns_rule.specs.Sums.{weigh, one_at}
+use Rattle.ocr_turns_rule.proofs.Takes.{allows_settle}
+use Rattle.ocr_turns_rule.proofs.Clerks.{place_fits}
 use Rattle.ocr_turns.proofs.turns.Turns.bring.Goals as goal
 
 pub overflow_add-place : goal.overflow_add-place

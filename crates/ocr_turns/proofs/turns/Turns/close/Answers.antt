@@ -1,7 +1,7 @@
 use Rattle.std.proofs.Common.{sym, arith, ◌≤◌, ◌<◌, refl}
-use Rattle.ocr_rule.specs.Rule.{OPEN}
-use Rattle.ocr_rule.specs.Steps.{ended_by}
-use Rattle.ocr_rule.proofs.Clerks.{true_same, shut_true, ended_true, tried_open, tried_shut}
+use Rattle.ocr_turns_rule.specs.Rule.{OPEN}
+use Rattle.ocr_turns_rule.specs.Steps.{ended_by}
+use Rattle.ocr_turns_rule.proofs.Clerks.{true_same, shut_true, ended_true, tried_open, tried_shut}
 use Rattle.ocr_turns.proofs.turns.Turns.close.Goals as goal
 
 pub invariant_of-clerk : goal.invariant_of-clerk

@@ -1,13 +1,13 @@
 use Rattle.std.proofs.Common.{sym, ap, subst, arith, ◌∙◌, ◌≡◌, ◌≤◌, ◌<◌, ◌+◌, ◌-◌, ◌++◌, length, vec_capacity, refl}
-use Rattle.ocr_mail.specs.Mail.{without, named}
-use Rattle.ocr_rule.specs.Rule.{OPEN}
-use Rattle.ocr_rule.specs.Steps.{deed, logged}
-use Rattle.ocr_rule.specs.Sums.{weigh, one_at, as_some, replace_all}
-use Rattle.ocr_rule.proofs.Clerks.{true_same, shut_true, logged_true, tried_open, tried_shut, tried_tells}
-use Rattle.ocr_rule.proofs.Numbered.{weigh_keys, length_replace_all}
-use Rattle.ocr_rule.proofs.Totals.{weigh_at}
-use Rattle.ocr_rule.specs.Units.{units}
-use Rattle.ocr_rule.proofs.Units.{logged_units}
+use Rattle.ocr_base.specs.Mail.{without, named}
+use Rattle.ocr_turns_rule.specs.Rule.{OPEN}
+use Rattle.ocr_turns_rule.specs.Steps.{deed, logged}
+use Rattle.ocr_turns_rule.specs.Sums.{weigh, one_at, as_some, replace_all}
+use Rattle.ocr_turns_rule.proofs.Clerks.{true_same, shut_true, logged_true, tried_open, tried_shut, tried_tells}
+use Rattle.ocr_turns_rule.proofs.Numbered.{weigh_keys, length_replace_all}
+use Rattle.ocr_turns_rule.proofs.Totals.{weigh_at}
+use Rattle.ocr_turns_rule.specs.Units.{units}
+use Rattle.ocr_turns_rule.proofs.Units.{logged_units}
 use Rattle.ocr_turns.proofs.turns.Turns.commit.Goals as goal
 
 pub invariant_of-clerk : goal.invariant_of-clerk

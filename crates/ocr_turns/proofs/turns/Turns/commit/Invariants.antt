@@ -1,5 +1,5 @@
 use Rattle.std.specs.Prelude.{Some}
-use Rattle.ocr_rule.specs.Steps.{deed}
+use Rattle.ocr_turns_rule.specs.Steps.{deed}
 use Rattle.ocr_turns.proofs.turns.Turns.commit.Given as goal
 
 abbrev pub ghosts-step_commit : goal.ghosts-step_commit

@@ -1,12 +1,12 @@
 use Rattle.std.proofs.Common.{sym, ap, subst, arith, ◌∙◌, ◌≡◌, ◌≤◌, ◌<◌, ◌+◌, ◌++◌, refl}
-use Rattle.ocr_mail.specs.Mail.{without, named}
-use Rattle.ocr_rule.specs.Contract.{Known, MayCommit}
-use Rattle.ocr_rule.specs.Rule.{OPEN}
-use Rattle.ocr_rule.specs.Steps.{deed, logged}
-use Rattle.ocr_rule.specs.Sums.{as_some, replace_all}
-use Rattle.ocr_rule.proofs.Clerks.{true_same, shut_true, logged_true, tried_open, tried_shut, tried_tells}
-use Rattle.ocr_rule.specs.Units.{units}
-use Rattle.ocr_rule.proofs.Units.{logged_units}
+use Rattle.ocr_base.specs.Mail.{without, named}
+use Rattle.ocr_turns_rule.specs.Contract.{Known, MayCommit}
+use Rattle.ocr_turns_rule.specs.Rule.{OPEN}
+use Rattle.ocr_turns_rule.specs.Steps.{deed, logged}
+use Rattle.ocr_turns_rule.specs.Sums.{as_some, replace_all}
+use Rattle.ocr_turns_rule.proofs.Clerks.{true_same, shut_true, logged_true, tried_open, tried_shut, tried_tells}
+use Rattle.ocr_turns_rule.specs.Units.{units}
+use Rattle.ocr_turns_rule.proofs.Units.{logged_units}
 use Rattle.ocr_turns.specs.Hand.{at_hand}
 use Rattle.ocr_turns.proofs.turns.Turns.commit_at_hand.Goals as goal
 

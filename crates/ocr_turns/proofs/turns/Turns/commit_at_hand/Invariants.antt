@@ -1,5 +1,5 @@
 use Rattle.std.specs.Prelude.{Some}
-use Rattle.ocr_rule.specs.Steps.{deed}
+use Rattle.ocr_turns_rule.specs.Steps.{deed}
 use Rattle.ocr_turns.specs.Hand.{at_hand}
 use Rattle.ocr_turns.proofs.turns.Turns.commit_at_hand.Given as goal
 

@@ -1,9 +1,9 @@
 use Rattle.std.proofs.Common.{sym, ap, subst, ◌∙◌, arith, ⊎_elim, ◌≡◌, ◌<◌, ◌≤◌, ◌+◌, refl}
 use Rattle.atomic_table.specs.Table.{keeps}
-use Rattle.ocr_rule.specs.Steps.{filled_by, limit_of, with_drawn, Sees}
-use Rattle.ocr_rule.specs.Sums.{AreBelow}
-use Rattle.ocr_rule.proofs.Draws.{draw_at}
-use Rattle.ocr_rule.proofs.Clerks.{drew_true, filled_true, out_of, true_same}
+use Rattle.ocr_turns_rule.specs.Steps.{filled_by, limit_of, with_drawn, Sees}
+use Rattle.ocr_turns_rule.specs.Sums.{AreBelow}
+use Rattle.ocr_turns_rule.proofs.Draws.{draw_at}
+use Rattle.ocr_turns_rule.proofs.Clerks.{drew_true, filled_true, out_of, true_same}
 use Rattle.ocr_turns.proofs.turns.Turns.draw.Goals as goal
 
 pub fetch_add-found-requires : goal.fetch_add-found-requires

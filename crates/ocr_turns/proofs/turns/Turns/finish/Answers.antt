@@ -1,8 +1,8 @@
 use Rattle.std.proofs.Common.{sym, ap, subst, arith, ◌∙◌, ◌≡◌, ◌∷◌, map, length}
-use Rattle.ocr_rule.specs.Contract.{Finished}
-use Rattle.ocr_rule.specs.Sums.{weigh_all}
-use Rattle.ocr_rule.proofs.Splits.{finished}
-use Rattle.ocr_rule.proofs.Totals.{below_ones}
+use Rattle.ocr_turns_rule.specs.Contract.{Finished}
+use Rattle.ocr_turns_rule.specs.Sums.{weigh_all}
+use Rattle.ocr_turns_rule.proofs.Splits.{finished}
+use Rattle.ocr_turns_rule.proofs.Totals.{below_ones}
 use Rattle.ocr_turns.proofs.turns.Turns.finish.Goals as goal
 
 pub count_entries-entries-requires : goal.count_entries-entries-requires

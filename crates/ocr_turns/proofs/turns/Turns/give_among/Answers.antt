@@ -1,7 +1,7 @@
 use Rattle.std.proofs.Common.{sym, ap, ◌∙◌, ◌+◌, refl}
-use Rattle.ocr_rule.proofs.Clerks.{gave_true, true_same, gave}
-use Rattle.ocr_rule.specs.Steps.{without_part}
-use Rattle.ocr_rule.specs.Sums.{remove_at}
+use Rattle.ocr_turns_rule.proofs.Clerks.{gave_true, true_same, gave}
+use Rattle.ocr_turns_rule.specs.Steps.{without_part}
+use Rattle.ocr_turns_rule.specs.Sums.{remove_at}
 use Rattle.ocr_turns.proofs.turns.Turns.give_among.Goals as goal
 
 pub invariant_of-clerk : goal.invariant_of-clerk

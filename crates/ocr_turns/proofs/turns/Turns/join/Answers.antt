@@ -1,7 +1,7 @@
 use Rattle.std.proofs.Common.{sym, ap, subst, ◌∙◌, arith, ◌≡◌, ◌∷◌, ◌++◌, [], map, refl, length, length-append}
-use Rattle.ocr_rule.proofs.Clerks.{seat_of, true_same, gathered_true, map_append}
-use Rattle.ocr_rule.specs.Steps.{limit_of}
-use Rattle.ocr_rule.proofs.Splits.{joined}
+use Rattle.ocr_turns_rule.proofs.Clerks.{seat_of, true_same, gathered_true, map_append}
+use Rattle.ocr_turns_rule.specs.Steps.{limit_of}
+use Rattle.ocr_turns_rule.proofs.Splits.{joined}
 use Rattle.ocr_turns.proofs.turns.Turns.join.Goals as goal
 
 pub join_seat-requires : goal.join_seat-requires

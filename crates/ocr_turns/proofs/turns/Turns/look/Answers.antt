@@ -1,9 +1,9 @@
 use Rattle.std.proofs.Common.{sym, ap, ◌∙◌, arith, ⊎_elim, ◌≡◌, ◌<◌, ◌≤◌, refl}
 use Rattle.atomic_table.specs.Table.{keeps}
-use Rattle.ocr_rule.proofs.Commits.{look_at}
-use Rattle.ocr_rule.specs.Rule.{OPEN}
-use Rattle.ocr_rule.specs.Steps.{SeesOpen}
-use Rattle.ocr_rule.proofs.Clerks.{out_of, shut_true, tried_open, tried_shut, true_same}
+use Rattle.ocr_turns_rule.proofs.Commits.{look_at}
+use Rattle.ocr_turns_rule.specs.Rule.{OPEN}
+use Rattle.ocr_turns_rule.specs.Steps.{SeesOpen}
+use Rattle.ocr_turns_rule.proofs.Clerks.{out_of, shut_true, tried_open, tried_shut, true_same}
 use Rattle.ocr_turns.proofs.turns.Turns.look.Goals as goal
 
 pub load-found-requires : goal.load-found-requires

@@ -1,13 +1,13 @@
 use Rattle.std.proofs.Common.{sym, ap, subst, ◌∙◌, ◌≡◌, arith, ◌+◌, ◌*◌, length, Some, refl, replicate}
 use Rattle.std.proofs.lemmas.List.{length-replicate}
 use Rattle.atomic_table.specs.Table.{opening}
-use Rattle.ocr_rule.specs.Beginning.{IsLaidOut}
-use Rattle.ocr_rule.specs.Contract.{OpensWith, faces}
-use Rattle.ocr_rule.specs.Rule.{Holds}
-use Rattle.ocr_rule.specs.Steps.{rooted}
-use Rattle.ocr_rule.specs.declared.view.Terms.{Terms}
-use Rattle.ocr_rule.proofs.Totals.{weigh_at}
-use Rattle.ocr_rule.proofs.Opens.{opens, placed_length}
+use Rattle.ocr_turns_rule.specs.Beginning.{IsLaidOut}
+use Rattle.ocr_turns_rule.specs.Contract.{OpensWith, faces}
+use Rattle.ocr_turns_rule.specs.Rule.{Holds}
+use Rattle.ocr_turns_rule.specs.Steps.{rooted}
+use Rattle.ocr_turns_rule.specs.declared.view.Terms.{Terms}
+use Rattle.ocr_turns_rule.proofs.Totals.{weigh_at}
+use Rattle.ocr_turns_rule.proofs.Opens.{opens, placed_length}
 use Rattle.ocr_turns.proofs.turns.Turns.new.Goals as goal
 
 pub first_words-requires-clause-limit : goal.first_words-requires-clause-limit

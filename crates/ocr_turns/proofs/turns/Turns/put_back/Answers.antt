@@ -1,10 +1,10 @@
 use Rattle.std.proofs.Common.{sym, ap, subst, ◌∙◌, arith, ◌<◌, ◌+◌, ◌∷◌, [], Some, None}
 use Rattle.atomic_table.specs.Table.{rest}
-use Rattle.ocr_rule.specs.Contract.{Loose, Rests, SeenAs}
-use Rattle.ocr_rule.proofs.Clerks.{place_fits}
-use Rattle.ocr_rule.proofs.Numbered.{find_weighs}
-use Rattle.ocr_rule.proofs.Stepping.{carried_loose}
-use Rattle.ocr_rule.proofs.Takes.{allows_fetch, allows_return, fetched}
+use Rattle.ocr_turns_rule.specs.Contract.{Loose, Rests, SeenAs}
+use Rattle.ocr_turns_rule.proofs.Clerks.{place_fits}
+use Rattle.ocr_turns_rule.proofs.Numbered.{find_weighs}
+use Rattle.ocr_turns_rule.proofs.Steps.{carried_loose}
+use Rattle.ocr_turns_rule.proofs.Takes.{allows_fetch, allows_return, fetched}
 use Rattle.ocr_turns.proofs.turns.Turns.put_back.Goals as goal
 
 pub load-requires : goal.load-requires

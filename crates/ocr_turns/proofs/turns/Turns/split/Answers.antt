@@ -1,6 +1,6 @@
 use Rattle.std.proofs.Common.{sym, ap, subst, ◌∙◌, arith, ◌<◌, ◌≡◌, refl}
-use Rattle.ocr_rule.proofs.Clerks.{true_same}
-use Rattle.ocr_rule.proofs.Splits.{splits}
+use Rattle.ocr_turns_rule.proofs.Clerks.{true_same}
+use Rattle.ocr_turns_rule.proofs.Splits.{splits}
 use Rattle.ocr_turns.proofs.turns.Turns.split.Goals as goal
 
 pub split_seat-seat-requires : goal.split_seat-seat-requires

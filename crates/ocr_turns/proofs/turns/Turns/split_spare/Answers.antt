@@ -1,9 +1,9 @@
 use Rattle.std.proofs.Common.{inr, map, [], sym, ap, subst, ◌∙◌, arith, ◌<◌, ◌-◌, ◌≡◌, refl}
-use Rattle.ocr_rule.specs.Living.{MayLower}
-use Rattle.ocr_rule.proofs.Clerks.{seat_none, true_same}
-use Rattle.ocr_rule.proofs.Splits.{splits}
-use Rattle.ocr_rule.proofs.Ranges.{none_owed}
-use Rattle.ocr_rule.specs.Steps.{fresh_spare, limit_of}
+use Rattle.ocr_turns_rule.specs.Live.{MayLower}
+use Rattle.ocr_turns_rule.proofs.Clerks.{seat_none, true_same}
+use Rattle.ocr_turns_rule.proofs.Splits.{splits}
+use Rattle.ocr_turns_rule.proofs.Ranges.{none_owed}
+use Rattle.ocr_turns_rule.specs.Steps.{fresh_spare, limit_of}
 use Rattle.ocr_turns.proofs.turns.Turns.split_spare.Goals as goal
 
 pub split_seat-seat-requires : goal.split_seat-seat-requires

@@ -1,9 +1,9 @@
 use Rattle.std.proofs.Common.{sym, ap, subst, ◌∙◌, arith}
 use Rattle.std.specs.Prelude.{slice_index}
 use Rattle.atomic_table.specs.Table.{keeps}
-use Rattle.ocr_rule.specs.Contract.{MayClose}
-use Rattle.ocr_rule.specs.Steps.{closes}
-use Rattle.ocr_rule.proofs.Commits.{close_at}
+use Rattle.ocr_turns_rule.specs.Contract.{MayClose}
+use Rattle.ocr_turns_rule.specs.Steps.{closes}
+use Rattle.ocr_turns_rule.proofs.Commits.{close_at}
 use Rattle.ocr_turns.proofs.turns.Turns.step_close.Goals as goal
 
 pub fetch_add-requires : goal.fetch_add-requires

@@ -1,9 +1,9 @@
 use Rattle.std.proofs.Common.{sym, ap, subst, ◌∙◌, arith}
 use Rattle.std.specs.Prelude.{slice_index, Some}
 use Rattle.atomic_table.specs.Table.{keeps}
-use Rattle.ocr_rule.specs.Contract.{MayCommit}
-use Rattle.ocr_rule.specs.Steps.{commits, deed}
-use Rattle.ocr_rule.proofs.Commits.{commit_at}
+use Rattle.ocr_turns_rule.specs.Contract.{MayCommit}
+use Rattle.ocr_turns_rule.specs.Steps.{commits, deed}
+use Rattle.ocr_turns_rule.proofs.Commits.{commit_at}
 use Rattle.ocr_turns.proofs.turns.Turns.step_commit.Goals as goal
 
 pub fetch_add-requires : goal.fetch_add-requires

@@ -1,8 +1,8 @@
 use Rattle.std.proofs.Common.{sym, ap, subst, ◌∙◌, ◌≡◌, map, arith}
-use Rattle.ocr_rule.specs.Clerks.{IsTrueTo}
-use Rattle.ocr_rule.specs.Living.{MayLive, count_lived}
-use Rattle.ocr_rule.proofs.Living.{lived_fewer, lived_small, lived_units, lived_view}
-use Rattle.ocr_rule.specs.Units.{units}
+use Rattle.ocr_turns_rule.specs.Clerks.{IsTrueTo}
+use Rattle.ocr_turns_rule.specs.Live.{MayLive, count_lived}
+use Rattle.ocr_turns_rule.proofs.Live.{lived_fewer, lived_small, lived_units, lived_view}
+use Rattle.ocr_turns_rule.specs.Units.{units}
 use Rattle.ocr_turns.proofs.turns.Turns.step_live.Goals as goal
 
 pub invariant_of-clerk : goal.invariant_of-clerk

@@ -1,12 +1,12 @@
 use Rattle.std.proofs.Common.{sym, ap, subst, ◌∙◌, ◌≡◌, map, arith}
-use Rattle.ocr_rule.specs.Clerks.{IsTrueTo}
-use Rattle.ocr_rule.specs.Owing.{AreInRange}
-use Rattle.ocr_rule.specs.Steps.{limit_of}
-use Rattle.ocr_rule.specs.Words.{MayStep, count_after}
-use Rattle.ocr_rule.specs.declared.view.View.{View}
-use Rattle.ocr_rule.proofs.Ranges.{owed_of, step_number, step_owed, step_slots}
-use Rattle.ocr_rule.proofs.Stepping.{count_fewer, count_small, stepped_units, stepped_view}
-use Rattle.ocr_rule.specs.Units.{units}
+use Rattle.ocr_turns_rule.specs.Clerks.{IsTrueTo}
+use Rattle.ocr_turns_rule.specs.Debts.{AreInRange}
+use Rattle.ocr_turns_rule.specs.Steps.{limit_of}
+use Rattle.ocr_turns_rule.specs.Words.{MayStep, count_after}
+use Rattle.ocr_turns_rule.specs.declared.view.View.{View}
+use Rattle.ocr_turns_rule.proofs.Ranges.{owed_of, step_number, step_owed, step_slots}
+use Rattle.ocr_turns_rule.proofs.Steps.{count_fewer, count_small, stepped_units, stepped_view}
+use Rattle.ocr_turns_rule.specs.Units.{units}
 use Rattle.ocr_turns.proofs.turns.Turns.step_word.Goals as goal
 
 pub take_step-found-requires-clause-edt : goal.take_step-found-requires-clause-edt

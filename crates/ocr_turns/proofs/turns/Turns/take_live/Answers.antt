@@ -1,10 +1,10 @@
 use Rattle.std.proofs.Common.{sym, ap, subst, ◌∙◌, arith, ◌≡◌, ◌+◌, ◌-◌, ◌%◌, ℕ, Some, Option}
 use Rattle.atomic_table.specs.Table.{Me, State, Allows}
-use Rattle.ocr_rule.specs.Living.{MayLive, steps_live}
-use Rattle.ocr_rule.specs.Rule.{Holds}
-use Rattle.ocr_rule.specs.declared.words.LiveStep.{LiveStep}
-use Rattle.ocr_rule.specs.declared.words.LiveStep.TheVariants as step
-use Rattle.ocr_rule.proofs.Living.{allows_raise, allows_lower, allows_look, allows_entries}
+use Rattle.ocr_turns_rule.specs.Live.{MayLive, steps_live}
+use Rattle.ocr_turns_rule.specs.Rule.{Holds}
+use Rattle.ocr_turns_rule.specs.declared.words.LiveStep.{LiveStep}
+use Rattle.ocr_turns_rule.specs.declared.words.LiveStep.TheVariants as step
+use Rattle.ocr_turns_rule.proofs.Live.{allows_raise, allows_lower, allows_look, allows_entries}
 use Rattle.ocr_turns.proofs.turns.Turns.take_live.Goals as goal
 
 -- the step that was chosen

@@ -1,12 +1,12 @@
 use Rattle.std.proofs.Common.{sym, ap, subst, ◌∙◌, arith, ◌<◌, ◌≡◌, ◌+◌, ◌-◌, ◌%◌, ℕ, Some, Option, eqb}
 use prog.Atomic.{either}
 use Rattle.atomic_table.specs.Table.{Me, State, Allows}
-use Rattle.ocr_rule.specs.Counting.{state_at, payload_at}
-use Rattle.ocr_rule.specs.Rule.{Holds}
-use Rattle.ocr_rule.specs.Words.{FitsSlots, MayStep, steps_word}
-use Rattle.ocr_rule.specs.declared.words.WordStep.{WordStep}
-use Rattle.ocr_rule.specs.declared.words.WordStep.TheVariants as word
-use Rattle.ocr_rule.proofs.Stepping.{allows_put, allows_count, allows_made, allows_read, allows_claim, allows_park, allows_resume, allows_drop}
+use Rattle.ocr_turns_rule.specs.Counts.{state_at, payload_at}
+use Rattle.ocr_turns_rule.specs.Rule.{Holds}
+use Rattle.ocr_turns_rule.specs.Words.{FitsSlots, MayStep, steps_word}
+use Rattle.ocr_turns_rule.specs.declared.words.WordStep.{WordStep}
+use Rattle.ocr_turns_rule.specs.declared.words.WordStep.TheVariants as word
+use Rattle.ocr_turns_rule.proofs.Steps.{allows_put, allows_count, allows_made, allows_read, allows_claim, allows_park, allows_resume, allows_drop}
 use Rattle.ocr_turns.proofs.turns.Turns.take_step.Goals as goal
 
 -- the step that was chosen, on the word that was computed

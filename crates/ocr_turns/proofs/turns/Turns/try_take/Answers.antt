@@ -1,8 +1,8 @@
 use Rattle.std.proofs.Common.{sym, ap, subst, ◌∙◌, arith, ◌<◌, ◌≤◌, ◌+◌, ◌∷◌, Some, None, refl}
 use Rattle.atomic_table.specs.Table.{rest}
-use Rattle.ocr_rule.specs.Sums.{weigh, one_at}
-use Rattle.ocr_rule.proofs.Takes.{allows_take, kept_last, taken_home, took}
-use Rattle.ocr_rule.proofs.Clerks.{place_fits}
+use Rattle.ocr_turns_rule.specs.Sums.{weigh, one_at}
+use Rattle.ocr_turns_rule.proofs.Takes.{allows_take, kept_last, taken_home, took}
+use Rattle.ocr_turns_rule.proofs.Clerks.{place_fits}
 use Rattle.ocr_turns.proofs.turns.Turns.try_take.Goals as goal
 
 pub overflow_add-place : goal.overflow_add-place

@@ -1,5 +1,0 @@
-pub mod Coming
-pub mod Ended
-pub mod Resting
-pub mod Rounds
-pub mod Still

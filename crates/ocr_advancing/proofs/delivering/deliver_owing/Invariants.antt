@@ -1,9 +1,0 @@
-use Rattle.ocr_advancing.proofs.Rounds.{GoesOn}
-use Rattle.ocr_clerks.specs.Pushing.{IsPushed, PushesReady}
-use Rattle.ocr_advancing.proofs.delivering.deliver_owing.Given as goal
-
-abbrev pub invariant-loop : goal.invariant-loop
-invariant-loop g l =
-    (goal.iterator-loop g).can_next l.iterator' × (goal.iterator-loop g).is_finite l.iterator'
-    × GoesOn l.job.turns.now l.job.program.now l.fn.clerk l.clerk l.fn.hand l.hand
-    × IsPushed l.fn.hand l.hand × PushesReady l.fn.clerk l.clerk l.fn.hand l.hand

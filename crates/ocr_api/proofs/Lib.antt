@@ -1,4 +1,0 @@
-pub mod Accesses
-pub mod Alike
-pub mod Rulesets
-pub mod Stopped

@@ -1,0 +1,9 @@
+pub mod Accesses
+pub mod Makes
+pub mod Nodes
+pub mod Rulesets
+pub mod Same
+pub mod Spent
+pub mod Steps
+pub mod Units
+pub mod Words

@@ -1,0 +1,9 @@
+pub mod Accesses
+pub mod Alike
+pub mod ApiRulesets
+pub mod Gone
+pub mod Made
+pub mod Operands
+pub mod Rulesets
+pub mod StoppedSteps
+pub mod Variables

@@ -1,0 +1,5 @@
+pub mod Api
+pub mod Given
+pub mod Local
+pub mod Plain
+pub mod Steps

@@ -1,6 +1,0 @@
-pub mod Answered
-pub mod Carried
-pub mod Coded
-pub mod Drawn
-pub mod Makes
-pub mod Printed

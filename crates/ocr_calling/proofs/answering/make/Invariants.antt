@@ -1,4 +1,0 @@
-use Rattle.ocr_calling.proofs.answering.make.Given as goal
-
-abbrev pub ghost-take_made : goal.ghost-take_made
-ghost-take_made g a = g.g.1

@@ -1,4 +1,0 @@
-use Rattle.ocr_calling.proofs.answering.take_made.Given as goal
-
-abbrev pub ghost-take_some : goal.ghost-take_some
-ghost-take_some g a = g.g

@@ -1,4 +1,0 @@
-use Rattle.ocr_calling.proofs.answering.take_some.Given as goal
-
-abbrev pub ghost-take_new : goal.ghost-take_new
-ghost-take_new g a = g.g

@@ -1,8 +1,0 @@
-use Rattle.std.proofs.Common.{ap, subst}
-use Rattle.ocr_meaning.specs.Holds.{is_done}
-use Rattle.ocr_meaning.specs.declared.call.Call as body
-use Rattle.ocr_calling.specs.Making.{IsLet}
-use Rattle.ocr_calling.proofs.counting.edt_made.Goals as goal
-
-pub slots_meant-requires : goal.slots_meant-requires
-slots_meant-requires c = subst (λ (k : body.Call). IsLet k c.args.answer.now.code c.args.parts.now) c.in-EdtCreate.is c.requires (ap is_done c.in-Done.is)

@@ -1,5 +1,0 @@
-use Rattle.ocr_calling.proofs.Printed.{plain_hand}
-use Rattle.ocr_calling.proofs.printing.print.Given as goal
-
-abbrev pub ghost-enter_at_hand : goal.ghost-enter_at_hand
-ghost-enter_at_hand g a = plain_hand a.clerk.now

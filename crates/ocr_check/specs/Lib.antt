@@ -1,4 +1,0 @@
-pub mod Check
-pub mod Checking
-pub mod Names
-pub mod Messages

@@ -1,4 +1,0 @@
-use Rattle.ocr_clerks.proofs.entering.enter_at_work.Given as goal
-
-abbrev pub ghost-prepare : goal.ghost-prepare
-ghost-prepare g a = g.h

@@ -1,4 +1,0 @@
-use Rattle.ocr_clerks.proofs.keeping.enter_kept.Given as goal
-
-abbrev pub ghost-enter_at_work : goal.ghost-enter_at_work
-ghost-enter_at_work g a = g.h

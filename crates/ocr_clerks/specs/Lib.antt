@@ -1,5 +1,0 @@
-pub mod Drawing
-pub mod Entering
-pub mod Laws
-pub mod Pushing
-pub mod Work

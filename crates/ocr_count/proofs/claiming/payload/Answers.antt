@@ -1,9 +1,0 @@
-use Rattle.std.proofs.Common.{subst, sym}
-use Rattle.ocr_rule.specs.Words.{HasClaim, HasSlot}
-use Rattle.ocr_count.proofs.claiming.payload.Goals as goal
-
-pub step_word-requires-clause-may : goal.step_word-requires-clause-may
-step_word-requires-clause-may g c = (
-  subst (HasClaim c.args.clerk.now.view) (sym c.edt.view_is) c.requires.claimed,
-  subst (λ n. HasSlot g.M.Machine.meaning c.args.turns.now.1 c.args.clerk.now.view n c.args.slot) (sym c.edt.view_is) c.requires.slot,
-)

@@ -1,4 +1,0 @@
-use Rattle.ocr_creating.proofs.creating.create_bare.Given as goal
-
-abbrev pub ghost-create_from : goal.ghost-create_from
-ghost-create_from g a = g.s

@@ -1,5 +1,0 @@
-pub mod Ending
-pub mod Executed
-pub mod Lines
-pub mod Messages
-pub mod ProgramText

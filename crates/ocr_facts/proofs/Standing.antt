@@ -1,3 +1,0 @@
--- The laws of what stands in every run, for those who keep parts of it.
-pub use Rattle.ocr_quiet.proofs.Stages.{standing_law}
-pub use Rattle.ocr_standing.proofs.Kept.{alike_kept, kept_law}

@@ -1,4 +1,0 @@
-pub mod Facts
-pub mod Ocr
-pub mod Clerks
-pub mod Standing

@@ -1,4 +1,0 @@
-pub mod Linking
-pub mod Numbered
-pub mod Places
-pub mod Steps

@@ -1,3 +1,0 @@
-pub mod Numbering
-mod Taking
-mod Whole

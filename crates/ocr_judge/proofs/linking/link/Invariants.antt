@@ -1,5 +1,0 @@
-use Rattle.ocr_judge.specs.Linking.{IsLinkedFrom}
-use Rattle.ocr_judge.proofs.linking.link.Given as goal
-
-abbrev pub invariant-loop-place : goal.invariant-loop-place
-invariant-loop-place l = IsLinkedFrom l.limit l.entries l.place l.links.nexts.items l.links.firsts.items

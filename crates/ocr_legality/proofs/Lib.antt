@@ -1,4 +1,0 @@
-pub mod Goes
-pub mod Calls
-pub mod Asks
-pub mod Numbers

@@ -1,9 +1,0 @@
-use Rattle.ocr_table.specs.Table.{state_in}
-use Rattle.ocr_legality.proofs.Calls.{deliverable_so, leavable_so}
-use Rattle.ocr_legality.proofs.entering.can_deliver.Goals as goal
-
-pub returns-in-Satisfy : goal.returns-in-Satisfy
-returns-in-Satisfy c = rw c.in-Satisfy.is (deliverable_so (state_in c.args.table.now) c.in-Satisfy.event c.in-Satisfy.slot c.in-Satisfy.payload c.is_satisfiable.result c.is_satisfiable.ensures)
-
-pub returns-in-Leave : goal.returns-in-Leave
-returns-in-Leave c = rw c.in-Leave.is (leavable_so (state_in c.args.table.now) c.in-Leave.scope c.has_member.result c.has_member.ensures)

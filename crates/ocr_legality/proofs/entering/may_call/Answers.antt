@@ -1,5 +1,0 @@
-use Rattle.ocr_legality.proofs.Calls.{call_answered}
-use Rattle.ocr_legality.proofs.entering.may_call.Goals as goal
-
-pub returns : goal.returns
-returns c = λ s past of run w. call_answered s past c.args.table.now c.args.edt c.args.home c.args.call.now c.args.answer.now c.is_call_so.result c.is_call_so.ensures of run w

@@ -1,5 +1,0 @@
-use Rattle.ocr_legality.proofs.Calls.{free_answered}
-use Rattle.ocr_legality.proofs.entering.may_free.Goals as goal
-
-pub returns : goal.returns
-returns c = λ s past of run w. free_answered s past c.args.table.now c.args.edt c.number-id.result c.args.block c.both.result c.is_running-running.result c.is_this-here.result c.least_held.result c.number-id.ensures c.both.ensures c.is_running-running.ensures c.is_this-here.ensures c.least_held.ensures of run w

@@ -1,0 +1,14 @@
+use Rattle.std.proofs.Common.{◌≡◌, ◌∙◌, ap, refl}
+use Rattle.ocr_edt.specs.declared.Edt.{Edt}
+use Rattle.ocr_edt.specs.declared.Edt.TheVariants as phase
+use Rattle.ocr_machine_parts.specs.Effects.{waiting_edt}
+use Rattle.ocr_machine_parts.specs.Progress.{core_with, with_phase}
+use Rattle.ocr_machine_effects.proofs.Places.{core_step, phase_put}
+use Rattle.ocr_machine.proofs.acquisition.wait_core.Goals as goal
+
+pub returns : goal.returns
+returns c =
+    let core = c.take_core-core.result in
+    let changed : phase.Waiting c.wait.result ≡ waiting_edt core.edt = rw (← c.take_edt.ensures.was, c.in-Acquiring.is, c.wait.ensures) refl in
+    core_step c.args.parts.now c.take_core-core.new.self c.put_core.new.self c.args.edt core c.put_edt.new.self (with_phase waiting_edt) c.take_core-core.ensures.left c.put_core.ensures c.take_core-core.ensures.was
+    (phase_put core c.take_edt.new.self c.put_edt.new.self (phase.Waiting c.wait.result) c.take_edt.ensures.rest c.put_edt.ensures ∙ ap (λ (e : Edt). core_with core e core.loans) changed)

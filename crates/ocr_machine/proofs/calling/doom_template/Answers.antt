@@ -1,7 +1,0 @@
-use Rattle.ocr_parts.specs.Effects.{doomed_template}
-use Rattle.std.proofs.Common.{refl}
-use Rattle.ocr_hand.proofs.Places.{template_step}
-use Rattle.ocr_machine.proofs.calling.doom_template.Goals as goal
-
-pub returns : goal.returns
-returns c = template_step c.args.parts.now c.put_face.new.self c.args.template c.template-made.result _ doomed_template c.put_face.ensures c.template-made.ensures refl

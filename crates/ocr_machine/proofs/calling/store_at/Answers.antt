@@ -1,9 +1,0 @@
-use Rattle.ocr_datablock.specs.Block.{State}
-use Rattle.ocr_datablock.specs.Steps.{after_store}
-use Rattle.ocr_hand.proofs.Places.{block_step}
-use Rattle.ocr_machine.proofs.calling.store_at.Goals as goal
-
-pub returns : goal.returns
-returns c =
-    block_step c.args.parts.now c.take_block-state.new.self c.put_face.new.self c.args.block c.take_block-state.result c.store.new.self (λ (st : State). after_store st c.args.word c.args.value)
-    c.take_block-state.ensures.left c.put_face.ensures c.take_block-state.ensures.was c.store.ensures

@@ -1,6 +1,0 @@
-use Rattle.std.proofs.Common.{refl}
-use Rattle.ocr_hand.proofs.Places.{face_made}
-use Rattle.ocr_machine.proofs.making.create_event.Goals as goal
-
-pub returns : goal.returns
-returns c = rw (c.put_face.ensures, c.in_ok-made.ensures, c.event_of-state.ensures) (face_made c.args.parts.now c.args.event _ c.requires.face refl)

@@ -1,0 +1,4 @@
+pub mod Links
+pub mod Numbered
+pub mod Places
+pub mod Steps

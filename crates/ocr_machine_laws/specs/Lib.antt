@@ -1,0 +1,13 @@
+pub mod Answered
+pub mod Found
+pub mod Held
+pub mod Kept
+pub mod Marks
+pub mod Members
+pub mod Memory
+pub mod Outputs
+pub mod Permanence
+pub mod Plain
+pub mod Quiet
+pub mod Sent
+pub mod Waits

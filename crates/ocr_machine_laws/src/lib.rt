@@ -1,0 +1,16 @@
+//! The laws of runs: what holds after every run and lasts in it, the quiescent end, what an acquire
+//! finds in a block, scopes, and output events.
+#![tactic(auto)]
+
+mod memory;
+mod outputs;
+mod quiet;
+mod standing;
+
+pub use memory::memory_laws;
+pub use outputs::output_laws;
+pub use quiet::{quiet_laws, sent_laws, standing_laws};
+pub use standing::{
+    entering_laws, found_laws, going_laws, holding_laws, kept_laws, lasting_laws, scope_laws,
+    working_laws,
+};

@@ -1,0 +1,10 @@
+use Rattle.std.proofs.Common.{◌≡◌, ◌++◌, drop, take}
+use Rattle.ocr_machine_parts.specs.Loans.{kept_in, without_kept}
+use Rattle.ocr_machine_parts.proofs.loans.take_from.Given as goal
+
+abbrev pub invariant-loop-i : goal.invariant-loop-i
+invariant-loop-i l = record {
+  same : l.items.items ≡ l.fn.items.items;
+  looks : kept_in l.block (drop l.i l.items.items) ≡ kept_in l.block l.items.items;
+  leaves : take l.i l.items.items ++ without_kept l.block (drop l.i l.items.items) ≡ without_kept l.block l.items.items;
+}

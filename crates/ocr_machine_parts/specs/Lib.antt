@@ -1,0 +1,16 @@
+pub mod Bodies
+pub mod Calls
+pub mod Codes
+pub mod Effects
+pub mod Footprint
+pub mod Kinds
+pub mod Laws
+pub mod Legal
+pub mod LegalOn
+pub mod Loans
+pub mod Messages
+pub mod Parts
+pub mod Progress
+pub mod Readiness
+pub mod Runs
+pub mod Taken

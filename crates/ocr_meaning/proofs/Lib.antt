@@ -1,9 +1,0 @@
-pub mod Accesses
-pub mod Makes
-pub mod Nodes
-pub mod Rulesets
-pub mod Same
-pub mod Spending
-pub mod Steps
-pub mod Units
-pub mod Words

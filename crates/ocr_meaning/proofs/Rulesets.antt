@@ -1,8 +1,0 @@
--- The laws of bodies.
-use Rattle.ocr_meaning.proofs.Accesses.{access_law}
-use Rattle.ocr_meaning.proofs.Makes.{served_law}
-use Rattle.ocr_meaning.proofs.Spending.{fuel_law}
-use Rattle.ocr_meaning.proofs.Units.{units_law}
-use Rattle.ocr_meaning.proofs.Words.{words_law}
-
-pub ruleset laws = (served_law, access_law, fuel_law, units_law, words_law)

@@ -1,5 +1,0 @@
-use Rattle.ocr_meaning.proofs.Nodes.{nodes_law}
-use Rattle.ocr_meaning.proofs.laws.body_laws.Goals as goal
-
-pub returns-clause-nodes : goal.returns-clause-nodes
-returns-clause-nodes c = nodes_law

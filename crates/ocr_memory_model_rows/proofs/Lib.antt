@@ -1,0 +1,4 @@
+pub mod Bits
+pub mod Reach
+pub mod Notes
+pub mod Joins

@@ -1,2 +1,0 @@
-pub mod Unstarted
-pub mod Parked

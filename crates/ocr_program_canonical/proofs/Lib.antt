@@ -1,0 +1,14 @@
+pub mod Arguments
+pub mod Blocks
+pub mod Grammatical
+pub mod Keeps
+pub mod Lexed
+pub mod Lexemes
+pub mod Limited
+pub mod Pieces
+pub mod Read
+pub mod RoundTrip
+pub mod Speakable
+pub mod Spellings
+pub mod Tokens
+pub mod Written

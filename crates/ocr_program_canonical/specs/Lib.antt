@@ -1,0 +1,3 @@
+pub mod Canonical
+pub mod RoundTrip
+pub mod Written

@@ -1,0 +1,11 @@
+pub mod Arguments
+pub mod Mentions
+pub mod First
+pub mod Kept
+pub mod Judge
+pub mod Texts
+pub mod Parts
+pub mod Outcomes
+pub mod Programs
+pub mod Rulesets
+pub mod Stops

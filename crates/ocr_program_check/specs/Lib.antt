@@ -1,0 +1,4 @@
+pub mod Check
+pub mod Checked
+pub mod Names
+pub mod Messages

@@ -1,0 +1,43 @@
+-- Laws of the grammar and its limits.
+use Rattle.std.specs.Prelude.{◌≡◌, ◌≤◌, ◌+◌, ℕ, List, ◌++◌, Some, length}
+use Rattle.ocr_text.specs.Tokens.{AreTokens}
+use Rattle.ocr_text.specs.declared.token.Token.{Token}
+use Rattle.ocr_program_tree.specs.Tree.{Expression, Arguments, FunctionTree}
+use Rattle.ocr_program_tree.specs.declared.tree.BinaryOp.{BinaryOp}
+use Rattle.ocr_program_tree.specs.declared.tree.CallName.{CallName}
+use Rattle.ocr_program_tree.specs.declared.tree.Constant as of_constant
+use Rattle.ocr_program_grammar.specs.declared.lexeme.Lexeme.{Lexeme}
+use Rattle.ocr_program_grammar.specs.declared.lexeme.Lexeme.TheVariants as lexeme
+use Rattle.ocr_program_grammar.specs.declared.lexeme.Word.{Word}
+use Rattle.ocr_program_grammar.specs.declared.argument_kind.ArgumentKind.{ArgumentKind}
+use Rattle.ocr_program_grammar.specs.Grammar.{IsExpression, AreArguments}
+use Rattle.ocr_program_grammar.specs.Lexemes.{IsTreeOf}
+use Rattle.ocr_program_grammar.specs.Limits.{tally}
+use Rattle.ocr_program_grammar.specs.Texts.{word_text, call_text, constant_text, operator_text, lexeme_of_name, symbol}
+
+-- From the one list to the other stand tokens of which the tally counts each.
+pub record IsCounted (ts rest : List Lexeme) : Type 0 where
+  pub front : List Lexeme
+  pub split : ts ≡ front ++ rest
+  pub counted : (n d : ℕ)
+      → tally (record { tokens = Some n; depth = d }) front
+      ≡ record { tokens = Some (n + length front); depth = d }
+
+-- The count is the number of tokens of the outermost expression.
+pub record CountLaw : Type 0 where
+  pub expression : (l : ℕ) (ts rest : List Lexeme) (e : Expression) → IsExpression l ts rest e
+      → IsCounted ts rest
+  pub arguments : (ss : List ArgumentKind) (ts rest : List Lexeme) (args : Arguments)
+      → AreArguments ss ts rest args → IsCounted ts rest
+
+-- What is written for a reserved name or an operator is read as that.
+pub record SpellingLaw : Type 0 where
+  pub word : (w : Word) → lexeme_of_name (word_text w) ≡ lexeme.Word w
+  pub call : (c : CallName) → lexeme_of_name (call_text c) ≡ lexeme.Call c
+  pub constant : (c : of_constant.Constant) → lexeme_of_name (constant_text c) ≡ lexeme.Constant c
+  pub operator : (op : BinaryOp) → symbol (operator_text op) ≡ Some (lexeme.Operator op)
+
+-- A program has no more functions than its text has bytes.
+abbrev pub SizeLaw : Type 0
+SizeLaw = (bytes : List ℕ) (tokens : List Token) (program : List FunctionTree)
+    → AreTokens bytes tokens → IsTreeOf bytes tokens program → length program ≤ length bytes

@@ -1,4 +1,0 @@
-pub mod Waits
-pub mod Marks
-pub mod Quiet
-pub mod Sent

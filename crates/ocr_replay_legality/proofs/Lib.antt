@@ -1,0 +1,4 @@
+pub mod Goes
+pub mod CallTests
+pub mod Asks
+pub mod Numbers

@@ -1,4 +1,0 @@
-pub mod Bits
-pub mod Reach
-pub mod Noting
-pub mod Joining

@@ -1,0 +1,12 @@
+pub mod Names
+pub mod Rules
+pub mod Rows
+pub mod Lex
+pub mod Pieces
+pub mod Turns
+pub mod Sound
+pub mod Complete
+pub mod Whole
+pub mod Readings
+pub mod Asked
+pub mod Numbers

@@ -1,0 +1,6 @@
+pub mod Ending
+pub mod Executed
+pub mod Lines
+pub mod Messages
+pub mod Output
+pub mod ProgramText

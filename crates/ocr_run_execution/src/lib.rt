@@ -1,0 +1,14 @@
+//! Runs the program that a text is: from its bytes to the journal, what is printed, the status and
+//! the line; or tells the first thing that is wrong with them.
+#![tactic(auto)]
+
+mod ending;
+mod executed;
+mod lines;
+mod output;
+mod text;
+
+pub use executed::{Executed, execute};
+pub use lines::line_of_fault;
+pub use ocr_run_crew::{Gate, Merged, NoGate};
+pub use text::{TextFault, TextStop, canonical_of, text_laws};

@@ -1,4 +1,0 @@
-use Rattle.ocr_running.proofs.loading.load.Given as goal
-
-abbrev pub ghost-load_shared : goal.ghost-load_shared
-ghost-load_shared g a = (g.b, a.clerk.now)

@@ -1,7 +1,0 @@
-use Rattle.ocr_running.proofs.settling.settle.Given as goal
-
-abbrev pub ghost-count_any : goal.ghost-count_any
-ghost-count_any g a = g.s
-
-abbrev pub ghost-resume_all : goal.ghost-resume_all
-ghost-resume_all g a = (g.s.0, g.s.1.0)

@@ -1,4 +1,0 @@
-pub mod Desks
-pub mod Freed
-pub mod Frees
-pub mod Returns

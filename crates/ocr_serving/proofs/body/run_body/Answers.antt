@@ -1,5 +1,0 @@
-use Rattle.ocr_clerks.proofs.Pushing.{pushes_ok}
-use Rattle.ocr_serving.proofs.body.run_body.Goals as goal
-
-pub returns-clause-pushed : goal.returns-clause-pushed
-returns-clause-pushed g c = pushes_ok c.run_given.result c.args.clerk.now c.begin.new.clerk c.run_given.new.clerk c.args.hand.now c.run_given.new.hand c.in_ok-given.ensures.readied c.run_given.ensures.pushed

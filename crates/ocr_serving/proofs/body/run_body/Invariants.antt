@@ -1,5 +1,0 @@
-use Rattle.ocr_starting.specs.Given.{body_given}
-use Rattle.ocr_serving.proofs.body.run_body.Given as goal
-
-abbrev pub ghost-run_given : goal.ghost-run_given
-ghost-run_given g a = body_given a.job.now.program.now a.given.now

@@ -1,4 +1,0 @@
-use Rattle.ocr_serving.proofs.body.stop_body.Given as goal
-
-abbrev pub ghost-stop_run : goal.ghost-stop_run
-ghost-stop_run g a = g.b

@@ -1,5 +1,0 @@
-use Rattle.ocr_starting.specs.Given.{body_given}
-use Rattle.ocr_serving.proofs.desk.DeskApi.store.Given as goal
-
-abbrev pub ghost-store_word : goal.ghost-store_word
-ghost-store_word g a = body_given a.job.now.program.now a._given.now

@@ -1,4 +1,0 @@
-use Rattle.ocr_serving.proofs.desk.load_word.Given as goal
-
-abbrev pub ghost-load : goal.ghost-load
-ghost-load g a = g.b

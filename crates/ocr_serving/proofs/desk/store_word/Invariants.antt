@@ -1,4 +1,0 @@
-use Rattle.ocr_serving.proofs.desk.store_word.Given as goal
-
-abbrev pub ghost-store : goal.ghost-store
-ghost-store g a = g.b

@@ -1,7 +1,0 @@
-use Rattle.ocr_meaning.specs.Body.{says}
-use Rattle.ocr_running.specs.Serving.{own_log}
-use Rattle.ocr_serving.specs.Serving.{end_holds}
-use Rattle.ocr_serving.proofs.freeing.finish.Given as goal
-
-abbrev pub ghost-end : goal.ghost-end
-ghost-end g a = (g.s.0, (end_holds (says g.s.0 (own_log g.s.1.view.log a.edt)), (g.s.1, a.clerk.now)))

@@ -1,6 +1,0 @@
-use Rattle.ocr_parts.specs.declared.part.Part.TheVariants as part
-use Rattle.ocr_starting.proofs.Stepped.{core_found}
-use Rattle.ocr_serving.proofs.freeing.list_writes.Goals as goal
-
-pub lift-requires : goal.lift-requires
-lift-requires c = (part.Core c.requires.0, core_found c.args.place c.args.clerk.now c.requires.0 c.requires.1)

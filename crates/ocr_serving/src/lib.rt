@@ -1,8 +1,0 @@
-//! The body of an EDT on the table of turns, from its start to its end.
-#![tactic(auto)]
-
-mod body;
-mod desk;
-mod freeing;
-
-pub use body::run_body;

@@ -1,4 +1,0 @@
-pub mod Functions
-pub mod Givens
-pub mod Stepped
-pub mod Values

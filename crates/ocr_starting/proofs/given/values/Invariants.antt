@@ -1,6 +1,0 @@
-use Rattle.std.proofs.Common.{◌≡◌, ◌++◌, drop}
-use Rattle.ocr_starting.specs.Given.{values_by}
-use Rattle.ocr_starting.proofs.given.values.Given as goal
-
-abbrev pub invariant-loop-k : goal.invariant-loop-k
-invariant-loop-k l = l.values.items ++ values_by l.running.stale (drop l.k l.used) (drop l.k l.payloads) ≡ values_by l.running.stale l.used l.payloads

@@ -1,4 +1,0 @@
-pub mod Marks
-pub mod Complete
-pub mod Sound
-pub mod Exact

@@ -1,3 +1,0 @@
-pub mod Stops
-pub mod Some
-pub mod Fronts

@@ -1,7 +1,0 @@
-use Rattle.std.proofs.Common.{◌<◌, ℕ, slice_index_or, None}
-use Rattle.ocr_table.specs.Table.{state_in}
-use Rattle.ocr_stopping.specs.Stopping.{Delivers}
-use Rattle.ocr_stopping.proofs.delivering.row_delivers.Given as goal
-
-abbrev pub invariant-loop-message : goal.invariant-loop-message
-invariant-loop-message l = (i : ℕ) → i < l.message-index → Delivers (state_in l.table) (slice_index_or l.row i None) → ⊥

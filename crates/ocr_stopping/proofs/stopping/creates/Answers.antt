@@ -1,9 +1,0 @@
-use Rattle.std.proofs.Common.{◌≡◌, ◌≤◌, length, slice_index_or, subst, IfSome, IfNone}
-use Rattle.ocr_stopping.proofs.Stops.{create_by, create_none}
-use Rattle.ocr_stopping.proofs.stopping.creates.Goals as goal
-
-pub returns-in-Some : goal.returns-in-Some
-returns-in-Some c = λ s past rows front. create_by s past rows c.args.table.now c.args.verdicts.now c.in-Some.verdict.now c.args.edt c.is_running-running.result c.creates_so-so.result c.both.result front (subst (λ o. IfSome o (λ v. v.now ≡ slice_index_or c.args.verdicts.now c.args.edt v.now)) c.in-Some.is c.verdict_of.ensures.some) c.is_running-running.ensures c.creates_so-so.ensures c.both.ensures
-
-pub returns-in-None : goal.returns-in-None
-returns-in-None c = λ s past rows front. create_none s past rows c.args.table.now c.args.verdicts.now c.args.edt front (subst (λ o. IfNone o (length c.args.verdicts.now ≤ c.args.edt)) c.in-None.is c.verdict_of.ensures.none)

@@ -1,5 +1,0 @@
-use Rattle.ocr_stopping.proofs.Some.{shutdown_by}
-use Rattle.ocr_stopping.proofs.stopping.may_shut_down.Goals as goal
-
-pub returns : goal.returns
-returns c = λ s past rows front. shutdown_by s past rows c.args.table.now c.args.verdicts.now c.args.edt c.number-id.result c.stops.result c.number-id.ensures front (c.stops.ensures s past rows front)

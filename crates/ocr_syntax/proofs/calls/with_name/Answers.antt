@@ -1,5 +1,0 @@
-use Rattle.ocr_syntax.proofs.CallLemmas.{pushed_name}
-use Rattle.ocr_syntax.proofs.calls.with_name.Goals as goal
-
-pub returns : goal.returns
-returns c = pushed_name _ _ _ c.in_ok-push.ensures.items

@@ -1,5 +1,0 @@
-use Rattle.ocr_syntax.proofs.CallLemmas.{pushed_value}
-use Rattle.ocr_syntax.proofs.calls.with_value.Goals as goal
-
-pub returns : goal.returns
-returns c = pushed_value _ _ _ c.in_ok-push.ensures.items

@@ -1,9 +1,0 @@
-use Rattle.std.proofs.Common.{refl}
-use Rattle.ocr_tree.proofs.Rows.{creation_view}
-use Rattle.ocr_syntax.proofs.invoking.new_edt.Goals as goal
-
-pub returns : goal.returns
-returns c = (
-  refl,
-  creation_view c.args.template c.args.params.0 c.args.params.1 c.args.deps.0 c.args.deps.1 c.args.last.0 c.args.last.1,
-)

@@ -1,5 +1,0 @@
-pub mod Joined
-pub mod Machine
-pub mod Fitting
-pub mod View
-pub mod Marks

@@ -1,6 +1,0 @@
-use Rattle.std.proofs.Common.{◌≡◌, drop}
-use Rattle.ocr_table.specs.Sets.{filled, are_set}
-use Rattle.ocr_table.proofs.plans.are_set.Given as goal
-
-abbrev pub invariant-loop-k : goal.invariant-loop-k
-invariant-loop-k l = are_set (filled l.k (drop l.k l.slots) l.sets) ≡ are_set (filled 0 l.slots l.sets)

@@ -1,4 +1,0 @@
-use Rattle.ocr_table.proofs.table.Table.change.Goals as goal
-
-pub returns-clause-placed : goal.returns-clause-placed
-returns-clause-placed c = rw c.replace-parts.ensures.value at c.in_ok-stepped.ensures.placed

@@ -1,7 +1,0 @@
-use Rattle.std.proofs.Common.{◌∙◌}
-use Rattle.ocr_hand.proofs.Places.{ok_with}
-use Rattle.ocr_table.proofs.Tables.{next_is}
-use Rattle.ocr_table.proofs.table.Table.next.Goals as goal
-
-pub returns : goal.returns
-returns c = ok_with c.next_here.result c.next_here.ensures (λ n is. λ s past of. is ∙ next_is s past c.args.self.now c.args.edt of)

@@ -1,8 +1,0 @@
-use Rattle.std.proofs.Common.{◌≡◌, ◌++◌, drop}
-use Rattle.ocr_parts.specs.Calls.{depv_in}
-use Rattle.ocr_table.specs.Sets.{filled, stale_on}
-use Rattle.ocr_table.specs.Table.{core_on}
-use Rattle.ocr_table.proofs.table.Table.values.Given as goal
-
-abbrev pub invariant-loop-k : goal.invariant-loop-k
-invariant-loop-k l = l.values.items ++ depv_in (stale_on (core_on l.self l.edt)) (filled l.k (drop l.k l.slots) l.sets) ≡ depv_in (stale_on (core_on l.self l.edt)) (filled 0 l.slots l.sets)

@@ -1,0 +1,13 @@
+pub mod Sums
+pub mod Meaning
+pub mod Rule
+pub mod Steps
+pub mod Contract
+pub mod Clerks
+pub mod Openings
+pub mod Debts
+pub mod Counts
+pub mod Words
+pub mod Beginning
+pub mod Units
+pub mod Live

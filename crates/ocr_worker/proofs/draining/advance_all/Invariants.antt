@@ -1,9 +1,0 @@
-use Rattle.ocr_advancing.proofs.Rounds.{GoesOn}
-use Rattle.ocr_worker.proofs.Rounds.{IsPassing, Rests}
-use Rattle.ocr_worker.proofs.draining.advance_all.Given as goal
-
-abbrev pub invariant-loop-number : goal.invariant-loop-number
-invariant-loop-number g l =
-    GoesOn l.job.turns.now l.job.program.now l.fn.clerk l.clerk l.fn.hand l.hand
-    × IsPassing l.job.turns.now.1.limit l.number l.any l.fn.clerk l.clerk
-    × Rests l.job.turns.now l.fn.clerk l.clerk

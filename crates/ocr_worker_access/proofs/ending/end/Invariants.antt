@@ -1,0 +1,6 @@
+use Rattle.std.proofs.Common.{[]}
+use Rattle.ocr_worker_clerk.specs.Work.{in_hand}
+use Rattle.ocr_worker_access.proofs.ending.end.Given as goal
+
+abbrev pub ghost-enter_at_hand : goal.ghost-enter_at_hand
+ghost-enter_at_hand g a = record { members = []; parts = in_hand g.s.1.1.1.parts }

@@ -1,0 +1,5 @@
+pub mod Accesses
+pub mod Calls
+pub mod Access
+pub mod Served
+pub mod Stops

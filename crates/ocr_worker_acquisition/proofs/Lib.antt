@@ -1,0 +1,17 @@
+pub mod Acts
+pub mod After
+pub mod Awake
+pub mod Can
+pub mod Carries
+pub mod Faces
+pub mod Holds
+pub mod Learns
+pub mod Learnt
+pub mod Lets
+pub mod Parked
+pub mod Parks
+pub mod Readied
+pub mod States
+pub mod Takes
+pub mod Three
+pub mod Unstarted

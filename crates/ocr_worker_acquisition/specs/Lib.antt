@@ -1,0 +1,4 @@
+pub mod Acquisition
+pub mod Block
+pub mod Park
+pub mod Rounds

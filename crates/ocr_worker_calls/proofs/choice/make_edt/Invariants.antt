@@ -1,0 +1,7 @@
+use Rattle.ocr_worker_calls.proofs.choice.make_edt.Given as goal
+
+abbrev pub ghost-create_bare : goal.ghost-create_bare
+ghost-create_bare g a = (g.b, a.clerk.now)
+
+abbrev pub ghost-make_any_call : goal.ghost-make_any_call
+ghost-make_any_call g a = g.b

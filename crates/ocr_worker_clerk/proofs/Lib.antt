@@ -1,0 +1,14 @@
+pub mod Affords
+pub mod AtHand
+pub mod Counters
+pub mod Ends
+pub mod Entries
+pub mod Gives
+pub mod Goes
+pub mod Gone
+pub mod Hands
+pub mod Push
+pub mod Puts
+pub mod Seen
+pub mod Units
+pub mod Whole

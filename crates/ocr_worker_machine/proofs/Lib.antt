@@ -1,0 +1,16 @@
+pub mod Awaits
+pub mod Counted
+pub mod Quiet
+pub mod Entered
+pub mod Holds
+pub mod Homes
+pub mod Lawful
+pub mod Makes
+pub mod Owed
+pub mod Permanence
+pub mod Places
+pub mod Queues
+pub mod Runs
+pub mod Sends
+pub mod Slots
+pub mod Waits
