@@ -1,4 +1,5 @@
--- What a call answers besides its code, but for the hold that it ends: of that a run tells the rest.
+-- What a call answers besides its code, but for the hold that it ends: of that a run tells the
+-- rest.
 use Rattle.std.specs.Prelude.{◌≡◌, ℕ, true}
 use Rattle.ocr_guid.specs.Code.{number_of}
 use Rattle.ocr_body_meaning.specs.declared.call.Answer.{Answer}

@@ -25,8 +25,8 @@ abbrev pub is_for_writing : Option Mode → Bool
 is_for_writing None = false
 is_for_writing (Some m) = is_writable m
 
--- THE ENTRY WRITES INTO THE BLOCK, whether or not that changes a word: an accepted store, or the end
--- of a hold that has private writes
+-- THE ENTRY WRITES INTO THE BLOCK, whether or not that changes a word: an accepted store, or the
+-- end of a hold that has private writes
 abbrev pub are_some : List (ℕ × ℕ) → Bool
 are_some [] = false
 are_some (write ∷ rest) = true

@@ -2,15 +2,15 @@
 //! finds in a block, scopes, and output events.
 #![tactic(auto)]
 
+mod laws;
 mod memory;
 mod outputs;
 mod quiet;
-mod standing;
 
-pub use memory::memory_laws;
-pub use outputs::output_laws;
-pub use quiet::{quiet_laws, sent_laws, standing_laws};
-pub use standing::{
+pub use laws::{
     entering_laws, found_laws, going_laws, holding_laws, kept_laws, lasting_laws, scope_laws,
     working_laws,
 };
+pub use memory::memory_laws;
+pub use outputs::output_laws;
+pub use quiet::{quiet_laws, sent_laws, standing_laws};

@@ -80,8 +80,8 @@ impl State {
 
     /// The plan of an EDT: the blocks that its slots ask for so far.
     pub fn plan(&self, alloc: Global, edt: u64) -> Result<Plan, NoMemory>
-        ensures plan { IfOk result (λ plan. (s : Setting) (past : History) → IsStateOf s past self.now
-            → plan.items ≡ plan_of s past edt) }
+        ensures plan { IfOk result (λ plan. (s : Setting) (past : History)
+            → IsStateOf s past self.now → plan.items ≡ plan_of s past edt) }
         ensures well_formed { IfOk result (λ plan. IsWellFormed plan.items) }
     {
         self.plan_here(alloc, edt)

@@ -53,8 +53,8 @@ pub(crate) fn ended_mode(table: &State, entry: &Entry) -> Option<Mode>
 
 /// The mode in which an EDT acquires its next block.
 pub(crate) fn next_mode(alloc: Global, table: &State, edt: u64) -> Result<Option<Mode>, NoMemory>
-    ensures { IfOk result (λ mode. (s : Setting) (past : History) (d : ℕ) → IsStateOf s past table.now
-        → IsRun s past → IsLegal s past (an.Acquire edt d)
+    ensures { IfOk result (λ mode. (s : Setting) (past : History) (d : ℕ)
+        → IsStateOf s past table.now → IsRun s past → IsLegal s past (an.Acquire edt d)
         → acquired_mode s d past (an.Acquire edt d) ≡ mode) }
 {
     match table.next(alloc, edt)? {

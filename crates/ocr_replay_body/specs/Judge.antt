@@ -89,8 +89,8 @@ pub record IsWrong (b : Body) (t : ℕ) (entries : List Entry) (from at : ℕ) :
 
 -- the next entry of the EDT, which its body does not make, where there is one
 abbrev pub IsStuck : Body → ℕ → List Entry → ℕ → Type 0
-IsStuck b t entries from = (at : ℕ) → from ≤ at → at < length entries → HasNoEntries t entries from at
-    → (e : Entry) → e ≡ slice_index_or entries at e → runs t e ≡ true
+IsStuck b t entries from = (at : ℕ) → from ≤ at → at < length entries
+    → HasNoEntries t entries from at → (e : Entry) → e ≡ slice_index_or entries at e → runs t e ≡ true
     → IsMadeBy (at_place b t entries from) e → ⊥
 
 -- HOW A BODY ENDED, with the holds that it had then

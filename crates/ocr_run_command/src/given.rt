@@ -73,8 +73,8 @@ fn stop_of(error: &Error) -> WordsStop
     }
 }
 
-/// What is given, by clap's answer. `NoMemory` comes where clap was refused memory, or where numbers
-/// that it found could not be kept; `Refused` comes where clap refuses the words.
+/// What is given, by clap's answer. `NoMemory` comes where clap was refused memory, or where
+/// numbers that it found could not be kept; `Refused` comes where clap refuses the words.
 fn given_from<'a>(
     alloc: Global,
     answer: Result<ArgMatches<'a>, Error>,

@@ -46,8 +46,8 @@ impl Hand {
         self.own.len_as::<Looks>() > 1
     }
 
-    /// Takes the first EDT of the hand's deque. With `None` the hand is as before, and the rule of the
-    /// deque has a state in which it is empty; no clause tells at which step it was.
+    /// Takes the first EDT of the hand's deque. With `None` the hand is as before, and the rule of
+    /// the deque has a state in which it is empty; no clause tells at which step it was.
     pub fn take(&mut self) -> Option<Guid>
         ensures same { IsSame self.old self.new × (knows self.new ≡ knows self.old) }
         ensures none { IfNone result (IsFound 0 [] (own self.old) × (own self.new ≡ own self.old)

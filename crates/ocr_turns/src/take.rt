@@ -17,8 +17,8 @@ use std::thread;
 pub(crate) const TURNS: usize = 24;
 
 impl<M: Machine> Turns<M> {
-    /// Waits for the turn of a part, and reads the commit word before each try: a part is taken only
-    /// where the run was seen open in this call.
+    /// Waits for the turn of a part, and reads the commit word before each try: a part is taken
+    /// only where the run was seen open in this call.
     pub fn take<R: Wait>(&self, rt: &R, clerk: &mut Clerk<M>, place: u64) -> Taken
         requires table { IsOfTable self.now clerk.old }
         requires place { place ≤ 2 * self.now.1.limit }

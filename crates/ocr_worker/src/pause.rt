@@ -12,8 +12,8 @@ const TURNS: u32 = 200;
 /// The longest sleep is of 2^6 milliseconds.
 const DOUBLINGS: u32 = 6;
 
-/// A worker's pause since it last found something to do: a few spins, and then sleeps, each twice as
-/// long as the last, until the bell rings. Of all this no clause tells anything.
+/// A worker's pause since it last found something to do: a few spins, and then sleeps, each twice
+/// as long as the last, until the bell rings. Of all this no clause tells anything.
 #[derive(Drop)]
 pub(crate) struct Pause {
     // The rounds that found nothing since it last slept.

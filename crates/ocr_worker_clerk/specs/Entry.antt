@@ -34,8 +34,8 @@ pub record PlannedParts : Type 0 where
 -- The clerk has what the entry asks but for the share: it knows what it has to know of it, these
 -- parts, the EDT made ready, are those of the entry's places, and each event can be counted once
 -- more.
-pub record CanMake (t : OcrTerms) (v : OcrView) (e : Entry) (h : PlannedParts) (ps : List (ℕ × Part))
-    : Type 0 where
+pub record CanMake (t : OcrTerms) (v : OcrView) (e : Entry) (h : PlannedParts)
+    (ps : List (ℕ × Part)) : Type 0 where
   pub goes : is_stop e ≡ false
   pub owes : Has (delivered e) v.owed
   pub drawn : HasAll (makes e) v.drawn
@@ -53,8 +53,8 @@ making_units (Call t home (call.EdtCreate from pc ps dc ds fl o) a w) = 1
 making_units other = 0
 
 -- what a change has to be for a commit of the entry, and the room that this needs
-pub record IsPrepared (t : OcrTerms) (c : OcrKnown) (e : Entry) (h : PlannedParts) (later : List (ℕ × Part))
-    (sent : List What) : Type 0 where
+pub record IsPrepared (t : OcrTerms) (c : OcrKnown) (e : Entry) (h : PlannedParts)
+    (later : List (ℕ × Part)) (sent : List What) : Type 0 where
   pub step : IsStep t.limit e h.members h.parts later sent
   pub room : 2 ≤ c.room
   pub space : length sent ≤ c.space

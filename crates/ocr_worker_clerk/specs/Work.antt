@@ -230,7 +230,8 @@ pub record KeepsLoose (t : OcrTerms) (places : List ℕ) (c : OcrKnown) : Type 0
   pub within : All (λ p. p ≤ t.limit + t.limit) places
 
 -- AN ENTRY is in the log, and the parts that it names are at hand as it leaves them
-pub record EntersAs (t : OcrTerms) (old new : OcrKnown) (e : Entry) (h : PlannedParts) : Type 0 where
+pub record EntersAs (t : OcrTerms) (old new : OcrKnown) (e : Entry) (h : PlannedParts)
+    : Type 0 where
   pub number : ℕ
   pub later : List (ℕ × Part)
   pub sent : List What
@@ -243,7 +244,8 @@ pub record EntersAs (t : OcrTerms) (old new : OcrKnown) (e : Entry) (h : Planned
   pub sees : Sees meaning new.view
 
 -- of a clerk all of whose parts it names: what it leaves is kept and at hand
-pub record EntersKept (t : OcrTerms) (old new : OcrKnown) (e : Entry) (h : PlannedParts) : Type 0 where
+pub record EntersKept (t : OcrTerms) (old new : OcrKnown) (e : Entry) (h : PlannedParts)
+    : Type 0 where
   pub number : ℕ
   pub later : List (ℕ × Part)
   pub sent : List What

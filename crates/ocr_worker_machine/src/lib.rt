@@ -1,5 +1,5 @@
-//! The OCR machine as a table of turns sees it: the facts of its runs, the laws that a table asks of
-//! a machine, and when a run is quiescent by the countdown words of its EDTs.
+//! The OCR machine as a table of turns sees it: the facts of its runs, the laws that a table asks
+//! of a machine, and when a run is quiescent by the countdown words of its EDTs.
 #![tactic(auto)]
 
 mod drained;

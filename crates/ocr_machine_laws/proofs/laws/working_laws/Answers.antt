@@ -1,5 +1,5 @@
 use Rattle.ocr_machine_laws.proofs.Works.{freeing_law, dooming_law, sharing_law}
-use Rattle.ocr_machine_laws.proofs.standing.working_laws.Goals as goal
+use Rattle.ocr_machine_laws.proofs.laws.working_laws.Goals as goal
 
 pub returns-clause-freeing : goal.returns-clause-freeing
 returns-clause-freeing c = freeing_law

@@ -1,5 +1,5 @@
 use Rattle.ocr_machine_laws.proofs.Plain.{next_law, acquire_law, wait_law, stale_law, begin_law}
-use Rattle.ocr_machine_laws.proofs.standing.going_laws.Goals as goal
+use Rattle.ocr_machine_laws.proofs.laws.going_laws.Goals as goal
 
 pub returns-clause-next : goal.returns-clause-next
 returns-clause-next c = next_law

@@ -1,6 +1,6 @@
 use Rattle.ocr_machine_laws.proofs.Kept.{kept_law, back_law, after_kept_law, untouched_law, own_core_law}
 use Rattle.ocr_machine_laws.proofs.Filled.{filled_law}
-use Rattle.ocr_machine_laws.proofs.standing.kept_laws.Goals as goal
+use Rattle.ocr_machine_laws.proofs.laws.kept_laws.Goals as goal
 
 pub returns-clause-kept : goal.returns-clause-kept
 returns-clause-kept c = kept_law

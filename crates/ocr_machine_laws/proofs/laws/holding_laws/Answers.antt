@@ -1,5 +1,5 @@
 use Rattle.ocr_machine_laws.proofs.Held.{holding_law, held_law, kept_fits_law}
-use Rattle.ocr_machine_laws.proofs.standing.holding_laws.Goals as goal
+use Rattle.ocr_machine_laws.proofs.laws.holding_laws.Goals as goal
 
 pub returns-clause-holding : goal.returns-clause-holding
 returns-clause-holding c = holding_law

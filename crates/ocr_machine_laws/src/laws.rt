@@ -1,4 +1,4 @@
-// The laws of what lasts.
+// The laws of what lasts, of what rests on kept parts, and of when an entry may come.
 ghost use Rattle.ocr_machine_laws.specs.Found.{FoundLaw, UnchangedLaw};
 ghost use Rattle.ocr_machine_laws.specs.Held.{HoldingLaw, HeldLaw, KeptFitsLaw};
 ghost use Rattle.ocr_machine_laws.specs.Kept.{KeptLaw, BackLaw, AfterKeptLaw, UntouchedLaw, OwnCoreLaw, FilledLaw};

@@ -1,7 +1,7 @@
 use Rattle.ocr_machine_laws.proofs.Finished.{finish_law}
 use Rattle.ocr_machine_laws.proofs.Members.{members_law, leaving_law}
 use Rattle.ocr_machine_laws.proofs.Room.{joining_law}
-use Rattle.ocr_machine_laws.proofs.standing.scope_laws.Goals as goal
+use Rattle.ocr_machine_laws.proofs.laws.scope_laws.Goals as goal
 
 pub returns-clause-members : goal.returns-clause-members
 returns-clause-members c = members_law

@@ -2,7 +2,7 @@ use Rattle.ocr_machine_laws.proofs.Permanence.{made_law, stays_law}
 use Rattle.ocr_machine_laws.proofs.Once.{set_once_law, delivered_law}
 use Rattle.ocr_machine_laws.proofs.Planned.{planned_law}
 use Rattle.ocr_machine_laws.proofs.Own.{no_own_law, fresh_law, body_law}
-use Rattle.ocr_machine_laws.proofs.standing.lasting_laws.Goals as goal
+use Rattle.ocr_machine_laws.proofs.laws.lasting_laws.Goals as goal
 
 pub returns-clause-made : goal.returns-clause-made
 returns-clause-made c = made_law

@@ -1,7 +1,7 @@
 use Rattle.ocr_machine_laws.proofs.Callers.{call_law}
 use Rattle.ocr_machine_laws.proofs.Deliveries.{deliver_law}
 use Rattle.ocr_machine_laws.proofs.Runners.{free_law, end_law}
-use Rattle.ocr_machine_laws.proofs.standing.entering_laws.Goals as goal
+use Rattle.ocr_machine_laws.proofs.laws.entering_laws.Goals as goal
 
 pub returns-clause-call : goal.returns-clause-call
 returns-clause-call c = call_law

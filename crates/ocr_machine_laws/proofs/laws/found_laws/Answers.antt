@@ -1,5 +1,5 @@
 use Rattle.ocr_machine_laws.proofs.Found.{found_law, unchanged_law}
-use Rattle.ocr_machine_laws.proofs.standing.found_laws.Goals as goal
+use Rattle.ocr_machine_laws.proofs.laws.found_laws.Goals as goal
 
 pub returns-clause-found : goal.returns-clause-found
 returns-clause-found c = found_law
