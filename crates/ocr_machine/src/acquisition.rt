@@ -24,7 +24,7 @@ use std::alloc::Global;
 pub(crate) fn acquire_step(
     alloc: Global,
     parts: &mut TakenParts,
-    edt: u64,
+    edt: Guid,
     block: u64,
 ) -> Result<(), NoMemory>
     requires { IsAcquireOn (state parts.old) edt block }
@@ -37,7 +37,7 @@ pub(crate) fn acquire_step(
 }
 
 /// The mode of the block that an EDT acquires next.
-fn next_mode(parts: &TakenParts, edt: u64) -> Mode
+fn next_mode(parts: &TakenParts, edt: Guid) -> Mode
     requires { is_some (next_on (state parts.now) edt) ≡ true }
     ensures { result ≡ next_mode_on (state parts.now) edt }
 {
@@ -62,7 +62,7 @@ fn next_mode(parts: &TakenParts, edt: u64) -> Mode
 fn grant_at(
     alloc: Global,
     parts: &mut TakenParts,
-    edt: u64,
+    edt: Guid,
     block: u64,
     mode: Mode,
 ) -> Result<Kept, NoMemory>
@@ -83,15 +83,15 @@ fn grant_at(
 }
 
 /// The EDT holds the block, if it does not already.
-fn hold_block(alloc: Global, state: &mut BoxedBlock, edt: u64, mode: Mode) -> Result<(), NoMemory>
+fn hold_block(alloc: Global, state: &mut BoxedBlock, edt: Guid, mode: Mode) -> Result<(), NoMemory>
     requires { IsTaken edt mode state.old }
     ensures state { IfOk result (λ _. state.new ≡ asked_if edt mode state.old) }
     ensures held { IfOk result (λ _. mode_in edt state.new.holders ≡ Some mode) }
     ensures free { IfOk result (λ _. state.new.borrower ≡ None) }
     ensures words { IfOk result (λ _. state.new.words ≡ state.old.words) }
 {
-    if state.get().mode_of(Guid(edt)).is_none() {
-        state.ask(alloc, Guid(edt), mode)?;
+    if state.get().mode_of(edt).is_none() {
+        state.ask(alloc, edt, mode)?;
     }
     Ok(())
 }
@@ -100,7 +100,7 @@ fn hold_block(alloc: Global, state: &mut BoxedBlock, edt: u64, mode: Mode) -> Re
 fn lend_block(
     alloc: Global,
     state: &mut BoxedBlock,
-    edt: u64,
+    edt: Guid,
     mode: Mode,
 ) -> Result<Option<Lent>, NoMemory>
     requires held { mode_in edt state.old.holders ≡ Some mode }
@@ -109,8 +109,8 @@ fn lend_block(
     ensures loan { IfOk result (λ lent. lent ≡ given_loan mode state.old.words) }
 {
     match mode {
-        Mode::Ew => Ok(Some(state.lend(Guid(edt)))),
-        Mode::Const => Ok(Some(state.lend_const(alloc, Guid(edt))?)),
+        Mode::Ew => Ok(Some(state.lend(edt))),
+        Mode::Const => Ok(Some(state.lend_const(alloc, edt)?)),
         Mode::Null => Ok(None),
         Mode::Ro => Ok(None),
         Mode::Rw => Ok(None),
@@ -118,7 +118,7 @@ fn lend_block(
 }
 
 /// The next block of the EDT is acquired, which keeps this with it.
-fn acquire_core(parts: &mut TakenParts, edt: u64, block: u64, kept: Kept) -> Result<(), NoMemory>
+fn acquire_core(parts: &mut TakenParts, edt: Guid, block: u64, kept: Kept) -> Result<(), NoMemory>
     requires { is_some (next_on (state parts.old) edt) ≡ true }
     ensures { IfOk result (λ _. (m : Mode) (size : ℕ) (words : List ℕ)
         → kept ≡ kept_of m size words
@@ -135,7 +135,7 @@ fn acquire_core(parts: &mut TakenParts, edt: u64, block: u64, kept: Kept) -> Res
 }
 
 /// The EDT passes its next block by, which is gone.
-pub(crate) fn pass_by(parts: &mut TakenParts, edt: u64)
+pub(crate) fn pass_by(parts: &mut TakenParts, edt: Guid)
     requires { is_some (next_on (state parts.old) edt) ≡ true }
     ensures { Becomes parts.old parts.new (passed_by (state parts.old) edt) }
 {
@@ -163,7 +163,7 @@ fn awake(edt: Edt) -> Acquiring
 pub(crate) fn wait_step(
     alloc: Global,
     parts: &mut TakenParts,
-    edt: u64,
+    edt: Guid,
     block: u64,
 ) -> Result<(), NoMemory>
     requires { IsWaitOn (state parts.old) edt block }
@@ -179,7 +179,7 @@ pub(crate) fn wait_step(
 fn ask_at(
     alloc: Global,
     parts: &mut TakenParts,
-    edt: u64,
+    edt: Guid,
     block: u64,
     mode: Mode,
 ) -> Result<(), NoMemory>
@@ -189,13 +189,13 @@ fn ask_at(
         (with_block ((state parts.old).face block) (λ st. after_ask st edt mode)))) }
 {
     let mut state = parts.take_block(block);
-    state.ask(alloc, Guid(edt), mode)?;
+    state.ask(alloc, edt, mode)?;
     parts.put_face(block, Part::Block(state));
     Ok(())
 }
 
 /// The EDT waits.
-fn wait_core(parts: &mut TakenParts, edt: u64)
+fn wait_core(parts: &mut TakenParts, edt: Guid)
     requires acquiring { is_acquiring ((state parts.old).core edt) ≡ true }
     requires next { is_some (next_on (state parts.old) edt) ≡ true }
     ensures { Becomes parts.old parts.new
@@ -211,7 +211,7 @@ fn wait_core(parts: &mut TakenParts, edt: u64)
 }
 
 /// The EDT starts.
-pub(crate) fn start_core(parts: &mut TakenParts, edt: u64)
+pub(crate) fn start_core(parts: &mut TakenParts, edt: Guid)
     requires { IsStartOn (state parts.old) edt }
     ensures { Becomes parts.old parts.new
         (with_core (state parts.old) edt

@@ -35,7 +35,7 @@ pub struct Entered {
 pub(crate) fn call_entry(
     alloc: Global,
     parts: &mut TakenParts,
-    edt: u64,
+    edt: Guid,
     home: u64,
     call: &Call,
     answer: &Answer,
@@ -59,7 +59,7 @@ pub(crate) fn call_entry(
 fn call_step(
     alloc: Global,
     parts: &mut TakenParts,
-    edt: u64,
+    edt: Guid,
     home: u64,
     call: &Call,
     answer: &Answer,
@@ -270,7 +270,7 @@ fn link_at(parts: &mut TakenParts, edt: u64, slot: u64, mode: u64)
         (with_links ((state parts.old).face edt)
         (λ slots. after_link slots slot (mode_named mode)))) }
 {
-    let mut slots = parts.take_slots(edt);
+    let mut slots = parts.take_slots(Guid(edt));
     let _depc = slots.depc();
     slots.link(slot, named_mode(mode));
     parts.put_face(edt, Part::Edt(slots));

@@ -36,7 +36,7 @@ use std::alloc::Global;
 pub(crate) fn create_block(
     alloc: Global,
     parts: &mut TakenParts,
-    edt: u64,
+    edt: Guid,
     length: u64,
     flags: u64,
     block: u64,
@@ -62,10 +62,10 @@ pub(crate) fn create_block(
 }
 
 /// Who holds a block that is made.
-fn creator(edt: u64, flags: u64) -> Guid
+fn creator(edt: Guid, flags: u64) -> Guid
     ensures { result ≡ creator_of edt flags }
 {
-    if flags == 0 { Guid(edt) } else { Guid::NULL }
+    if flags == 0 { edt } else { Guid::NULL }
 }
 
 /// An EDT that made a block of so many words holds it, unless the flag says that it does not.
@@ -163,7 +163,7 @@ pub(crate) fn make_edt(
     create_beside(alloc, parts, home, answer)?;
     let identity = new_identity(flags, answer, home);
     create_edt(alloc, parts, template, params, depc, deps, identity)?;
-    depend_all(alloc, parts, answer.value, deps.as_slice())
+    depend_all(alloc, parts, Guid(answer.value), deps.as_slice())
 }
 
 /// The output event and the scope of a new EDT, where it has them.
@@ -243,7 +243,7 @@ fn create_edt(
     let slots = new_slots(alloc, count, deps.as_slice())?;
     let core = made_core(alloc, template.function, params, identity)?;
     parts.put_face(edt.0, Part::Edt(slots));
-    parts.put_core(edt.0, core);
+    parts.put_core(edt, core);
     Ok(())
 }
 

@@ -110,29 +110,29 @@ fn enter(alloc: Global, parts: &mut TakenParts, entry: &Entry) -> Result<Entered
             writes,
         } => {
             if answer.code == Code::Done {
-                call_entry(alloc, parts, edt.0, home.0, call, answer, writes)
+                call_entry(alloc, parts, *edt, home.0, call, answer, writes)
             } else {
                 Ok(nothing(alloc))
             }
         }
         Entry::Acquire { edt, block } => {
-            acquire_step(alloc, parts, edt.0, block.0)?;
+            acquire_step(alloc, parts, *edt, block.0)?;
             Ok(nothing(alloc))
         }
         Entry::Wait { edt, block } => {
-            wait_step(alloc, parts, edt.0, block.0)?;
+            wait_step(alloc, parts, *edt, block.0)?;
             Ok(nothing(alloc))
         }
         Entry::Start { edt } => {
-            start_core(parts, edt.0);
+            start_core(parts, *edt);
             Ok(nothing(alloc))
         }
         Entry::Free { edt, block, writes } => {
-            let resumed = end_hold(alloc, parts, edt.0, block.0, writes)?;
+            let resumed = end_hold(alloc, parts, *edt, block.0, writes)?;
             Ok(only_resumed(alloc, resumed))
         }
         Entry::End { edt, returned } => {
-            let messages = end_step(alloc, parts, edt.0, returned.0)?;
+            let messages = end_step(alloc, parts, *edt, returned.0)?;
             Ok(only_sent(alloc, messages))
         }
         Entry::Deliver { message, code } => {
@@ -144,7 +144,7 @@ fn enter(alloc: Global, parts: &mut TakenParts, entry: &Entry) -> Result<Entered
             }
         }
         Entry::StaleAcquire { edt, block: _ } => {
-            pass_by(parts, edt.0);
+            pass_by(parts, *edt);
             Ok(nothing(alloc))
         }
         Entry::Stop(_) => Ok(nothing(alloc)),

@@ -70,6 +70,7 @@ pub fn code_at(edt: Guid, call: &Call, faces: &Faces) -> Code
 }
 
 /// Whether the source of a dependence is its target.
+#[inline(always)]
 fn is_its_own(call: &Call) -> bool
     ensures { result ≡ is_its_own call.now }
 {
@@ -86,6 +87,8 @@ fn is_its_own(call: &Call) -> bool
 }
 
 /// Whether one of the objects that a call wants refuses it so.
+// Each caller knows the test: where all are inlined, the kind of the call is asked once.
+#[inline(always)]
 fn is_any(test: Test, edt: Guid, call: &Call, faces: &Faces) -> bool
     ensures { result ≡ is_any (test_of edt test) (faces_of faces.now) (wanted call.now) }
 {
@@ -161,6 +164,7 @@ fn is_any_source(test: Test, edt: Guid, deps: &[u64], faces: &Faces) -> bool
 }
 
 /// Whether the object refuses so, where it is wanted for this.
+#[inline(always)]
 fn refuses(test: Test, edt: Guid, sort: Sort, object: u64, faces: &Faces) -> bool
     ensures { result ≡ test_of edt test (sort_of sort) (faces_of faces.now object) }
 {
@@ -315,11 +319,10 @@ fn creation_code(
     ensures { result
         ≡ creation_code (faces_of faces.now template) paramc params.now depc deps.now flags }
 {
-    match faces.face(template) {
-        Some(Part::Template(template)) => counted_code(template, paramc, params, depc, deps, flags),
-        None | Some(Part::Vacant) | Some(Part::Core(_)) | Some(Part::Scope(_)) => Code::Einval,
-        Some(Part::Edt(_)) | Some(Part::Block(_)) | Some(Part::Event(_)) => Code::Einval,
-    }
+    let Some(Part::Template(template)) = faces.face(template) else {
+        return Code::Einval;
+    };
+    counted_code(template, paramc, params, depc, deps, flags)
 }
 
 fn counted_code(
@@ -368,17 +371,13 @@ pub(crate) fn most_slot(event: &AnyEvent) -> u64
 fn satisfy_code(faces: &Faces, event: u64, slot: u64, payload: Guid) -> Code
     ensures { result ≡ satisfy_code (faces_of faces.now event) slot payload }
 {
-    match faces.face(event) {
-        Some(Part::Event(event)) => {
-            if slot > most_slot(event.get()) {
-                Code::Einval
-            } else {
-                code_or(event.get().refusal(payload))
-            }
-        }
-        None | Some(Part::Vacant) | Some(Part::Core(_)) | Some(Part::Scope(_)) => Code::Einval,
-        Some(Part::Edt(_)) | Some(Part::Block(_)) | Some(Part::Template(_)) => Code::Einval,
+    let Some(Part::Event(event)) = faces.face(event) else {
+        return Code::Einval;
+    };
+    if slot > most_slot(event.get()) {
+        return Code::Einval;
     }
+    code_or(event.get().refusal(payload))
 }
 
 /// The code of a dependence, whose target is a slot of an EDT or of an event.
@@ -410,17 +409,14 @@ fn event_link_code(event: &AnyEvent, slot: u64, brings_block: bool) -> Code
 fn link_code(faces: &Faces, target: u64, slot: u64) -> Code
     ensures { result ≡ link_code (faces_of faces.now target) slot }
 {
-    match faces.face(target) {
-        Some(Part::Edt(slots)) => {
-            if slot >= u64::from(slots.depc()) {
-                Code::Einval
-            } else if slots.is_linked(slot as u32) {
-                Code::Eperm
-            } else {
-                Code::Done
-            }
-        }
-        None | Some(Part::Vacant) | Some(Part::Core(_)) | Some(Part::Scope(_)) => Code::Einval,
-        Some(Part::Block(_)) | Some(Part::Template(_)) | Some(Part::Event(_)) => Code::Einval,
+    let Some(Part::Edt(slots)) = faces.face(target) else {
+        return Code::Einval;
+    };
+    if slot >= u64::from(slots.depc()) {
+        return Code::Einval;
     }
+    if slots.is_linked(slot as u32) {
+        return Code::Eperm;
+    }
+    Code::Done
 }

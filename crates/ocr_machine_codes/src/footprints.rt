@@ -10,15 +10,19 @@ use ocr_base::NoMemory;
 use ocr_body_meaning::{Answer, Call};
 use ocr_guid::{Code, Guid};
 use ocr_machine_history::{Entry, What};
+use smallvec::SmallVec;
 use std::alloc::Global;
+
+/// Numbers of parts, of which most entries name few.
+pub type Numbers = SmallVec<u64, 8>;
 
 /// The numbers of the parts that the entry names, rising, each once. An object has parts where its
 /// number is from 1 to the limit.
-pub fn footprint(alloc: Global, entry: &Entry, limit: u64) -> Result<Vec<u64>, NoMemory>
+pub fn footprint(alloc: Global, entry: &Entry, limit: u64) -> Result<Numbers, NoMemory>
     requires { limit ≤ 65536 }
     ensures { IfOk result (λ numbers. numbers.items ≡ footprint_of limit entry.now) }
 {
-    let mut numbers = Vec::new(alloc);
+    let mut numbers = SmallVec::new(alloc);
     match entry {
         Entry::Call {
             edt,
@@ -59,8 +63,20 @@ pub fn footprint(alloc: Global, entry: &Entry, limit: u64) -> Result<Vec<u64>, N
     Ok(numbers)
 }
 
+/// The numbers of the faces that a call names before it is answered, rising, each once: of the
+/// objects that it wants, and of the home that it joins.
+pub fn call_faces(alloc: Global, limit: u64, home: Guid, call: &Call) -> Result<Numbers, NoMemory>
+    ensures { IfOk result (λ numbers. numbers.items
+        ≡ and_face limit home (and_wanted limit (wanted call.now) [])) }
+{
+    let mut numbers = SmallVec::new(alloc);
+    and_wanted(&mut numbers, limit, call)?;
+    and_face(&mut numbers, limit, home.0)?;
+    Ok(numbers)
+}
+
 /// The face of the event that a message satisfies, or of the scope that it leaves.
-fn and_message(numbers: &mut Vec<u64>, limit: u64, message: What) -> Result<(), NoMemory>
+fn and_message(numbers: &mut Numbers, limit: u64, message: What) -> Result<(), NoMemory>
     requires { numbers.old.items ≡ [] }
     ensures { IfOk result (λ _. numbers.new.items ≡ message_footprint limit message) }
 {
@@ -76,7 +92,7 @@ fn and_message(numbers: &mut Vec<u64>, limit: u64, message: What) -> Result<(), 
 }
 
 /// Puts a number at its place among rising numbers, once.
-fn place(numbers: &mut Vec<u64>, number: u64) -> Result<(), NoMemory>
+fn place(numbers: &mut Numbers, number: u64) -> Result<(), NoMemory>
     ensures { IfOk result (λ _. numbers.new.items ≡ placed number numbers.old.items) }
 {
     let at = place_of(numbers, number);
@@ -104,7 +120,7 @@ fn place_of(numbers: &[u64], number: u64) -> usize
     numbers.len()
 }
 
-fn and_face(numbers: &mut Vec<u64>, limit: u64, object: u64) -> Result<(), NoMemory>
+fn and_face(numbers: &mut Numbers, limit: u64, object: u64) -> Result<(), NoMemory>
     ensures { IfOk result (λ _. numbers.new.items ≡ and_face limit object numbers.old.items) }
 {
     if 1 <= object && object <= limit {
@@ -113,7 +129,7 @@ fn and_face(numbers: &mut Vec<u64>, limit: u64, object: u64) -> Result<(), NoMem
     Ok(())
 }
 
-fn and_core(numbers: &mut Vec<u64>, limit: u64, edt: u64) -> Result<(), NoMemory>
+fn and_core(numbers: &mut Numbers, limit: u64, edt: u64) -> Result<(), NoMemory>
     requires { limit ≤ 65536 }
     ensures { IfOk result (λ _. numbers.new.items ≡ and_core limit edt numbers.old.items) }
 {
@@ -124,7 +140,7 @@ fn and_core(numbers: &mut Vec<u64>, limit: u64, edt: u64) -> Result<(), NoMemory
 }
 
 /// The parts of an EDT that asks for a block.
-fn and_request(numbers: &mut Vec<u64>, limit: u64, edt: Guid, block: Guid) -> Result<(), NoMemory>
+fn and_request(numbers: &mut Numbers, limit: u64, edt: Guid, block: Guid) -> Result<(), NoMemory>
     requires { limit ≤ 65536 }
     ensures { IfOk result (λ _. numbers.new.items
         ≡ and_face limit edt (and_face limit block (and_core limit edt numbers.old.items))) }
@@ -135,12 +151,7 @@ fn and_request(numbers: &mut Vec<u64>, limit: u64, edt: Guid, block: Guid) -> Re
 }
 
 /// The parts of what a call makes.
-fn and_made(
-    numbers: &mut Vec<u64>,
-    limit: u64,
-    call: &Call,
-    answer: &Answer,
-) -> Result<(), NoMemory>
+fn and_made(numbers: &mut Numbers, limit: u64, call: &Call, answer: &Answer) -> Result<(), NoMemory>
     requires { limit ≤ 65536 }
     ensures { IfOk result (λ _. numbers.new.items
         ≡ and_made limit call.now answer.now numbers.old.items) }
@@ -156,7 +167,7 @@ fn and_made(
 
 /// The faces of a new EDT's scope and output event, and of the home that it joins.
 fn and_beside(
-    numbers: &mut Vec<u64>,
+    numbers: &mut Numbers,
     limit: u64,
     home: Guid,
     call: &Call,
@@ -174,7 +185,7 @@ fn and_beside(
 }
 
 /// The faces of the objects that a call wants.
-fn and_wanted(numbers: &mut Vec<u64>, limit: u64, call: &Call) -> Result<(), NoMemory>
+fn and_wanted(numbers: &mut Numbers, limit: u64, call: &Call) -> Result<(), NoMemory>
     ensures { IfOk result (λ _. numbers.new.items
         ≡ and_wanted limit (wanted call.now) numbers.old.items) }
 {
@@ -233,7 +244,7 @@ fn and_wanted(numbers: &mut Vec<u64>, limit: u64, call: &Call) -> Result<(), NoM
 }
 
 /// The faces of the objects that dependences name.
-fn and_sources(numbers: &mut Vec<u64>, limit: u64, deps: &[u64]) -> Result<(), NoMemory>
+fn and_sources(numbers: &mut Numbers, limit: u64, deps: &[u64]) -> Result<(), NoMemory>
     ensures { IfOk result (λ _. numbers.new.items
         ≡ and_wanted limit (wanted_sources deps.now) numbers.old.items) }
 {

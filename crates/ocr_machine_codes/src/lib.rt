@@ -7,5 +7,5 @@ mod footprints;
 mod lookup;
 
 pub use codes::{code_at, decide, delivery_code, is_object};
-pub use footprints::{footprint, weight};
+pub use footprints::{Numbers, call_faces, footprint, weight};
 pub use lookup::{Faces, find};

@@ -47,49 +47,32 @@ impl Faces<'_> {
     {
         match self.face(object) {
             None | Some(Part::Vacant) | Some(Part::Core(_)) => true,
-            Some(Part::Edt(_)) | Some(Part::Block(_)) | Some(Part::Template(_)) => false,
-            Some(Part::Event(_)) | Some(Part::Scope(_)) => false,
+            _ => false,
         }
     }
 
     pub(crate) fn is_block(&self, object: u64) -> bool
         ensures { result ≡ is_block (faces_of self.now object) }
     {
-        match self.face(object) {
-            Some(Part::Block(_)) => true,
-            None | Some(Part::Vacant) | Some(Part::Core(_)) | Some(Part::Scope(_)) => false,
-            Some(Part::Edt(_)) | Some(Part::Template(_)) | Some(Part::Event(_)) => false,
-        }
+        matches!(self.face(object), Some(Part::Block(_)))
     }
 
     pub(crate) fn is_template(&self, object: u64) -> bool
         ensures { result ≡ is_template (faces_of self.now object) }
     {
-        match self.face(object) {
-            Some(Part::Template(_)) => true,
-            None | Some(Part::Vacant) | Some(Part::Core(_)) | Some(Part::Scope(_)) => false,
-            Some(Part::Edt(_)) | Some(Part::Block(_)) | Some(Part::Event(_)) => false,
-        }
+        matches!(self.face(object), Some(Part::Template(_)))
     }
 
     pub(crate) fn is_event(&self, object: u64) -> bool
         ensures { result ≡ is_event (faces_of self.now object) }
     {
-        match self.face(object) {
-            Some(Part::Event(_)) => true,
-            None | Some(Part::Vacant) | Some(Part::Core(_)) | Some(Part::Scope(_)) => false,
-            Some(Part::Edt(_)) | Some(Part::Block(_)) | Some(Part::Template(_)) => false,
-        }
+        matches!(self.face(object), Some(Part::Event(_)))
     }
 
     pub(crate) fn is_edt(&self, object: u64) -> bool
         ensures { result ≡ is_edt_face (faces_of self.now object) }
     {
-        match self.face(object) {
-            Some(Part::Edt(_)) => true,
-            None | Some(Part::Vacant) | Some(Part::Core(_)) | Some(Part::Scope(_)) => false,
-            Some(Part::Block(_)) | Some(Part::Template(_)) | Some(Part::Event(_)) => false,
-        }
+        matches!(self.face(object), Some(Part::Edt(_)))
     }
 
     pub(crate) fn is_destroyed(&self, object: u64) -> bool
@@ -99,8 +82,7 @@ impl Faces<'_> {
             Some(Part::Block(state)) => state.get().is_destroyed(),
             Some(Part::Template(template)) => template.destroyed,
             Some(Part::Event(event)) => event.get().is_destroyed(),
-            None | Some(Part::Vacant) | Some(Part::Core(_)) => false,
-            Some(Part::Edt(_)) | Some(Part::Scope(_)) => false,
+            _ => false,
         }
     }
 
@@ -108,54 +90,49 @@ impl Faces<'_> {
     pub fn delivery_code(&self, event: u64, payload: Guid) -> Code
         ensures { result ≡ delivery_code (faces_of self.now event) payload }
     {
-        match self.face(event) {
-            Some(Part::Event(event)) => code_or(event.get().refusal(payload)),
-            None | Some(Part::Vacant) | Some(Part::Core(_)) | Some(Part::Scope(_)) => Code::Done,
-            Some(Part::Edt(_)) | Some(Part::Block(_)) | Some(Part::Template(_)) => Code::Done,
-        }
+        let Some(Part::Event(event)) = self.face(event) else {
+            return Code::Done;
+        };
+        code_or(event.get().refusal(payload))
     }
 
     /// Whether an event has the slot.
     pub fn is_satisfiable(&self, event: u64, slot: u64) -> bool
         ensures { (result ≡ true) ↔ IsSatisfiable slot (faces_of self.now event) }
     {
-        match self.face(event) {
-            Some(Part::Event(event)) => slot <= most_slot(event.get()),
-            None | Some(Part::Vacant) | Some(Part::Core(_)) | Some(Part::Scope(_)) => false,
-            Some(Part::Edt(_)) | Some(Part::Block(_)) | Some(Part::Template(_)) => false,
-        }
+        let Some(Part::Event(event)) = self.face(event) else {
+            return false;
+        };
+        slot <= most_slot(event.get())
     }
 
     /// Whether a scope takes one member more.
     pub fn is_joinable(&self, scope: u64) -> bool
         ensures { (result ≡ true) ↔ IsJoinable (faces_of self.now scope) }
     {
-        match self.face(scope) {
-            Some(Part::Scope(scope)) => 1 <= scope.members() && scope.members() < MOST_MEMBERS,
-            None | Some(Part::Vacant) | Some(Part::Core(_)) | Some(Part::Edt(_)) => false,
-            Some(Part::Block(_)) | Some(Part::Template(_)) | Some(Part::Event(_)) => false,
-        }
+        let Some(Part::Scope(scope)) = self.face(scope) else {
+            return false;
+        };
+        1 <= scope.members() && scope.members() < MOST_MEMBERS
     }
 
     /// Whether a scope has a member.
     pub fn has_member(&self, scope: u64) -> bool
         ensures { (result ≡ true) ↔ HasMember (faces_of self.now scope) }
     {
-        match self.face(scope) {
-            Some(Part::Scope(scope)) => 1 <= scope.members(),
-            None | Some(Part::Vacant) | Some(Part::Core(_)) | Some(Part::Edt(_)) => false,
-            Some(Part::Block(_)) | Some(Part::Template(_)) | Some(Part::Event(_)) => false,
-        }
+        let Some(Part::Scope(scope)) = self.face(scope) else {
+            return false;
+        };
+        1 <= scope.members()
     }
 
     pub(crate) fn is_held_by(&self, object: u64, edt: Guid) -> bool
         ensures { result ≡ is_held_by (faces_of self.now object) edt }
     {
-        match self.face(object) {
-            Some(Part::Block(state)) => state.get().mode_of(edt).is_some(),
-            None | Some(Part::Vacant) | Some(Part::Core(_)) | Some(Part::Scope(_)) => false,
-            Some(Part::Edt(_)) | Some(Part::Template(_)) | Some(Part::Event(_)) => false,
-        }
+        let Some(Part::Block(state)) = self.face(object) else {
+            return false;
+        };
+        state.get().mode_of(edt).is_some()
     }
 }
 

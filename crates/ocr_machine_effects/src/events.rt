@@ -180,7 +180,7 @@ fn get_now(messages: &mut Vec<What>, linked: Linked, target: Target) -> Result<(
 pub fn depend_all(
     alloc: Global,
     parts: &mut TakenParts,
-    edt: u64,
+    edt: Guid,
     deps: &[u64],
 ) -> Result<Vec<What>, NoMemory>
     requires { length deps.now ≤ 32 }
@@ -193,7 +193,7 @@ pub fn depend_all(
     for k in 0..deps.len() {
         if deps[k] != u64::MAX {
             let target = Target {
-                object: Guid(edt),
+                object: edt,
                 is_edt: true,
                 slot: k as u32,
             };

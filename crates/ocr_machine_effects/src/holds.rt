@@ -25,7 +25,7 @@ use std::alloc::Global;
 pub fn end_hold(
     alloc: Global,
     parts: &mut TakenParts,
-    edt: u64,
+    edt: Guid,
     block: u64,
     writes: &Writes,
 ) -> Result<Vec<Guid>, NoMemory>
@@ -40,7 +40,7 @@ pub fn end_hold(
 }
 
 /// The EDT drops its hold of the block; gives the loan.
-fn drop_core(parts: &mut TakenParts, edt: u64, block: u64) -> Option<Lent>
+fn drop_core(parts: &mut TakenParts, edt: Guid, block: u64) -> Option<Lent>
     requires { is_running ((state parts.old).core edt) ≡ true }
     ensures loan { result ≡ loan_on ((state parts.old).core edt) block }
     ensures parts { Becomes parts.old parts.new
@@ -66,7 +66,7 @@ fn loan_in(kept: Option<Kept>) -> Option<Lent>
 fn release_at(
     alloc: Global,
     parts: &mut TakenParts,
-    edt: u64,
+    edt: Guid,
     block: u64,
     lent: Option<Lent>,
     writes: &Writes,
@@ -80,13 +80,13 @@ fn release_at(
 {
     let mut state = parts.take_block(block);
     give_back(&mut state, edt, lent, writes);
-    let resumed = state.release(alloc, Guid(edt))?;
+    let resumed = state.release(alloc, edt)?;
     parts.put_face(block, Part::Block(state));
     Ok(resumed)
 }
 
 /// A loan comes back with the private writes of an entry, where there is one.
-fn give_back(state: &mut BoxedBlock, edt: u64, lent: Option<Lent>, writes: &Writes)
+fn give_back(state: &mut BoxedBlock, edt: Guid, lent: Option<Lent>, writes: &Writes)
     requires { IsLoanBack edt lent state.old }
     ensures state { state.new ≡ returned writes.now lent state.old }
     ensures none { is_number edt state.new.borrower ≡ false }
@@ -95,7 +95,7 @@ fn give_back(state: &mut BoxedBlock, edt: u64, lent: Option<Lent>, writes: &Writ
     ensures destroyed { state.new.destroyed ≡ state.old.destroyed }
 {
     if let Some(lent) = lent {
-        state.take_back_with(Guid(edt), lent, writes.as_slice());
+        state.take_back_with(edt, lent, writes.as_slice());
     }
 }
 
@@ -104,7 +104,7 @@ fn give_back(state: &mut BoxedBlock, edt: u64, lent: Option<Lent>, writes: &Writ
 pub fn destroy(
     alloc: Global,
     parts: &mut TakenParts,
-    edt: u64,
+    edt: Guid,
     block: u64,
     writes: &Writes,
 ) -> Result<Vec<Guid>, NoMemory>
@@ -124,7 +124,7 @@ pub fn destroy(
 fn doom_at(
     alloc: Global,
     parts: &mut TakenParts,
-    edt: u64,
+    edt: Guid,
     block: u64,
     lent: Option<Lent>,
     writes: &Writes,
@@ -139,7 +139,7 @@ fn doom_at(
 {
     let mut state = parts.take_block(block);
     give_back(&mut state, edt, lent, writes);
-    let resumed = state.doom(alloc, Guid(edt))?;
+    let resumed = state.doom(alloc, edt)?;
     parts.put_face(block, Part::Block(state));
     Ok(resumed)
 }
@@ -148,7 +148,7 @@ fn doom_at(
 pub fn end_step(
     alloc: Global,
     parts: &mut TakenParts,
-    edt: u64,
+    edt: Guid,
     returned: u64,
 ) -> Result<Vec<What>, NoMemory>
     requires { IsEndOn (state parts.old) edt }
@@ -176,7 +176,7 @@ fn payload_of_end(parts: &TakenParts, returned: u64) -> Guid
 }
 
 /// The EDT ends; gives what it keeps through all its phases.
-fn end_core(parts: &mut TakenParts, edt: u64) -> Identity
+fn end_core(parts: &mut TakenParts, edt: Guid) -> Identity
     requires { IsEndOn (state parts.old) edt }
     ensures parts { Becomes parts.old parts.new
         (with_core (state parts.old) edt

@@ -20,11 +20,10 @@ use std::alloc::Global;
 pub fn home_of(part: &Part) -> Guid
     ensures { result ≡ home_on part.now }
 {
-    match part {
-        Part::Core(core) => core.get().edt.scope(),
-        Part::Vacant | Part::Edt(_) | Part::Block(_) => Guid::NULL,
-        Part::Template(_) | Part::Event(_) | Part::Scope(_) => Guid::NULL,
-    }
+    let Part::Core(core) = part else {
+        return Guid::NULL;
+    };
+    core.get().edt.scope()
 }
 
 /// An EDT that is made joins its maker's home, where it has one.

@@ -6,6 +6,7 @@ ghost use Rattle.ocr_machine_parts.specs.declared.part.Part.TheVariants as part;
 ghost use Rattle.ocr_machine_effects.specs.AtHand.{state, with_part, is_core, items_of, is_whole, numbered, listed, all_of};
 
 use ocr_finish::Scope;
+use ocr_guid::Guid;
 use ocr_machine_codes::find;
 use ocr_machine_parts::{BoxedBlock, BoxedCore, BoxedEvent, Part};
 use ocr_slots::Slots;
@@ -90,12 +91,12 @@ impl TakenParts {
     }
 
     /// The core of an EDT; None where it is not at hand.
-    pub fn core(&self, edt: u64) -> Option<&Part>
+    pub fn core(&self, edt: Guid) -> Option<&Part>
         requires { edt ≤ self.now.limit }
         ensures some { IfSome result (λ p. look self.now.items (self.now.limit + edt) ≡ p.now) }
         ensures none { IfNone result (look self.now.items (self.now.limit + edt) ≡ part.Vacant) }
     {
-        find_in(&self.hand, self.limit + edt)
+        find_in(&self.hand, self.limit + edt.0)
     }
 
     /// Puts a face in the place of the one that an object has.
@@ -108,22 +109,22 @@ impl TakenParts {
 
     /// Puts a core in the place of the one that an EDT has.
     #[inline(always)]
-    pub fn put_core(&mut self, edt: u64, core: BoxedCore)
+    pub fn put_core(&mut self, edt: Guid, core: BoxedCore)
         requires { edt ≤ self.old.limit }
         ensures { self.new ≡ with_part self.old (self.old.limit + edt) (part.Core core) }
     {
-        set(&mut self.hand, self.limit + edt, Part::Core(core));
+        set(&mut self.hand, self.limit + edt.0, Part::Core(core));
     }
 
     /// Takes the core of an EDT out.
     #[inline(always)]
-    pub fn take_core(&mut self, edt: u64) -> BoxedCore
+    pub fn take_core(&mut self, edt: Guid) -> BoxedCore
         requires { is_core ((state self.old).core edt) ≡ true }
         ensures within { edt ≤ self.old.limit }
         ensures was { (state self.old).core edt ≡ part.Core result }
         ensures left { self.new ≡ with_part self.old (self.old.limit + edt) part.Vacant }
     {
-        let Part::Core(core) = take(&mut self.hand, self.limit + edt) else {
+        let Part::Core(core) = take(&mut self.hand, self.limit + edt.0) else {
             unreachable!()
         };
         core
@@ -160,11 +161,7 @@ impl TakenParts {
         if object < 1 || self.limit < object {
             return false;
         }
-        match find_in(&self.hand, object) {
-            Some(Part::Event(_)) => true,
-            None | Some(Part::Vacant) | Some(Part::Core(_)) | Some(Part::Scope(_)) => false,
-            Some(Part::Edt(_)) | Some(Part::Block(_)) | Some(Part::Template(_)) => false,
-        }
+        matches!(find_in(&self.hand, object), Some(Part::Event(_)))
     }
 
     /// Whether the object is a block.
@@ -174,11 +171,7 @@ impl TakenParts {
         if object < 1 || self.limit < object {
             return false;
         }
-        match find_in(&self.hand, object) {
-            Some(Part::Block(_)) => true,
-            None | Some(Part::Vacant) | Some(Part::Core(_)) | Some(Part::Scope(_)) => false,
-            Some(Part::Edt(_)) | Some(Part::Template(_)) | Some(Part::Event(_)) => false,
-        }
+        matches!(find_in(&self.hand, object), Some(Part::Block(_)))
     }
 
     /// Whether the object is an EDT.
@@ -188,11 +181,7 @@ impl TakenParts {
         if object < 1 || self.limit < object {
             return false;
         }
-        match find_in(&self.hand, object) {
-            Some(Part::Edt(_)) => true,
-            None | Some(Part::Vacant) | Some(Part::Core(_)) | Some(Part::Scope(_)) => false,
-            Some(Part::Block(_)) | Some(Part::Template(_)) | Some(Part::Event(_)) => false,
-        }
+        matches!(find_in(&self.hand, object), Some(Part::Edt(_)))
     }
 
     /// Takes an event out.
@@ -223,12 +212,12 @@ impl TakenParts {
 
     /// Takes the slots of an EDT out.
     #[inline(always)]
-    pub fn take_slots(&mut self, edt: u64) -> Slots
+    pub fn take_slots(&mut self, edt: Guid) -> Slots
         requires { is_edt_face ((state self.old).face edt) ≡ true }
         ensures was { (state self.old).face edt ≡ part.Edt result }
         ensures left { self.new ≡ with_part self.old edt part.Vacant }
     {
-        let Part::Edt(slots) = take(&mut self.hand, edt) else {
+        let Part::Edt(slots) = take(&mut self.hand, edt.0) else {
             unreachable!()
         };
         slots

@@ -1,6 +1,6 @@
 -- What the objects of a run are. The opening makes the argument block and the EDT of `mainEdt`.
 use Rattle.std.specs.Prelude.{ℕ, ◌+◌, ◌/◌, List, [], ◌∷◌, length, Bool, true, false, ◌||◌, ◌&&◌, not, ◌==◌, if◌then◌else◌, Option, Some, None}
-use Rattle.ocr_template.specs.Template.{count_meant}
+use Rattle.ocr_base.specs.Default.{count_meant}
 use Rattle.ocr_program_tree.specs.Functions.{number_of_main}
 use Rattle.ocr_body_meaning.specs.Call.{is_creation}
 use Rattle.ocr_body_meaning.specs.Holds.{is_done}

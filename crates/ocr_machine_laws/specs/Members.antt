@@ -1,5 +1,5 @@
 -- The members of a finish scope: who is in it still, and whose Leave is on its way.
-use Rattle.std.specs.Prelude.{◌≡◌, ◌≤◌, ℕ, zero, suc, ◌+◌, List, [], ◌∷◌, Bool, true, false, ◌||◌, ◌&&◌, not, ◌==◌, if◌then◌else◌}
+use Rattle.std.specs.Prelude.{◌≡◌, ◌↔◌, ◌≤◌, ℕ, zero, suc, ◌+◌, List, [], ◌∷◌, Bool, true, false, ◌||◌, ◌&&◌, not, ◌==◌, if◌then◌else◌}
 use Rattle.std.specs.List.{Contains}
 use Rattle.ocr_finish.specs.declared.TheConstants.{MOST_MEMBERS}
 use Rattle.ocr_machine_history.specs.declared.entry.What.{What}
@@ -92,3 +92,17 @@ FinishLaw = (s : Setting) (past : History) (x steps y t : ℕ) → IsRun s past
     → members_on ((parts_of s past).face x) ≡ 0 → lies_in (parts_of s past) x steps y ≡ true
     → is_edt past t ≡ true → names_new (identity_of past t).scope y ≡ true
     → is_ended past t ≡ true
+
+-- ALL MEMBERS HAVE LEFT once each EDT whose home it is has ended, each scope in it is done, and no
+-- Leave of it is undelivered
+pub record HaveAllLeft (s : Setting) (past : History) (x : ℕ) : Type 0 where
+  pub edts : (t : ℕ) → is_edt past t ≡ true → names_new (identity_of past t).scope x ≡ true
+      → is_ended past t ≡ true
+  pub scopes : (y : ℕ) → names_new (outer_on ((parts_of s past).face y)) x ≡ true
+      → members_on ((parts_of s past).face y) ≡ 0
+  pub delivered : (place index : ℕ) → Contains (pending s past) (place, index, what.Leave x) → ⊥
+
+-- and exactly then the scope has no member
+abbrev pub AllLeftLaw : Type 0
+AllLeftLaw = (s : Setting) (past : History) (x : ℕ) → IsRun s past
+    → members_on ((parts_of s past).face x) ≡ 0 ↔ HaveAllLeft s past x

@@ -3,7 +3,7 @@ ghost use Rattle.ocr_machine_laws.specs.Found.{FoundLaw, UnchangedLaw};
 ghost use Rattle.ocr_machine_laws.specs.Held.{HoldingLaw, HeldLaw, KeptFitsLaw};
 ghost use Rattle.ocr_machine_laws.specs.Kept.{KeptLaw, BackLaw, AfterKeptLaw, UntouchedLaw, OwnCoreLaw, FilledLaw};
 ghost use Rattle.ocr_machine_laws.specs.Permanence.{MadeLaw, SetOnceLaw, DeliveredLaw, StaysLaw, PlannedLaw, NoOwnLaw, FreshLaw, BodyLaw};
-ghost use Rattle.ocr_machine_laws.specs.Members.{MembersLaw, LeavingLaw, JoiningLaw, FinishLaw};
+ghost use Rattle.ocr_machine_laws.specs.Members.{MembersLaw, LeavingLaw, JoiningLaw, FinishLaw, AllLeftLaw};
 ghost use Rattle.ocr_machine_laws.specs.Plain.{NextLaw, AcquireLaw, WaitLaw, StaleLaw, BeginLaw, FreeingLaw, DoomingLaw, SharingLaw, FreeLaw, EndLaw, DeliverLaw, CallLaw};
 
 /// What an EDT holds is told by its core and by its blocks alike: the mode, the length and the
@@ -76,10 +76,12 @@ pub fn found_laws()
 /// The members of a finish scope are the EDTs whose home it is and that have not ended, the scopes
 /// in it that are not done, and one for each `Leave` that is to be delivered. So a `Leave` finds a
 /// scope with a member, the home of a running EDT can be joined by one that it makes, and once the
-/// scope is done all EDTs that were made in it, however deep, have ended.
+/// scope is done all EDTs that were made in it, however deep, have ended. It is done exactly if each
+/// EDT whose home it is has ended, each scope in it is done, and no `Leave` of it is undelivered.
 pub fn scope_laws()
     ensures members { MembersLaw }
     ensures leaving { LeavingLaw }
     ensures joining { JoiningLaw }
     ensures finish { FinishLaw }
+    ensures all_left { AllLeftLaw }
 {}

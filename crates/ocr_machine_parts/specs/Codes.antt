@@ -3,7 +3,7 @@
 use Rattle.std.specs.Prelude.{ℕ, List, [], ◌∷◌, length, Bool, true, false, ◌||◌, ◌&&◌, not, nat_le, nat_lt, ◌%◌, ◌==◌, if◌then◌else◌, Option, Some, None, Result, Ok, Err}
 use Rattle.ocr_guid.specs.declared.Code.{Code}
 use Rattle.ocr_guid.specs.declared.Code.TheVariants as code
-use Rattle.ocr_template.specs.declared.TheConstants.{EDT_PARAM_UNK}
+use Rattle.ocr_base.specs.declared.default.TheConstants.{EDT_PARAM_UNK}
 use Rattle.ocr_template.specs.Template.{counts_of}
 use Rattle.ocr_event_any.specs.AnyEvent as event
 use Rattle.ocr_event_any.specs.declared.AnyEvent.{AnyEvent}

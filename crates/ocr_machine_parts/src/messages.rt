@@ -11,6 +11,7 @@ use std::alloc::Global;
 
 /// What goes out where an EDT ends: the payload to its output event, where no scope of its own
 /// satisfies it, and that it leaves its home.
+#[inline(always)]
 pub fn sent_by_end(alloc: Global, identity: Identity, payload: Guid) -> Result<Vec<What>, NoMemory>
     ensures { IfOk result (λ r. r.items ≡ sent_by_end identity payload) }
 {

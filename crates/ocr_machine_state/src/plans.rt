@@ -65,21 +65,19 @@ fn payloads(alloc: Global, slots: &Slots, sets: &Sets) -> Result<Vec<Guid>, NoMe
 
 impl State {
     /// The slots of an EDT, and what they were set to; None where it is no EDT.
-    fn slots(&self, edt: u64) -> Option<(&Slots, &Sets)>
+    fn slots(&self, edt: Guid) -> Option<(&Slots, &Sets)>
         ensures some { IfSome result (λ pair. slots_on self.now edt
             ≡ filled 0 pair.0.now pair.1.now) }
         ensures none { IfNone result (slots_on self.now edt ≡ []) }
     {
-        match self.face(edt) {
-            Some(Part::Edt(slots)) => Some((slots, &self.sets[edt as usize])),
-            None | Some(Part::Vacant) | Some(Part::Block(_)) => None,
-            Some(Part::Template(_)) | Some(Part::Event(_)) => None,
-            Some(Part::Scope(_)) | Some(Part::Core(_)) => None,
-        }
+        let Some(Part::Edt(slots)) = self.face(edt.0) else {
+            return None;
+        };
+        Some((slots, &self.sets[edt.0 as usize]))
     }
 
     /// The plan of an EDT: the blocks that its slots ask for so far.
-    pub fn plan(&self, alloc: Global, edt: u64) -> Result<Plan, NoMemory>
+    pub fn plan(&self, alloc: Global, edt: Guid) -> Result<Plan, NoMemory>
         ensures plan { IfOk result (λ plan. (s : Setting) (past : History)
             → IsStateOf s past self.now → plan.items ≡ plan_of s past edt) }
         ensures well_formed { IfOk result (λ plan. IsWellFormed plan.items) }
@@ -87,7 +85,7 @@ impl State {
         self.plan_here(alloc, edt)
     }
 
-    fn plan_here(&self, alloc: Global, edt: u64) -> Result<Plan, NoMemory>
+    fn plan_here(&self, alloc: Global, edt: Guid) -> Result<Plan, NoMemory>
         ensures plan { IfOk result (λ plan. plan.items ≡ plan_on self.now edt) }
         ensures well_formed { IfOk result (λ plan. IsWellFormed plan.items) }
     {
@@ -102,14 +100,14 @@ impl State {
 
     /// The block that an EDT acquires next or waits for, with its mode; None where it has acquired
     /// its plan, and where it is no EDT that acquires.
-    pub fn next(&self, alloc: Global, edt: u64) -> Result<Option<(Guid, Mode)>, NoMemory>
+    pub fn next(&self, alloc: Global, edt: Guid) -> Result<Option<(Guid, Mode)>, NoMemory>
         ensures { IfOk result (λ next. (s : Setting) (past : History) → IsStateOf s past self.now
             → next ≡ next_on (ready_at edt (plan_of s past edt) (parts_of s past)) edt) }
     {
         self.next_here(alloc, edt)
     }
 
-    fn next_here(&self, alloc: Global, edt: u64) -> Result<Option<(Guid, Mode)>, NoMemory>
+    fn next_here(&self, alloc: Global, edt: Guid) -> Result<Option<(Guid, Mode)>, NoMemory>
         ensures { IfOk result (λ next. next ≡ next_in (core_progress
             (on_core (core_on self.now edt) (with_phase (made_ready (plan_on self.now edt)))))) }
     {
@@ -117,23 +115,21 @@ impl State {
             let members = self.plan_here(alloc, edt)?;
             return Ok(first(members.as_slice()));
         }
-        match self.core(edt) {
-            Some(Part::Core(core)) => Ok(next_of(core.get())),
-            Some(Part::Vacant) | Some(Part::Edt(_)) => Ok(None),
-            Some(Part::Block(_)) | Some(Part::Template(_)) => Ok(None),
-            Some(Part::Event(_)) | Some(Part::Scope(_)) | None => Ok(None),
-        }
+        let Some(Part::Core(core)) = self.core(edt) else {
+            return Ok(None);
+        };
+        Ok(next_of(core.get()))
     }
 
     /// Whether every slot of an EDT is set.
-    pub fn is_full(&self, edt: u64) -> bool
+    pub fn is_full(&self, edt: Guid) -> bool
         ensures { (s : Setting) (past : History) → IsStateOf s past self.now
             → (result ≡ true) ↔ (open_slots s past edt ≡ []) }
     {
         self.is_full_here(edt)
     }
 
-    fn is_full_here(&self, edt: u64) -> bool
+    fn is_full_here(&self, edt: Guid) -> bool
         ensures { result ≡ are_set (slots_on self.now edt) }
     {
         match self.slots(edt) {
@@ -143,14 +139,14 @@ impl State {
     }
 
     /// The payloads of an EDT's slots, each NULL_GUID where it is not set.
-    pub fn payloads(&self, alloc: Global, edt: u64) -> Result<Vec<Guid>, NoMemory>
+    pub fn payloads(&self, alloc: Global, edt: Guid) -> Result<Vec<Guid>, NoMemory>
         ensures { IfOk result (λ v. (s : Setting) (past : History) → IsStateOf s past self.now
             → v.items ≡ payloads_of s past edt) }
     {
         self.payloads_here(alloc, edt)
     }
 
-    fn payloads_here(&self, alloc: Global, edt: u64) -> Result<Vec<Guid>, NoMemory>
+    fn payloads_here(&self, alloc: Global, edt: Guid) -> Result<Vec<Guid>, NoMemory>
         ensures { IfOk result (λ v. v.items ≡ payloads_in (slots_on self.now edt)) }
     {
         match self.slots(edt) {
@@ -161,14 +157,14 @@ impl State {
 
     /// What the body of a running EDT gets, slot by slot: the payload, and NULL_GUID for a block
     /// that the EDT found gone, but in a slot of mode `Null`.
-    pub fn depv(&self, alloc: Global, edt: u64) -> Result<Vec<Guid>, NoMemory>
+    pub fn depv(&self, alloc: Global, edt: Guid) -> Result<Vec<Guid>, NoMemory>
         ensures { IfOk result (λ v. (s : Setting) (past : History) → IsStateOf s past self.now
             → is_running ((parts_of s past).core edt) ≡ true → v.items ≡ depv_of s past edt) }
     {
         self.depv_here(alloc, edt)
     }
 
-    fn depv_here(&self, alloc: Global, edt: u64) -> Result<Vec<Guid>, NoMemory>
+    fn depv_here(&self, alloc: Global, edt: Guid) -> Result<Vec<Guid>, NoMemory>
         ensures { IfOk result (λ v. v.items
             ≡ depv_in (stale_on (core_on self.now edt)) (slots_on self.now edt)) }
     {
@@ -181,7 +177,7 @@ impl State {
     fn values(
         &self,
         alloc: Global,
-        edt: u64,
+        edt: Guid,
         slots: &Slots,
         sets: &Sets,
     ) -> Result<Vec<Guid>, NoMemory>
@@ -195,7 +191,7 @@ impl State {
         Ok(values)
     }
 
-    fn value(&self, edt: u64, slots: &Slots, sets: &Sets, slot: u32) -> Guid
+    fn value(&self, edt: Guid, slots: &Slots, sets: &Sets, slot: u32) -> Guid
         requires { slot < length slots.now }
         ensures { result ≡ value_of_slot (stale_on (core_on self.now edt)) (record {
           mode = (slot_at slots.now slot).mode;
@@ -210,15 +206,13 @@ impl State {
     }
 
     /// Whether a running EDT found the block gone.
-    fn is_stale(&self, edt: u64, block: Guid) -> bool
+    fn is_stale(&self, edt: Guid, block: Guid) -> bool
         ensures { result ≡ is_named block (stale_on (core_on self.now edt)) }
     {
-        match self.core(edt) {
-            Some(Part::Core(core)) => is_stale_in(&core.get().edt, block),
-            Some(Part::Vacant) | Some(Part::Edt(_)) => false,
-            Some(Part::Block(_)) | Some(Part::Template(_)) => false,
-            Some(Part::Event(_)) | Some(Part::Scope(_)) | None => false,
-        }
+        let Some(Part::Core(core)) = self.core(edt) else {
+            return false;
+        };
+        is_stale_in(&core.get().edt, block)
     }
 
     /// An EDT that the entry lets go on is made ready.
@@ -242,15 +236,13 @@ impl State {
     }
 
     /// Whether the slots of an EDT are being filled.
-    fn is_filling(&self, edt: u64) -> bool
+    fn is_filling(&self, edt: Guid) -> bool
         ensures { result ≡ is_filling_on (core_on self.now edt) }
     {
-        match self.core(edt) {
-            Some(Part::Core(core)) => is_filling(&core.get().edt),
-            Some(Part::Vacant) | Some(Part::Edt(_)) => false,
-            Some(Part::Block(_)) | Some(Part::Template(_)) => false,
-            Some(Part::Event(_)) | Some(Part::Scope(_)) | None => false,
-        }
+        let Some(Part::Core(core)) = self.core(edt) else {
+            return false;
+        };
+        is_filling(&core.get().edt)
     }
 
     fn ready_core(&mut self, alloc: Global, edt: u64) -> Result<(), NoMemory>
@@ -262,10 +254,10 @@ impl State {
         ensures placed { IfOk result (λ _. AreAllPlaced self.old.limit self.old.parts.items
             → AreAllPlaced self.new.limit self.new.parts.items) }
     {
-        if !self.is_filling(edt) {
+        if !self.is_filling(Guid(edt)) {
             return Ok(());
         }
-        let members = self.plan_here(alloc, edt)?;
+        let members = self.plan_here(alloc, Guid(edt))?;
         let place = (self.limit + edt) as usize;
         let part = std::mem::replace(&mut self.parts[place], Part::Vacant);
         set_at(&mut self.parts, place, ready_part(part, members));
@@ -323,12 +315,7 @@ fn ready_part(part: Part, members: Plan) -> Part
             core.put_edt(ready(edt, members));
             Part::Core(core)
         }
-        Part::Vacant => Part::Vacant,
-        Part::Edt(slots) => Part::Edt(slots),
-        Part::Block(state) => Part::Block(state),
-        Part::Template(template) => Part::Template(template),
-        Part::Event(event) => Part::Event(event),
-        Part::Scope(scope) => Part::Scope(scope),
+        other => other,
     }
 }
 

@@ -259,7 +259,7 @@ impl State {
     pub fn home(&self, edt: Guid) -> Guid
         ensures { result ≡ home_on (core_on self.now edt) }
     {
-        match self.core(edt.0) {
+        match self.core(edt) {
             Some(part) => home_of(part),
             None => Guid::NULL,
         }
@@ -277,14 +277,14 @@ impl State {
     }
 
     /// The part at the number of an EDT's core; None where there is no such number.
-    pub fn core(&self, edt: u64) -> Option<&Part>
+    pub fn core(&self, edt: Guid) -> Option<&Part>
         ensures none { IfNone result (core_on self.now edt ≡ part.Vacant) }
         ensures some { IfSome result (λ p. core_on self.now edt ≡ as_core p.now) }
     {
-        if edt < 1 || self.limit < edt {
+        if edt.0 < 1 || self.limit < edt.0 {
             return None;
         }
-        let number = self.limit + edt;
+        let number = self.limit + edt.0;
         if number >= self.parts.len() as u64 {
             return None;
         }

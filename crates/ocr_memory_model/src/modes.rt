@@ -29,15 +29,13 @@ fn mode_in(core: &Core, block: u64) -> Option<Mode>
     }
 }
 
-fn mode_of(table: &State, edt: u64, block: u64) -> Option<Mode>
+fn mode_of(table: &State, edt: Guid, block: u64) -> Option<Mode>
     ensures { result ≡ mode_on (core_on table.now edt) block }
 {
-    match table.core(edt) {
-        Some(Part::Core(core)) => mode_in(core.get(), block),
-        Some(Part::Vacant) | Some(Part::Edt(_)) => None,
-        Some(Part::Block(_)) | Some(Part::Template(_)) => None,
-        Some(Part::Event(_)) | Some(Part::Scope(_)) | None => None,
-    }
+    let Some(Part::Core(core)) = table.core(edt) else {
+        return None;
+    };
+    mode_in(core.get(), block)
 }
 
 /// The mode of the hold that an entry ends.
@@ -46,13 +44,13 @@ pub(crate) fn ended_mode(table: &State, entry: &Entry) -> Option<Mode>
         → IsEndedIn s past entry.now result }
 {
     match given_in(entry) {
-        Some(block) => mode_of(table, edt_of(entry), block),
+        Some(block) => mode_of(table, Guid(edt_of(entry)), block),
         None => None,
     }
 }
 
 /// The mode in which an EDT acquires its next block.
-pub(crate) fn next_mode(alloc: Global, table: &State, edt: u64) -> Result<Option<Mode>, NoMemory>
+pub(crate) fn next_mode(alloc: Global, table: &State, edt: Guid) -> Result<Option<Mode>, NoMemory>
     ensures { IfOk result (λ mode. (s : Setting) (past : History) (d : ℕ)
         → IsStateOf s past table.now → IsRun s past → IsLegal s past (an.Acquire edt d)
         → acquired_mode s d past (an.Acquire edt d) ≡ mode) }

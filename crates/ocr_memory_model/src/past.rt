@@ -284,7 +284,7 @@ impl Past {
             Entry::Deliver { message, .. } => self.deliver_row(alloc, table, entries, message),
             Entry::Start { edt } => self.start_row(alloc, edt.0),
             Entry::Acquire { edt, block } => {
-                let mode = next_mode(alloc, table, edt.0)?;
+                let mode = next_mode(alloc, table, *edt)?;
                 self.acquire_row(alloc, edt.0, block.0, mode)
             }
             _ => self.own_row(alloc, edt_of(entry)),

@@ -185,17 +185,17 @@ objects_by s past rows table vs r front tested = as_well r (SomeCreates s past) 
     (λ some. record { open_run = front.open_run; on_parts = tt; on_facts = tt; said = tt; stopping = (some.0, some.1.0, some.1.1) })
     (λ legal. (legal.stopping.0, (legal.stopping.1, legal.stopping.2)))
 
-pub shutdown_by : (s : Setting) (past : History) (rows : _) (table : State) (vs : List Verdict) (t u : ℕ) (r : Bool) → u ≡ t → IsFront s past table rows vs → Whether r (IsStopping s past u stop.Shutdown) → Whether r (IsLegal s past (Stop (by.Shutdown t)))
-shutdown_by s past rows table vs t u r same front tested = as_well r (IsStopping s past t stop.Shutdown) (IsLegal s past (Stop (by.Shutdown t))) (subst (λ (k : ℕ). Whether r (IsStopping s past k stop.Shutdown)) same tested)
+pub shutdown_by : (s : Setting) (past : History) (rows : _) (table : State) (vs : List Verdict) (t : ℕ) (r : Bool) → IsFront s past table rows vs → Whether r (IsStopping s past t stop.Shutdown) → Whether r (IsLegal s past (Stop (by.Shutdown t)))
+shutdown_by s past rows table vs t r front tested = as_well r (IsStopping s past t stop.Shutdown) (IsLegal s past (Stop (by.Shutdown t))) tested
     (λ stops. record { open_run = front.open_run; on_parts = tt; on_facts = tt; said = stops.stops; stopping = stops.running })
     (λ legal. record { running = legal.stopping; stops = legal.said })
 
-pub abort_by : (s : Setting) (past : History) (rows : _) (table : State) (vs : List Verdict) (t u given : ℕ) (r : Bool) → u ≡ t → IsFront s past table rows vs → Whether r (IsStopping s past u (stop.Abort given)) → Whether r (IsLegal s past (Stop (by.Abort t given)))
-abort_by s past rows table vs t u given r same front tested = as_well r (IsStopping s past t (stop.Abort given)) (IsLegal s past (Stop (by.Abort t given))) (subst (λ (k : ℕ). Whether r (IsStopping s past k (stop.Abort given))) same tested)
+pub abort_by : (s : Setting) (past : History) (rows : _) (table : State) (vs : List Verdict) (t given : ℕ) (r : Bool) → IsFront s past table rows vs → Whether r (IsStopping s past t (stop.Abort given)) → Whether r (IsLegal s past (Stop (by.Abort t given)))
+abort_by s past rows table vs t given r front tested = as_well r (IsStopping s past t (stop.Abort given)) (IsLegal s past (Stop (by.Abort t given))) tested
     (λ stops. record { open_run = front.open_run; on_parts = tt; on_facts = tt; said = stops.stops; stopping = stops.running })
     (λ legal. record { running = legal.stopping; stops = legal.said })
 
-pub fault_by : (s : Setting) (past : History) (rows : _) (table : State) (vs : List Verdict) (t u : ℕ) (fault : Fault) (why : BodyStop) (r : Bool) → u ≡ t → why ≡ faulted fault → IsFront s past table rows vs → Whether r (IsStopping s past u why) → Whether r (IsLegal s past (Stop (by.Fault t fault)))
-fault_by s past rows table vs t u fault why r same is front tested = as_well r (IsStopping s past t (faulted fault)) (IsLegal s past (Stop (by.Fault t fault))) (subst (λ (k : ℕ). Whether r (IsStopping s past k (faulted fault))) same (subst (λ (b : BodyStop). Whether r (IsStopping s past u b)) is tested))
+pub fault_by : (s : Setting) (past : History) (rows : _) (table : State) (vs : List Verdict) (t : ℕ) (fault : Fault) (why : BodyStop) (r : Bool) → why ≡ faulted fault → IsFront s past table rows vs → Whether r (IsStopping s past t why) → Whether r (IsLegal s past (Stop (by.Fault t fault)))
+fault_by s past rows table vs t fault why r is front tested = as_well r (IsStopping s past t (faulted fault)) (IsLegal s past (Stop (by.Fault t fault))) (subst (λ (b : BodyStop). Whether r (IsStopping s past t b)) is tested)
     (λ stops. record { open_run = front.open_run; on_parts = tt; on_facts = tt; said = stops.stops; stopping = stops.running })
     (λ legal. record { running = legal.stopping; stops = legal.said })

@@ -209,8 +209,8 @@ impl Replay {
         holding_laws(); // only for the proof: what is kept fits the holds
         lasting_laws();
         let next = links.next(place);
-        let deps = self.table.depv(alloc, edt.0)?;
-        let Some(Part::Core(core)) = self.table.core(edt.0) else {
+        let deps = self.table.depv(alloc, edt)?;
+        let Some(Part::Core(core)) = self.table.core(edt) else {
             unreachable!()
         };
         let verdict = verdict_on(

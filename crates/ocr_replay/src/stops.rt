@@ -29,7 +29,7 @@ fn both(one: bool, other: bool) -> bool
 }
 
 /// Whether the EDT runs, and its body stops for this.
-fn stops(table: &State, verdicts: &[Verdict], edt: u64, why: BodyStop) -> bool
+fn stops(table: &State, verdicts: &[Verdict], edt: Guid, why: BodyStop) -> bool
     ensures { (s : Setting) (past : History) (rows : List (List (Option What)))
         → IsFront s past table.now rows verdicts.now → Whether result (IsStopping s past edt why) }
 {
@@ -44,7 +44,7 @@ fn stops(table: &State, verdicts: &[Verdict], edt: u64, why: BodyStop) -> bool
 }
 
 /// Whether the EDT runs, and its body makes an object next and is not refused.
-fn creates(table: &State, verdicts: &[Verdict], edt: u64) -> bool
+fn creates(table: &State, verdicts: &[Verdict], edt: Guid) -> bool
     ensures { (s : Setting) (past : History) (rows : List (List (Option What)))
         → IsFront s past table.now rows verdicts.now → Whether result (Creates s past edt) }
 {
@@ -59,7 +59,7 @@ fn creates(table: &State, verdicts: &[Verdict], edt: u64) -> bool
 }
 
 /// Whether the EDT runs, and an entry that its body makes next could come with this weight.
-fn runs_weighed(table: &State, room: u64, verdicts: &[Verdict], edt: u64, weight: u64) -> bool
+fn runs_weighed(table: &State, room: u64, verdicts: &[Verdict], edt: Guid, weight: u64) -> bool
     ensures { (s : Setting) (past : History) (rows : List (List (Option What)))
         → IsFront s past table.now rows verdicts.now
         → IsRoom s.limit (parts_of s past) room
@@ -81,7 +81,7 @@ fn could(
     table: &State,
     room: u64,
     verdicts: &[Verdict],
-    edt: u64,
+    edt: Guid,
     weight: u64,
 ) -> Result<bool, NoMemory>
     ensures { IfOk result (λ answer. (s : Setting) (past : History)
@@ -109,12 +109,12 @@ fn some_creates(table: &State, verdicts: &[Verdict]) -> bool
 {
     let mut n = table.limit;
     while n > 0 {
-        if creates(table, verdicts, n) {
+        if creates(table, verdicts, Guid(n)) {
             return true;
         }
         n -= 1;
     }
-    creates(table, verdicts, 0)
+    creates(table, verdicts, Guid::NULL)
 }
 
 /// Whether some entry of an EDT could come with this weight.
@@ -132,13 +132,13 @@ fn some_could(
 {
     let mut n = table.limit;
     while n > 0 {
-        let here = could(alloc, table, room, verdicts, n, weight)?;
+        let here = could(alloc, table, room, verdicts, Guid(n), weight)?;
         if here {
             return Ok(true);
         }
         n -= 1;
     }
-    let last = could(alloc, table, room, verdicts, 0, weight)?;
+    let last = could(alloc, table, room, verdicts, Guid::NULL, weight)?;
     Ok(last)
 }
 
@@ -180,12 +180,6 @@ fn fault_of(fault: Fault) -> BodyStop
     }
 }
 
-fn number(edt: Guid) -> u64
-    ensures { result ≡ edt }
-{
-    edt.0
-}
-
 fn may_lack(table: &State, verdicts: &[Verdict]) -> bool
     ensures { (s : Setting) (past : History) (rows : List (List (Option What)))
         → IsFront s past table.now rows verdicts.now
@@ -199,8 +193,7 @@ fn may_shut_down(table: &State, verdicts: &[Verdict], edt: Guid) -> bool
         → IsFront s past table.now rows verdicts.now
         → Whether result (IsLegal s past (an.Stop (by.Shutdown edt))) }
 {
-    let id = number(edt);
-    stops(table, verdicts, id, BodyStop::Shutdown)
+    stops(table, verdicts, edt, BodyStop::Shutdown)
 }
 
 fn may_abort(table: &State, verdicts: &[Verdict], edt: Guid, code: u64) -> bool
@@ -208,8 +201,7 @@ fn may_abort(table: &State, verdicts: &[Verdict], edt: Guid, code: u64) -> bool
         → IsFront s past table.now rows verdicts.now
         → Whether result (IsLegal s past (an.Stop (by.Abort edt code))) }
 {
-    let id = number(edt);
-    stops(table, verdicts, id, BodyStop::Abort(code))
+    stops(table, verdicts, edt, BodyStop::Abort(code))
 }
 
 fn may_fault(table: &State, verdicts: &[Verdict], edt: Guid, fault: Fault) -> bool
@@ -217,9 +209,8 @@ fn may_fault(table: &State, verdicts: &[Verdict], edt: Guid, fault: Fault) -> bo
         → IsFront s past table.now rows verdicts.now
         → Whether result (IsLegal s past (an.Stop (by.Fault edt fault))) }
 {
-    let id = number(edt);
     let why = fault_of(fault);
-    stops(table, verdicts, id, why)
+    stops(table, verdicts, edt, why)
 }
 
 /// Whether the run that has these parts and messages may be stopped so.

@@ -19,14 +19,14 @@ use ocr_replay_body::{Told, Verdict};
 use ocr_replay_legality::{can_weigh, least_held};
 
 /// The verdict on the EDT; None where there is none.
-pub(crate) fn verdict_of(verdicts: &[Verdict], edt: u64) -> Option<&Verdict>
+pub(crate) fn verdict_of(verdicts: &[Verdict], edt: Guid) -> Option<&Verdict>
     ensures some { IfSome result (λ v. v.now ≡ slice_index_or verdicts.now edt v.now) }
     ensures none { IfNone result (length verdicts.now ≤ edt) }
 {
-    if edt >= verdicts.len() as u64 {
+    if edt.0 >= verdicts.len() as u64 {
         return None;
     }
-    Some(&verdicts[edt as usize])
+    Some(&verdicts[edt.0 as usize])
 }
 
 fn is_same(left: BodyStop, right: BodyStop) -> bool
@@ -47,11 +47,11 @@ pub(crate) fn stops_so(said: &Told, why: BodyStop) -> bool
 }
 
 /// Whether the body makes an object next, and is not refused.
-pub(crate) fn creates_so(table: &State, edt: u64, said: &Told) -> bool
+pub(crate) fn creates_so(table: &State, edt: Guid, said: &Told) -> bool
     ensures { Whether result (CreatesBy (face_on table.now) edt said.now) }
 {
     match said {
-        Told::Asks(call, _) => call.is_creation() && table.decide(Guid(edt), call) == Code::Done,
+        Told::Asks(call, _) => call.is_creation() && table.decide(edt, call) == Code::Done,
         Told::Stopped(_) => false,
         Told::Ended(_) => false,
     }
@@ -88,7 +88,7 @@ fn is_one_more(weight: u64, count: usize) -> bool
 }
 
 /// Whether the end that the body has come to weighs so.
-fn ends_so(table: &State, edt: u64, counts: &[(Guid, usize)], weight: u64) -> bool
+fn ends_so(table: &State, edt: Guid, counts: &[(Guid, usize)], weight: u64) -> bool
     ensures { Whether result (weight ≡ 1 + count_of
         (least_of (holds_of (work_of (core_on table.now edt)))) counts.now) }
 {
@@ -96,7 +96,7 @@ fn ends_so(table: &State, edt: u64, counts: &[(Guid, usize)], weight: u64) -> bo
 }
 
 /// Whether an entry that the body makes next could come with this weight.
-pub(crate) fn weighs_so(table: &State, room: u64, edt: u64, said: &Told, weight: u64) -> bool
+pub(crate) fn weighs_so(table: &State, room: u64, edt: Guid, said: &Told, weight: u64) -> bool
     ensures { (s : Setting) (past : History) → IsStateOf s past table.now → IsRun s past
         → IsRoom s.limit (parts_of s past) room
         → Whether result (WeighsBy s.limit (parts_of s past) edt said.now weight) }

@@ -89,18 +89,18 @@ pub call_answered : (s : Setting) (past : History) (table : State) (t home : ℕ
     → (w : List (ℕ × ℕ)) → Whether answer (MayEnter s past (Call t home c a w))
 call_answered s past table t home c a answer tested of run w = call_tested s past table t home c a w answer of run tested
 
-free_is : (table : State) (t u d : ℕ) (both running here : Bool) (least : Option ℕ) → u ≡ t → both ≡ (running && here) → running ≡ is_running (core_on table u) → here ≡ is_this least d → least ≡ least_of (holds_of (work_of (core_on table u)))
+free_is : (table : State) (t d : ℕ) (both running here : Bool) (least : Option ℕ) → both ≡ (running && here) → running ≡ is_running (core_on table t) → here ≡ is_this least d → least ≡ least_of (holds_of (work_of (core_on table t)))
     → both ≡ (is_running (core_on table t) && is_this (least_of (holds_of (work_of (core_on table t)))) d)
-free_is table t u d both running here least same is runs is_here is_least = is ∙ and_is running here (is_running (core_on table t)) (is_this (least_of (holds_of (work_of (core_on table t)))) d) (runs ∙ ap (λ (k : ℕ). is_running (core_on table k)) same) (is_here ∙ ap (λ (o : Option ℕ). is_this o d) (is_least ∙ ap (λ (k : ℕ). least_of (holds_of (work_of (core_on table k)))) same))
+free_is table t d both running here least is runs is_here is_least = is ∙ and_is running here (is_running (core_on table t)) (is_this (least_of (holds_of (work_of (core_on table t)))) d) runs (is_here ∙ ap (λ (o : Option ℕ). is_this o d) is_least)
 
-pub free_answered : (s : Setting) (past : History) (table : State) (t u d : ℕ) (both running here : Bool) (least : Option ℕ) → u ≡ t → both ≡ (running && here) → running ≡ is_running (core_on table u) → here ≡ is_this least d → least ≡ least_of (holds_of (work_of (core_on table u)))
+pub free_answered : (s : Setting) (past : History) (table : State) (t d : ℕ) (both running here : Bool) (least : Option ℕ) → both ≡ (running && here) → running ≡ is_running (core_on table t) → here ≡ is_this least d → least ≡ least_of (holds_of (work_of (core_on table t)))
     → IsStateOf s past table → IsRun s past → (w : List (ℕ × ℕ)) → Whether both (MayEnter s past (Free t d w))
-free_answered s past table t u d both running here least same is runs is_here is_least of run w = turned both _ (MayEnter s past (Free t d w)) (free_is table t u d both running here least same is runs is_here is_least) (free_tested s past table t d w of run)
+free_answered s past table t d both running here least is runs is_here is_least of run w = turned both _ (MayEnter s past (Free t d w)) (free_is table t d both running here least is runs is_here is_least) (free_tested s past table t d w of run)
 
-end_is : (table : State) (t u : ℕ) (both running here : Bool) (least : Option ℕ) → u ≡ t → both ≡ (running && here) → running ≡ is_running (core_on table u) → here ≡ not (is_some least) → least ≡ least_of (holds_of (work_of (core_on table u)))
+end_is : (table : State) (t : ℕ) (both running here : Bool) (least : Option ℕ) → both ≡ (running && here) → running ≡ is_running (core_on table t) → here ≡ not (is_some least) → least ≡ least_of (holds_of (work_of (core_on table t)))
     → both ≡ (is_running (core_on table t) && not (is_some (least_of (holds_of (work_of (core_on table t))))))
-end_is table t u both running here least same is runs is_here is_least = is ∙ and_is running here (is_running (core_on table t)) (not (is_some (least_of (holds_of (work_of (core_on table t)))))) (runs ∙ ap (λ (k : ℕ). is_running (core_on table k)) same) (is_here ∙ ap (λ (o : Option ℕ). not (is_some o)) (is_least ∙ ap (λ (k : ℕ). least_of (holds_of (work_of (core_on table k)))) same))
+end_is table t both running here least is runs is_here is_least = is ∙ and_is running here (is_running (core_on table t)) (not (is_some (least_of (holds_of (work_of (core_on table t)))))) runs (is_here ∙ ap (λ (o : Option ℕ). not (is_some o)) is_least)
 
-pub end_answered : (s : Setting) (past : History) (table : State) (t u : ℕ) (both running here : Bool) (least : Option ℕ) → u ≡ t → both ≡ (running && here) → running ≡ is_running (core_on table u) → here ≡ not (is_some least) → least ≡ least_of (holds_of (work_of (core_on table u)))
+pub end_answered : (s : Setting) (past : History) (table : State) (t : ℕ) (both running here : Bool) (least : Option ℕ) → both ≡ (running && here) → running ≡ is_running (core_on table t) → here ≡ not (is_some least) → least ≡ least_of (holds_of (work_of (core_on table t)))
     → IsStateOf s past table → IsRun s past → (g : ℕ) → Whether both (MayEnter s past (End t g))
-end_answered s past table t u both running here least same is runs is_here is_least of run g = turned both _ (MayEnter s past (End t g)) (end_is table t u both running here least same is runs is_here is_least) (end_tested s past table t g of run)
+end_answered s past table t both running here least is runs is_here is_least of run g = turned both _ (MayEnter s past (End t g)) (end_is table t both running here least is runs is_here is_least) (end_tested s past table t g of run)

@@ -110,12 +110,12 @@ ready s past t = ready_at t (plan_of s past t) (parts_of s past)
 found : (s : Setting) (past : History) (table : State) (t d : ℕ) (full : Bool) (next : Option (ℕ × Mode)) (m : Mode) → IsTested s past table t full next → full ≡ true → next ≡ Some (d, m) → IsNow s past t d m (ready s past t)
 found s past table t d full next m is on here = now_next s past t d m is.run (is.full_is.0 on) (sym is.next_is ∙ here)
 
-pub tested : (s : Setting) (past : History) (table : State) (t u : ℕ) (full : Bool) (next : Option (ℕ × Mode)) → u ≡ t → IsStateOf s past table → IsRun s past → (full ≡ true) ↔ (open_slots s past u ≡ []) → next ≡ next_on (ready_at u (plan_of s past u) (parts_of s past)) u → IsTested s past table t full next
-tested s past table t u full next same of run full_is next_is = record {
+pub tested : (s : Setting) (past : History) (table : State) (t : ℕ) (full : Bool) (next : Option (ℕ × Mode)) → IsStateOf s past table → IsRun s past → (full ≡ true) ↔ (open_slots s past t ≡ []) → next ≡ next_on (ready_at t (plan_of s past t) (parts_of s past)) t → IsTested s past table t full next
+tested s past table t full next of run full_is next_is = record {
   of = of;
   run = run;
-  full_is = subst (λ (k : ℕ). (full ≡ true) ↔ (open_slots s past k ≡ [])) same full_is;
-  next_is = subst (λ (k : ℕ). next ≡ next_on (ready_at k (plan_of s past k) (parts_of s past)) k) same next_is;
+  full_is = full_is;
+  next_is = next_is;
 }
 
 pub acquire_tested : (s : Setting) (past : History) (table : State) (t d : ℕ) (full : Bool) (next : Option (ℕ × Mode)) → IsTested s past table t full next

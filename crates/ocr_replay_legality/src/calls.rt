@@ -36,7 +36,7 @@ fn has_new_core(table: &State, answer: &Answer) -> bool
     ensures { Whether result (is_done answer.now.code ≡ true
         → core_on table.now answer.now.value ≡ part.Vacant) }
 {
-    answer.code != Code::Done || has_no_core(table, answer.value)
+    answer.code != Code::Done || has_no_core(table, Guid(answer.value))
 }
 
 fn same_mode(one: Option<Mode>, other: Option<Mode>) -> bool
@@ -51,21 +51,13 @@ pub(crate) fn is_shared(table: &State, edt: Guid, block: u64, word: u64) -> bool
         (IsShared edt word (mode_on (core_on table.now edt) block))) }
 {
     let mode = mode_at(table, edt, block);
-    match table.face(block) {
-        Some(Part::Block(state)) => {
-            let state = state.get();
-            word < u64::from(state.words())
-                && same_mode(mode, state.mode_of(edt))
-                && state.borrower().is_none()
-        }
-        Some(Part::Vacant) => false,
-        Some(Part::Core(_)) => false,
-        Some(Part::Edt(_)) => false,
-        Some(Part::Template(_)) => false,
-        Some(Part::Event(_)) => false,
-        Some(Part::Scope(_)) => false,
-        None => false,
-    }
+    let Some(Part::Block(state)) = table.face(block) else {
+        return false;
+    };
+    let state = state.get();
+    word < u64::from(state.words())
+        && same_mode(mode, state.mode_of(edt))
+        && state.borrower().is_none()
 }
 
 /// And whether it has this value.
@@ -74,22 +66,14 @@ fn is_loaded(table: &State, edt: Guid, block: u64, word: u64, value: u64) -> boo
         (IsLoaded edt word (mode_on (core_on table.now edt) block) value)) }
 {
     let mode = mode_at(table, edt, block);
-    match table.face(block) {
-        Some(Part::Block(state)) => {
-            let state = state.get();
-            word < u64::from(state.words())
-                && same_mode(mode, state.mode_of(edt))
-                && state.borrower().is_none()
-                && state.load(word as u32) == value
-        }
-        Some(Part::Vacant) => false,
-        Some(Part::Core(_)) => false,
-        Some(Part::Edt(_)) => false,
-        Some(Part::Template(_)) => false,
-        Some(Part::Event(_)) => false,
-        Some(Part::Scope(_)) => false,
-        None => false,
-    }
+    let Some(Part::Block(state)) = table.face(block) else {
+        return false;
+    };
+    let state = state.get();
+    word < u64::from(state.words())
+        && same_mode(mode, state.mode_of(edt))
+        && state.borrower().is_none()
+        && state.load(word as u32) == value
 }
 
 /// Whether the call is answered so, but for the hold that it ends.
@@ -205,7 +189,7 @@ pub(crate) fn is_call_so(table: &State, edt: Guid, home: Guid, call: &Call, answ
     ensures { Whether result (IsCallSo table.now.limit
         (state_in table.now) edt home call.now answer.now) }
 {
-    is_running(table, edt.0)
+    is_running(table, edt)
         && answer.code == table.decide(edt, call)
         && answers(table, edt, call, answer)
         && is_scoped(table, call, answer)

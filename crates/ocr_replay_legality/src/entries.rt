@@ -22,19 +22,12 @@ use ocr_machine_history::{Entry, Message, What};
 use ocr_machine_state::State;
 use std::alloc::Global;
 
-fn number(edt: Guid) -> u64
-    ensures { result ≡ edt }
-{
-    edt.0
-}
-
 fn may_acquire(alloc: Global, table: &State, edt: Guid, block: Guid) -> Result<bool, NoMemory>
     ensures { IfOk result (λ answer. (s : Setting) (past : History) → IsStateOf s past table.now
         → IsRun s past → Whether answer (MayEnter s past (an.Acquire edt block))) }
 {
-    let id = number(edt);
-    let next = table.next(alloc, id)?;
-    let full = table.is_full(id);
+    let next = table.next(alloc, edt)?;
+    let full = table.is_full(edt);
     let here = opens_next(table, next, edt, block);
     Ok(both(full, here))
 }
@@ -43,9 +36,8 @@ fn may_wait(alloc: Global, table: &State, edt: Guid, block: Guid) -> Result<bool
     ensures { IfOk result (λ answer. (s : Setting) (past : History) → IsStateOf s past table.now
         → IsRun s past → Whether answer (MayEnter s past (an.Wait edt block))) }
 {
-    let id = number(edt);
-    let next = table.next(alloc, id)?;
-    let full = table.is_full(id);
+    let next = table.next(alloc, edt)?;
+    let full = table.is_full(edt);
     let here = shuts_there(table, next, edt, block);
     Ok(both(full, here))
 }
@@ -54,9 +46,8 @@ fn may_find_gone(alloc: Global, table: &State, edt: Guid, block: Guid) -> Result
     ensures { IfOk result (λ answer. (s : Setting) (past : History) → IsStateOf s past table.now
         → IsRun s past → Whether answer (MayEnter s past (an.StaleAcquire edt block))) }
 {
-    let id = number(edt);
-    let next = table.next(alloc, id)?;
-    let full = table.is_full(id);
+    let next = table.next(alloc, edt)?;
+    let full = table.is_full(edt);
     let here = gone_next(table, next, block);
     Ok(both(full, here))
 }
@@ -65,9 +56,8 @@ fn may_start(alloc: Global, table: &State, edt: Guid) -> Result<bool, NoMemory>
     ensures { IfOk result (λ answer. (s : Setting) (past : History) → IsStateOf s past table.now
         → IsRun s past → Whether answer (MayEnter s past (an.Start edt))) }
 {
-    let id = number(edt);
-    let next = table.next(alloc, id)?;
-    let full = table.is_full(id);
+    let next = table.next(alloc, edt)?;
+    let full = table.is_full(edt);
     let here = starts_there(table, next, edt);
     Ok(both(full, here))
 }
@@ -85,9 +75,8 @@ fn may_free(table: &State, edt: Guid, block: Guid) -> bool
     ensures { (s : Setting) (past : History) → IsStateOf s past table.now → IsRun s past
         → (writes : List (ℕ × ℕ)) → Whether result (MayEnter s past (an.Free edt block writes)) }
 {
-    let id = number(edt);
-    let running = is_running(table, id);
-    let here = is_this(least_held(table, id), block);
+    let running = is_running(table, edt);
+    let here = is_this(least_held(table, edt), block);
     both(running, here)
 }
 
@@ -101,9 +90,8 @@ fn may_end(table: &State, edt: Guid) -> bool
     ensures { (s : Setting) (past : History) → IsStateOf s past table.now → IsRun s past
         → (g : ℕ) → Whether result (MayEnter s past (an.End edt g)) }
 {
-    let id = number(edt);
-    let running = is_running(table, id);
-    let here = is_nothing(least_held(table, id));
+    let running = is_running(table, edt);
+    let here = is_nothing(least_held(table, edt));
     both(running, here)
 }
 
@@ -181,21 +169,19 @@ pub fn is_legal(alloc: Global, table: &State, entry: &Entry) -> Result<bool, NoM
 }
 
 /// Whether the EDT starts, acquires the next block or finds it gone, or waits for it.
-fn goes_on(table: &State, next: Option<(Guid, Mode)>, edt: u64) -> bool
+fn goes_on(table: &State, next: Option<(Guid, Mode)>, edt: Guid) -> bool
     ensures { result ≡ is_going (face_on table.now) (core_on table.now edt) edt next }
 {
     match next {
         Some((block, mode)) => {
-            is_open(table, Guid(edt), block.0, mode)
-                || is_gone(table, block.0)
-                || begins(table, edt)
+            is_open(table, edt, block.0, mode) || is_gone(table, block.0) || begins(table, edt)
         }
         None => begins(table, edt),
     }
 }
 
 /// Whether some entry may come by which the EDT goes on to its start.
-pub fn can_wake(alloc: Global, table: &State, edt: u64) -> Result<bool, NoMemory>
+pub fn can_wake(alloc: Global, table: &State, edt: Guid) -> Result<bool, NoMemory>
     ensures { IfOk result (λ answer. (s : Setting) (past : History) → IsStateOf s past table.now
         → IsRun s past → Whether answer (MayGoOn s past edt)) }
 {

@@ -55,12 +55,12 @@ pub(crate) fn shuts_there(table: &State, next: Option<(Guid, Mode)>, edt: Guid, 
     ensures { result ≡ (begins (core_on table.now edt)
         && is_at next block (shuts (face_on table.now block))) }
 {
-    begins(table, edt.0) && shuts_next(table, next, block)
+    begins(table, edt) && shuts_next(table, next, block)
 }
 
 /// Whether the EDT acquires or is to begin, and no block comes next.
 pub(crate) fn starts_there(table: &State, next: Option<(Guid, Mode)>, edt: Guid) -> bool
     ensures { result ≡ (begins (core_on table.now edt) && not (is_some next)) }
 {
-    begins(table, edt.0) && next.is_none()
+    begins(table, edt) && next.is_none()
 }

@@ -97,17 +97,17 @@ fn has_answer(table: &State, room: u64, edt: Guid, call: &Call, done: bool) -> b
     }
 }
 
-fn may_ask(table: &State, room: u64, edt: u64, call: &Call, done: bool) -> bool
+fn may_ask(table: &State, room: u64, edt: Guid, call: &Call, done: bool) -> bool
     ensures { Whether result ((is_running (core_on table.now edt) ≡ true)
         × HasAnswer (state_in table.now) room edt call.now done) }
 {
-    is_running(table, edt) && has_answer(table, room, Guid(edt), call, done)
+    is_running(table, edt) && has_answer(table, room, edt, call, done)
 }
 
-fn accepts(table: &State, edt: u64, call: &Call) -> bool
+fn accepts(table: &State, edt: Guid, call: &Call) -> bool
     ensures { result ≡ is_done (code_of edt (face_on table.now) call.now) }
 {
-    table.decide(Guid(edt), call) == Code::Done
+    table.decide(edt, call) == Code::Done
 }
 
 fn weighs_by(call: &Call, done: bool) -> u64
@@ -136,7 +136,14 @@ fn weighs_so(call: &Call, done: bool, count: usize, weight: u64) -> bool
 /// Whether the EDT runs and some answer lets the call be entered with this weight. The room tells
 /// how many numbers are left for objects; a call that is accepted may end a hold of so many
 /// private writes.
-pub fn can_weigh(table: &State, room: u64, edt: u64, call: &Call, count: usize, weight: u64) -> bool
+pub fn can_weigh(
+    table: &State,
+    room: u64,
+    edt: Guid,
+    call: &Call,
+    count: usize,
+    weight: u64,
+) -> bool
     ensures { (s : Setting) (past : History) → IsStateOf s past table.now → IsRun s past
         → IsRoom s.limit (parts_of s past) room
         → Whether result (CanWeigh s.limit (parts_of s past) edt call.now count weight) }

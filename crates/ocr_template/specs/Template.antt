@@ -3,13 +3,9 @@ use Rattle.std.specs.Prelude.{◌≡◌, ◌<◌, ℕ, Bool, ◌||◌, ◌&&◌,
 use Rattle.ocr_guid.specs.declared.Code.{Code}
 use Rattle.ocr_guid.specs.declared.Code.TheVariants.{Einval}
 use Rattle.ocr_base.specs.declared.limits.TheConstants.{MOST_PARAMETERS, MOST_DEPENDENCES}
-use Rattle.ocr_template.specs.declared.TheConstants.{EDT_PARAM_UNK, EDT_PARAM_DEF}
+use Rattle.ocr_base.specs.declared.default.TheConstants.{EDT_PARAM_UNK, EDT_PARAM_DEF}
+pub use Rattle.ocr_base.specs.Default.{count_meant}
 use Rattle.ocr_template.specs.declared.Template.{Template}
-
--- THE COUNT that a creation means: the template's own where it asks for the default, else the one
--- that it gives.
-abbrev pub count_meant : (own given : ℕ) → ℕ
-count_meant own given = if given == EDT_PARAM_DEF then own else given
 
 -- THE REFUSALS of a count, each in its own words.
 

@@ -4,14 +4,8 @@
 ghost use Rattle.std.specs.Prelude.{◌≡◌, ◌⊎◌, ◌↔◌, SomeIff, false};
 ghost use Rattle.ocr_template.specs.Template.{count_meant, IsRefused, is_refused, counts_of};
 
-pub use ocr_base::{MOST_DEPENDENCES, MOST_PARAMETERS};
+pub use ocr_base::{EDT_PARAM_DEF, EDT_PARAM_UNK, MOST_DEPENDENCES, MOST_PARAMETERS};
 use ocr_guid::Code;
-
-/// The count that a template leaves open.
-pub const EDT_PARAM_UNK: u64 = 4_294_967_295;
-
-/// The count by which a creation asks for the template's own.
-pub const EDT_PARAM_DEF: u64 = 4_294_967_294;
 
 /// What the EDTs that are made from it have in common: their function, and their counts of
 /// parameters and dependences, each open where it is `EDT_PARAM_UNK`. A template is destroyed where

@@ -213,15 +213,18 @@ fn a_table_opens_with_the_first_edt(rt: HostRuntime) -> Result<(), Fail> {
     let alloc = rt.alloc();
     let table = State::opened(alloc, 1, &[7], OBJECTS)?;
     let first = (Guid(1), Mode::Rw);
-    assert!(rt; table.is_full(2));
-    assert_eq!(rt; table.plan(alloc, 2)?.as_slice(), [first].as_slice());
-    assert_eq!(rt; table.next(alloc, 2)?, Some(first));
-    assert_eq!(rt; table.payloads(alloc, 2)?.as_slice(), [Guid(1)].as_slice());
+    assert!(rt; table.is_full(Guid(2)));
+    assert_eq!(rt; table.plan(alloc, Guid(2))?.as_slice(), [first].as_slice());
+    assert_eq!(rt; table.next(alloc, Guid(2))?, Some(first));
+    assert_eq!(rt;
+        table.payloads(alloc, Guid(2))?.as_slice(),
+        [Guid(1)].as_slice()
+    );
     Ok(())
 }
 
 fn first_home(table: &State) -> Option<Guid> {
-    table.core(2).map(|core| home_of(core))
+    table.core(Guid(2)).map(|core| home_of(core))
 }
 
 #[test]

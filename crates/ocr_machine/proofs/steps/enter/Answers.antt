@@ -14,7 +14,7 @@ call_entry-requires-clause-accepted c =
     let on : IsCallOn h.limit (state h) c.in-Call.edt c.in-Call.home c.in-Call.call c.in-Call.answer c.in-Call.writes = rw c.in-Call.is at c.requires.legal in
     let covers : Covers h.limit (Call c.in-Call.edt c.in-Call.home c.in-Call.call c.in-Call.answer c.in-Call.writes) h.items = rw c.in-Call.is at c.requires.covers in
     let done : c.in-Call.answer.code ≡ code.Done = search rules in
-    rw (c.edt.view_is, c.home.view_is) (record {
+    rw c.home.view_is (record {
       legal = on;
       done = done;
       made = has_made h c.in-Call.edt c.in-Call.home c.in-Call.call c.in-Call.answer c.in-Call.writes covers (ap is_done done) on;

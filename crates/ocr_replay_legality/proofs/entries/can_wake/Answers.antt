@@ -4,4 +4,4 @@ use Rattle.ocr_replay_legality.proofs.entries.can_wake.Goals as goal
 
 pub returns : goal.returns
 returns c = λ s past of run. turned c.both.result _ _ (c.both.ensures ∙ and_is c.is_full-full.result c.goes_on-here.result c.is_full-full.result _ refl c.goes_on-here.ensures)
-    (going_tested s past c.args.table.now c.args.edt c.is_full-full.result c.in_ok-next.next (tested s past c.args.table.now c.args.edt c.args.edt c.is_full-full.result c.in_ok-next.next refl of run (c.is_full-full.ensures s past of) (c.in_ok-next.ensures s past of)))
+    (going_tested s past c.args.table.now c.args.edt c.is_full-full.result c.in_ok-next.next (tested s past c.args.table.now c.args.edt c.is_full-full.result c.in_ok-next.next of run (c.is_full-full.ensures s past of) (c.in_ok-next.ensures s past of)))

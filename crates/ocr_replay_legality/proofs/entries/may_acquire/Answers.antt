@@ -4,4 +4,4 @@ use Rattle.ocr_replay_legality.proofs.entries.may_acquire.Goals as goal
 
 pub returns : goal.returns
 returns c = λ s past of run. turned c.both.result _ _ (c.both.ensures ∙ and_is c.is_full-full.result c.opens_next-here.result c.is_full-full.result _ refl c.opens_next-here.ensures)
-    (acquire_tested s past c.args.table.now c.args.edt c.args.block c.is_full-full.result c.in_ok-next.next (tested s past c.args.table.now c.args.edt c.number-id.result c.is_full-full.result c.in_ok-next.next c.number-id.ensures of run (c.is_full-full.ensures s past of) (c.in_ok-next.ensures s past of)))
+    (acquire_tested s past c.args.table.now c.args.edt c.args.block c.is_full-full.result c.in_ok-next.next (tested s past c.args.table.now c.args.edt c.is_full-full.result c.in_ok-next.next of run (c.is_full-full.ensures s past of) (c.in_ok-next.ensures s past of)))

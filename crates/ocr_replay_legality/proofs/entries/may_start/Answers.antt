@@ -4,4 +4,4 @@ use Rattle.ocr_replay_legality.proofs.entries.may_start.Goals as goal
 
 pub returns : goal.returns
 returns c = λ s past of run. turned c.both.result _ _ (c.both.ensures ∙ and_is c.is_full-full.result c.starts_there-here.result c.is_full-full.result _ refl c.starts_there-here.ensures)
-    (start_tested s past c.args.table.now c.args.edt c.is_full-full.result c.in_ok-next.next (tested s past c.args.table.now c.args.edt c.number-id.result c.is_full-full.result c.in_ok-next.next c.number-id.ensures of run (c.is_full-full.ensures s past of) (c.in_ok-next.ensures s past of)))
+    (start_tested s past c.args.table.now c.args.edt c.is_full-full.result c.in_ok-next.next (tested s past c.args.table.now c.args.edt c.is_full-full.result c.in_ok-next.next of run (c.is_full-full.ensures s past of) (c.in_ok-next.ensures s past of)))

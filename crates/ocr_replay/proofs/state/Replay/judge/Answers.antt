@@ -28,4 +28,4 @@ set_verdict-requires c = omega (arith, small_started c.args.self.now.table c.arg
 pub returns-clause-verdict : goal.returns-clause-verdict
 returns-clause-verdict c = λ s program started.
     judged_now s c.args.front.now c.args.place c.args.edt c.args.self.now c.in-Some-Core.core c.in_ok-deps.deps.items c.in_ok-verdict.verdict c.set_verdict.new.verdicts.items _ started program c.requires.running (search rules)
-    (subst (λ (k : ℕ). (s' : Setting) (past : History) → IsStateOf s' past c.args.self.now.table → is_running ((parts_of s' past).core k) ≡ true → c.in_ok-deps.deps.items ≡ depv_of s' past k) c.edt.view_is c.in_ok-deps.ensures) (omega (arith, small_started c.args.self.now.table c.args.edt c.requires.running, c.requires.room)) c.set_verdict.ensures (rw (c.deref.ensures.value, c.get.ensures) at c.in_ok-verdict.ensures)
+    c.in_ok-deps.ensures (omega (arith, small_started c.args.self.now.table c.args.edt c.requires.running, c.requires.room)) c.set_verdict.ensures (rw (c.deref.ensures.value, c.get.ensures) at c.in_ok-verdict.ensures)
