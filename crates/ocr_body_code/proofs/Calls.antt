@@ -1,17 +1,13 @@
 -- The code of a call's arguments.
-use Rattle.std.proofs.Common.{◌≡◌, ◌<◌, ◌≤◌, ◌+◌, ◌-◌, ◌==◌, ◌∙◌, Bool, true, false, ℕ, suc, zero, List, [], ◌∷◌, refl, ap, sym, length, drop, get_or, bytes_eq, if◌then◌else◌, arith, Box, Global}
+use Rattle.std.proofs.Common.{◌≡◌, ◌<◌, ◌+◌, ◌-◌, ◌==◌, ◌∙◌, true, ℕ, suc, zero, List, [], ◌∷◌, refl, ap, sym, length, drop, get_or, arith, Box, Global}
 use Rattle.std.proofs.lemmas.Bool.{lt-ltb}
-use Rattle.std.proofs.lemmas.List.{length-map}
 use Rattle.ocr_base.proofs.Booleans.{same}
 use Rattle.ocr_program_tree.specs.Argument.{plain_of, plain_before}
-use Rattle.ocr_program_tree.specs.Functions.{number_named}
 use Rattle.ocr_program_tree.specs.Tree as tree
-use Rattle.ocr_program_tree.specs.Tree.{FunctionTree}
-use Rattle.ocr_program_tree.specs.View.{expression_of, members_of, function_of, functions_of}
+use Rattle.ocr_program_tree.specs.View.{expression_of, members_of}
 use Rattle.ocr_program_tree.specs.declared.argument.Argument.{Argument}
 use Rattle.ocr_program_tree.specs.declared.tree.CallName.TheVariants as name
 use Rattle.ocr_program_tree.specs.declared.tree.Expr.{Expr}
-use Rattle.ocr_program_tree.specs.declared.tree.Function.{Function}
 use Rattle.ocr_body_code.specs.Code.{name_at, is_placed, are_args_placed, expression_at, arguments_at}
 use Rattle.ocr_body_code.specs.Resolved.{Grew, IsPlace, IsExpression, IsArguments, IsCall}
 use Rattle.ocr_body_code.specs.declared.code.ArgCode.{ArgCode}
@@ -79,18 +75,6 @@ store_is w xs ys zs l m r a b c ea eb ec grew again first second third is_a is_b
           (λ i. tree.value (expression_at zs (is_a i)) (tree.value (expression_at zs (is_b i)) (tree.value (expression_at zs (is_c i)) tree.empty)))
           ∙ (λ i. tree.value (one.same i) (tree.value (two.same i) (tree.value (third.same i) tree.empty)));
     }
-
-most_of : (b : Bool) (n m : ℕ) → n ≤ m + 1 → (if b then 1 else n + 1) ≤ suc m + 1
-most_of true n m le = omega arith
-most_of false n m le = omega arith
-
-number_most : (x : List ℕ) (fs : List FunctionTree) → number_named x fs ≤ length fs + 1
-number_most x [] = omega arith
-number_most x (f ∷ fs) = most_of (bytes_eq f.name x) (number_named x fs) (length fs) (number_most x fs)
-
--- the number of a function is at most one more than there are
-pub number_few : (x : List ℕ) (fs : List Function) (most : ℕ) → length fs + 1 < most → number_named x (functions_of fs) < most
-number_few x fs most few = omega (arith, number_most x (functions_of fs), length-map fs function_of)
 
 -- the members of a list from some place on
 members_from : (es : List Expr) (i : ℕ) (d : Expr) → i < length es → members_of (drop i es) ≡ tree.value (expression_of (get_or es i d)) (members_of (drop (suc i) es))

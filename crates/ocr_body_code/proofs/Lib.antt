@@ -3,6 +3,7 @@ pub mod Calls
 pub mod Coded
 pub mod Codes
 pub mod Functions
+pub mod Indexes
 pub mod Names
 pub mod Rows
 pub mod Rulesets

@@ -1,8 +1,8 @@
 -- Code over a longer list of names.
-use Rattle.std.proofs.Common.{◌≡◌, ◌<◌, ◌≤◌, ◌+◌, ℕ, zero, suc, List, [], ◌∷◌, ◌++◌, Bool, true, false, ◌||◌, ◌&&◌, length, take, take_all, bytes_eq, nat_lt, ◌==◌, refl, sym, ◌∙◌, ap, append_assoc, append-nil, arith, length-append, Box, Global}
+use Rattle.std.proofs.Common.{◌≡◌, ◌<◌, ◌≤◌, ◌+◌, ℕ, zero, suc, List, [], ◌∷◌, ◌++◌, Bool, true, false, ◌||◌, ◌&&◌, length, bytes_eq, nat_lt, ◌==◌, refl, sym, ◌∙◌, ap, append_assoc, append-nil, arith, length-append, Box, Global}
 use Rattle.std.specs.List.{list_any}
-use Rattle.std.proofs.lemmas.Bool.{ltb-true, lt-ltb, or_parts, not-true, false_from_ne_true, or_from, not_from_false}
-use Rattle.std.proofs.lemmas.List.Folds.{list_any-append, list_any_more}
+use Rattle.std.proofs.lemmas.Bool.{ltb-true, lt-ltb, or_parts, not-true, false_from_ne_true, not_from_false}
+use Rattle.std.proofs.lemmas.List.Folds.{list_any-append}
 use Rattle.std.proofs.lemmas.Slice.Eq.{bytes_eq-Decides}
 use Rattle.ocr_program_tree.specs.Tree as tree
 use Rattle.ocr_body_code.specs.Code.{are_distinct, name_at, has_function, is_name_placed, is_placed, is_call_placed, are_args_placed, is_step_placed, is_row_placed, are_placed, call_name, call_arguments, arguments_at, expression_at, statement_at, row_at, statements_in}
@@ -24,27 +24,24 @@ pub both : (a b : Bool) → a ≡ true → b ≡ true → (a && b) ≡ true
 both true b p q = q
 both false b p q = cc p
 
-neither : (a b : Bool) → a ≡ false → b ≡ false → (a || (b || false)) ≡ false
+pub neither : (a b : Bool) → a ≡ false → b ≡ false → (a || (b || false)) ≡ false
 neither true b p q = cc p
 neither false true p q = cc q
 neither false false p q = refl
 
-differs_back : (x y : List ℕ) → bytes_eq y x ≡ false → bytes_eq x y ≡ false
+pub differs_back : (x y : List ℕ) → bytes_eq y x ≡ false → bytes_eq x y ≡ false
 differs_back x y apart = false_from_ne_true _ (λ p.
     let same : y ≡ x = sym ((bytes_eq-Decides x y).0 p) in
     cc (sym ((bytes_eq-Decides y x).1 same) ∙ apart))
 
 -- a new name at the end differs from the others
-distinct_with : (xs : List (List ℕ)) (y : List ℕ) → are_distinct xs ≡ true → list_any (bytes_eq y) xs ≡ false → are_distinct (xs ++ y ∷ []) ≡ true
+pub distinct_with : (xs : List (List ℕ)) (y : List ℕ) → are_distinct xs ≡ true → list_any (bytes_eq y) xs ≡ false → are_distinct (xs ++ y ∷ []) ≡ true
 distinct_with [] y distinct none = refl
 distinct_with (x ∷ xs) y distinct none =
     let apart : bytes_eq x y ≡ false = differs_back x y (or_parts _ _ none).0 in
     let here : list_any (bytes_eq x) (xs ++ y ∷ []) ≡ false =
     list_any-append (bytes_eq x) xs (y ∷ []) ∙ neither _ _ (not-true _ (first_of _ _ distinct)) apart in
     both _ _ (not_from_false _ here) (distinct_with xs y (second_of _ _ distinct) (or_parts _ _ none).1)
-
-pub pushed_distinct : (xs ys : List (List ℕ)) (y : List ℕ) → ys ≡ xs ++ y ∷ [] → are_distinct xs ≡ true → list_any (bytes_eq y) xs ≡ false → are_distinct ys ≡ true
-pushed_distinct xs ys y is distinct none = ap are_distinct is ∙ distinct_with xs y distinct none
 
 pub pushed_grew : (xs ys : List (List ℕ)) (y : List ℕ) → ys ≡ xs ++ y ∷ [] → Grew xs ys
 pushed_grew xs ys y is = (y ∷ [], is)
@@ -216,18 +213,6 @@ statements_kept w xs ys ss are_of grew is =
     record { placed = steps_placed w xs ys ss grew is.placed; same = steps_same w xs ys ss grew is.placed ∙ is.same }
 
 -- a search through the names
-pub none_more : (x : List ℕ) (xs : List (List ℕ)) (i : ℕ) (y : List ℕ) → i < length xs → y ≡ name_at xs i → list_any (bytes_eq x) (take i xs) ≡ false → bytes_eq y x ≡ false
-    → list_any (bytes_eq x) (take (i + 1) xs) ≡ false
-none_more x xs i y less is none apart =
-    let here : bytes_eq x (name_at xs i) ≡ false = ap (bytes_eq x) (sym is) ∙ differs_back x y apart in
-    list_any_more (bytes_eq x) xs i [] less ∙ or_from _ _ none here
-
-pub none_all : (x : List ℕ) (xs : List (List ℕ)) (i : ℕ) → length xs ≤ i → list_any (bytes_eq x) (take i xs) ≡ false → list_any (bytes_eq x) xs ≡ false
-none_all x xs i le none = ap (list_any (bytes_eq x)) (sym (take_all i xs le)) ∙ none
-
-pub found_place : (x : List ℕ) (xs : List (List ℕ)) (i : ℕ) (y : List ℕ) → i < length xs → y ≡ name_at xs i → bytes_eq y x ≡ true → IsPlace xs i x
-found_place x xs i y less is same = record { placed = less; same = sym is ∙ (bytes_eq-Decides y x).0 same }
-
 -- an operation over its operands, the first of which was resolved over fewer names
 pub binary_is : (w : List ℕ → ℕ) (xs ys : List (List ℕ)) (op : BinaryOp) (l r : Box ExprCode Global) (a b : ExprCode) (e ea eb : tree.Expression) → Grew xs ys → IsExpression w xs a ea → IsExpression w ys b eb
     → l.value ≡ a → r.value ≡ b → e ≡ tree.Binary op ea eb → IsExpression w ys (views.Binary op l r) e

@@ -1,3 +1,4 @@
 pub mod Checked
 pub mod Code
+pub mod Places
 pub mod Resolved

@@ -1,10 +1,12 @@
 -- The code of parts of a function, over the names that were met so far.
 use Rattle.std.specs.Prelude.{◌≡◌, ◌<◌, ℕ, List, ◌++◌, true, length}
-use Rattle.ocr_program_tree.specs.Functions.{numbers_in}
 use Rattle.ocr_program_tree.specs.Tree as tree
-use Rattle.ocr_program_tree.specs.View.{functions_of}
 use Rattle.ocr_program_tree.specs.declared.tree.CallName.{CallName}
-use Rattle.ocr_program_tree.specs.declared.tree.Function.{Function}
+use Rattle.std.specs.Option.{unwrap_or}
+use Rattle.std.specs.BTreeMap.{get_by}
+use Rattle.std.specs.Cmp.Lexicographic.{slice_cmp}
+use Rattle.std.specs.Ordering.{nat_cmp}
+use Rattle.ocr_body_code.specs.declared.numbers.Numbers.{Numbers}
 use Rattle.ocr_body_code.specs.Code.{name_at, is_placed, is_call_placed, are_args_placed, is_step_placed}
 use Rattle.ocr_body_code.specs.Code.{are_placed, call_name, call_arguments, arguments_at, expression_at}
 use Rattle.ocr_body_code.specs.Code.{statement_at, statements_in}
@@ -13,9 +15,9 @@ use Rattle.ocr_body_code.specs.declared.code.CallCode.{CallCode}
 use Rattle.ocr_body_code.specs.declared.code.ArgCode.{ArgCode}
 use Rattle.ocr_body_code.specs.declared.code.StmtCode.{StmtCode}
 
--- the numbers of these functions by their names
-abbrev pub numbers_of : List Function → List ℕ → ℕ
-numbers_of fs = numbers_in (functions_of fs)
+-- the number of a name by an index of functions
+abbrev pub numbers_of : Numbers → List ℕ → ℕ
+numbers_of index name = unwrap_or (get_by (λ key. slice_cmp nat_cmp name key.now) index.by_name) index.none
 
 -- names were added at the end
 abbrev pub Grew : List (List ℕ) → List (List ℕ) → Type 0

@@ -3,6 +3,8 @@
 
 mod checked;
 mod code;
+mod numbers;
+mod places;
 mod resolver;
 
 pub use checked::Checked;

@@ -1,13 +1,11 @@
 // The code of a program: each variable by the place of its name among its function's names.
 #![tactic(auto, using(crate::proofs::Names::grew_same, crate::proofs::Names::grew_twice))]
 
-ghost use Rattle.std.specs.Prelude.{◌≡◌, ◌<◌, ◌+◌, ◌^◌, ℕ, List, true, false, map, length, IfOk};
-ghost use Rattle.std.specs.Prelude.{OnOk, IfSome, IfNone};
-ghost use Rattle.std.specs.List.{list_any};
-ghost use Rattle.std.specs.Prelude.{bytes_eq};
-ghost use Rattle.ocr_body_code.specs.Code.{are_distinct, is_placed, expression_at, body_in, bodies_in};
+ghost use Rattle.std.specs.Prelude.{◌≡◌, ◌<◌, ◌+◌, ◌^◌, ℕ, List, true, map, length, IfOk};
+ghost use Rattle.std.specs.Prelude.{OnOk};
+ghost use Rattle.ocr_body_code.specs.Code.{is_placed, expression_at, body_in, bodies_in};
 ghost use Rattle.ocr_body_code.specs.Code.{is_sound, are_sound};
-ghost use Rattle.ocr_body_code.specs.Resolved.{Grew, IsPlace, IsExpression, IsArguments, IsCall};
+ghost use Rattle.ocr_body_code.specs.Resolved.{Grew, IsExpression, IsArguments, IsCall};
 ghost use Rattle.ocr_body_code.specs.Resolved.{IsStatement, AreStatements, numbers_of};
 ghost use Rattle.ocr_program_tree.specs.Functions.{numbers_in};
 ghost use Rattle.ocr_program_tree.specs.Tree as tree;
@@ -16,45 +14,11 @@ ghost use Rattle.ocr_program_tree.specs.View.{expression_of, name_of, arguments_
 ghost use Rattle.ocr_program_tree.specs.View.{statement_of, statements_of, tree_of};
 
 use crate::code::{ArgCode, CallCode, ExprCode, FunctionCode, Named, StmtCode};
+use crate::numbers::Numbers;
+use crate::places::Places;
 use ocr_base::NoMemory;
-use ocr_program_tree::{Argument, Expr, Function, Invoke, Name, Program, Stmt, number_named};
+use ocr_program_tree::{Argument, Expr, Function, Invoke, Name, Program, Stmt};
 use std::alloc::Global;
-
-// The place of a name that was met before.
-#[tactic(auto, using(crate::proofs::Rulesets::finding))]
-fn find(name: &Name, names: &[Name]) -> Option<usize>
-    ensures some { IfSome result (λ place. IsPlace names.now place name.now) }
-    ensures none { IfNone result (list_any (bytes_eq name.now) names.now ≡ false) }
-{
-    for i in 0..names.len() {
-        if names[i].as_bytes() == name.as_bytes() {
-            return Some(i);
-        }
-    }
-    None
-}
-
-// The place of a name, which is a new one where the name was not met before.
-#[tactic(auto, using(crate::proofs::Rulesets::placing))]
-fn place(alloc: Global, name: &Name, names: &mut Vec<Name>) -> Result<usize, NoMemory>
-    requires distinct { are_distinct names.old.items ≡ true }
-    ensures distinct { OnOk result (are_distinct names.new.items ≡ true) }
-    ensures grew { OnOk result (Grew names.old.items names.new.items) }
-    ensures ok { IfOk result (λ place. IsPlace names.new.items place name.now) }
-{
-    if let Some(place) = find(name, names) {
-        return Ok(place);
-    }
-    if names.reserve(1).is_err() {
-        return Err(NoMemory);
-    }
-    let Ok(text) = Vec::from_slice(alloc, name.as_bytes()) else {
-        return Err(NoMemory)
-    };
-    let place = names.len();
-    names.push_reserved(Name::from_vec(text));
-    Ok(place)
-}
 
 // A node with memory of its own.
 fn boxed(alloc: Global, node: ExprCode) -> Result<Box<ExprCode>, NoMemory>
@@ -108,131 +72,119 @@ fn list(alloc: Global, list: ArgCode, rest: ArgCode) -> Result<ArgCode, NoMemory
 }
 
 // A name before other arguments.
-fn named(
+fn named<'a>(
     alloc: Global,
-    functions: &[Function],
-    name: &Name,
+    numbers: &Numbers<'_>,
+    name: &'a Name,
     rest: ArgCode,
-    names: &mut Vec<Name>,
+    names: &mut Places<'a>,
 ) -> Result<ArgCode, NoMemory>
-    requires few { length functions.now + 1 < 2 ^ 32 }
-    requires distinct { are_distinct names.old.items ≡ true }
-    ensures distinct { OnOk result (are_distinct names.new.items ≡ true) }
-    ensures grew { OnOk result (Grew names.old.items names.new.items) }
+    ensures grew { OnOk result (Grew names.old names.new) }
     ensures ok { IfOk result (λ args. (xs : Arguments)
-        → IsArguments (numbers_of functions.now) names.old.items rest xs
-        → IsArguments (numbers_of functions.now) names.new.items args (tree.named name.now xs)) }
+        → IsArguments (numbers_of numbers.now) names.old rest xs
+        → IsArguments (numbers_of numbers.now) names.new args (tree.named name.now xs)) }
 {
-    let place = place(alloc, name, names)?;
-    let number = number_named(functions, name.as_bytes()) as u32;
+    let place = names.place(name)?;
+    let number = numbers.number(name.as_bytes());
     let rest = boxed_args(alloc, rest)?;
     Ok(ArgCode::Name(Named { place, number }, rest))
 }
 
 // The code of an expression.
 #[cycle(expression)]
-fn expression(
+fn expression<'a>(
     alloc: Global,
-    functions: &[Function],
-    expr: &Expr,
-    names: &mut Vec<Name>,
+    numbers: &Numbers<'_>,
+    expr: &'a Expr,
+    names: &mut Places<'a>,
 ) -> Result<ExprCode, NoMemory>
-    requires few { length functions.now + 1 < 2 ^ 32 }
-    requires distinct { are_distinct names.old.items ≡ true }
-    ensures distinct { OnOk result (are_distinct names.new.items ≡ true) }
-    ensures grew { OnOk result (Grew names.old.items names.new.items) }
-    ensures ok { IfOk result (λ node. IsExpression (numbers_of functions.now) names.new.items node
+    ensures grew { OnOk result (Grew names.old names.new) }
+    ensures ok { IfOk result (λ node. IsExpression (numbers_of numbers.now) names.new node
         (expression_of expr.now)) }
 {
     match expr {
         Expr::Number(n) => Ok(ExprCode::Number(*n)),
         Expr::Constant(constant) => Ok(ExprCode::Constant(*constant)),
-        Expr::Var(name) => Ok(ExprCode::Variable(place(alloc, name, names)?)),
+        Expr::Var(name) => Ok(ExprCode::Variable(names.place(name)?)),
         Expr::Paramc => Ok(ExprCode::Paramc),
         Expr::Depc => Ok(ExprCode::Depc),
         Expr::Code => Ok(ExprCode::LastCode),
         Expr::Paramv(index) => {
-            let index = expression(alloc, functions, index, names)?;
+            let index = expression(alloc, numbers, index, names)?;
             Ok(ExprCode::Paramv(boxed(alloc, index)?))
         }
         Expr::Depv(index) => {
-            let index = expression(alloc, functions, index, names)?;
+            let index = expression(alloc, numbers, index, names)?;
             Ok(ExprCode::Depv(boxed(alloc, index)?))
         }
         Expr::Unary(op, operand) => {
-            let operand = expression(alloc, functions, operand, names)?;
+            let operand = expression(alloc, numbers, operand, names)?;
             Ok(ExprCode::Unary(*op, boxed(alloc, operand)?))
         }
         Expr::Binary(op, left, right) => {
-            let left = expression(alloc, functions, left, names)?;
+            let left = expression(alloc, numbers, left, names)?;
             let left = boxed(alloc, left)?;
-            let right = expression(alloc, functions, right, names)?;
+            let right = expression(alloc, numbers, right, names)?;
             let right = boxed(alloc, right)?;
             Ok(joined(ExprCode::Binary(*op, left, right)))
         }
-        Expr::Invoke(made) => Ok(ExprCode::Invoke(invocation(alloc, functions, made, names)?)),
+        Expr::Invoke(made) => Ok(ExprCode::Invoke(invocation(alloc, numbers, made, names)?)),
     }
 }
 
 // The code of a call.
 #[cycle(expression)]
-fn invocation(
+fn invocation<'a>(
     alloc: Global,
-    functions: &[Function],
-    made: &Invoke,
-    names: &mut Vec<Name>,
+    numbers: &Numbers<'_>,
+    made: &'a Invoke,
+    names: &mut Places<'a>,
 ) -> Result<CallCode, NoMemory>
-    requires few { length functions.now + 1 < 2 ^ 32 }
-    requires distinct { are_distinct names.old.items ≡ true }
-    ensures distinct { OnOk result (are_distinct names.new.items ≡ true) }
-    ensures grew { OnOk result (Grew names.old.items names.new.items) }
-    ensures ok { IfOk result (λ call. IsCall (numbers_of functions.now) names.new.items call
+    ensures grew { OnOk result (Grew names.old names.new) }
+    ensures ok { IfOk result (λ call. IsCall (numbers_of numbers.now) names.new call
         (name_of made.now) (arguments_of made.now)) }
 {
     if let Invoke::Load { block, word } = made {
-        let block = expression(alloc, functions, block, names)?;
+        let block = expression(alloc, numbers, block, names)?;
         let block = boxed(alloc, block)?;
-        let word = expression(alloc, functions, word, names)?;
+        let word = expression(alloc, numbers, word, names)?;
         let word = boxed(alloc, word)?;
         return Ok(CallCode::Load(block, word));
     }
     if let Invoke::Store { block, word, value } = made {
-        let block = expression(alloc, functions, block, names)?;
+        let block = expression(alloc, numbers, block, names)?;
         let block = boxed(alloc, block)?;
-        let word = expression(alloc, functions, word, names)?;
+        let word = expression(alloc, numbers, word, names)?;
         let word = boxed(alloc, word)?;
-        let value = expression(alloc, functions, value, names)?;
+        let value = expression(alloc, numbers, value, names)?;
         let value = boxed(alloc, value)?;
         return Ok(CallCode::Store(block, word, value));
     }
-    coded(alloc, functions, made, names)
+    coded(alloc, numbers, made, names)
 }
 
 // The code of any call, with its arguments from the last on.
 #[cycle(expression)]
-fn coded(
+fn coded<'a>(
     alloc: Global,
-    functions: &[Function],
-    made: &Invoke,
-    names: &mut Vec<Name>,
+    numbers: &Numbers<'_>,
+    made: &'a Invoke,
+    names: &mut Places<'a>,
 ) -> Result<CallCode, NoMemory>
-    requires few { length functions.now + 1 < 2 ^ 32 }
-    requires distinct { are_distinct names.old.items ≡ true }
-    ensures distinct { OnOk result (are_distinct names.new.items ≡ true) }
-    ensures grew { OnOk result (Grew names.old.items names.new.items) }
-    ensures ok { IfOk result (λ call. IsCall (numbers_of functions.now) names.new.items call
+    ensures grew { OnOk result (Grew names.old names.new) }
+    ensures ok { IfOk result (λ call. IsCall (numbers_of numbers.now) names.new call
         (name_of made.now) (arguments_of made.now)) }
 {
     let arguments = made.arguments(alloc)?;
     let mut args = ArgCode::End;
     for i in 0..arguments.len() {
         match arguments[arguments.len() - 1 - i] {
-            Argument::Value(expr) => args = value(alloc, functions, expr, args, names)?,
+            Argument::Value(expr) => args = value(alloc, numbers, expr, args, names)?,
             Argument::List(exprs) => {
-                let inner = members(alloc, functions, exprs, names)?;
+                let inner = members(alloc, numbers, exprs, names)?;
                 args = list(alloc, inner, args)?;
             }
-            Argument::Name(name) => args = named(alloc, functions, name, args, names)?,
+            Argument::Name(name) => args = named(alloc, numbers, name, args, names)?,
         }
     }
     Ok(CallCode::Coded(made.name(), args))
@@ -240,23 +192,20 @@ fn coded(
 
 // A value before other arguments.
 #[cycle(expression)]
-fn value(
+fn value<'a>(
     alloc: Global,
-    functions: &[Function],
-    expr: &Expr,
+    numbers: &Numbers<'_>,
+    expr: &'a Expr,
     rest: ArgCode,
-    names: &mut Vec<Name>,
+    names: &mut Places<'a>,
 ) -> Result<ArgCode, NoMemory>
-    requires few { length functions.now + 1 < 2 ^ 32 }
-    requires distinct { are_distinct names.old.items ≡ true }
-    ensures distinct { OnOk result (are_distinct names.new.items ≡ true) }
-    ensures grew { OnOk result (Grew names.old.items names.new.items) }
+    ensures grew { OnOk result (Grew names.old names.new) }
     ensures ok { IfOk result (λ args. (xs : Arguments)
-        → IsArguments (numbers_of functions.now) names.old.items rest xs
-        → IsArguments (numbers_of functions.now) names.new.items args
+        → IsArguments (numbers_of numbers.now) names.old rest xs
+        → IsArguments (numbers_of numbers.now) names.new args
         (tree.value (expression_of expr.now) xs)) }
 {
-    let node = expression(alloc, functions, expr, names)?;
+    let node = expression(alloc, numbers, expr, names)?;
     let node = boxed(alloc, node)?;
     let rest = boxed_args(alloc, rest)?;
     Ok(ArgCode::Value(node, rest))
@@ -264,23 +213,20 @@ fn value(
 
 // The members of a list, from the last on.
 #[cycle(expression)]
-fn members(
+fn members<'a>(
     alloc: Global,
-    functions: &[Function],
-    exprs: &[Expr],
-    names: &mut Vec<Name>,
+    numbers: &Numbers<'_>,
+    exprs: &'a [Expr],
+    names: &mut Places<'a>,
 ) -> Result<ArgCode, NoMemory>
-    requires few { length functions.now + 1 < 2 ^ 32 }
-    requires distinct { are_distinct names.old.items ≡ true }
-    ensures distinct { OnOk result (are_distinct names.new.items ≡ true) }
-    ensures grew { OnOk result (Grew names.old.items names.new.items) }
-    ensures ok { IfOk result (λ args. IsArguments (numbers_of functions.now) names.new.items args
+    ensures grew { OnOk result (Grew names.old names.new) }
+    ensures ok { IfOk result (λ args. IsArguments (numbers_of numbers.now) names.new args
         (members_of exprs.now)) }
 {
     let mut args = ArgCode::End;
     for i in 0..exprs.len() {
         let expr = &exprs[exprs.len() - 1 - i];
-        args = value(alloc, functions, expr, args, names)?;
+        args = value(alloc, numbers, expr, args, names)?;
     }
     Ok(args)
 }
@@ -288,59 +234,53 @@ fn members(
 // The code of a statement.
 #[tactic(auto, using(crate::proofs::Names::grew_same, crate::proofs::Blocks::no_statements))]
 #[cycle(statement)]
-fn statement(
+fn statement<'a>(
     alloc: Global,
-    functions: &[Function],
-    stmt: &Stmt,
-    names: &mut Vec<Name>,
+    numbers: &Numbers<'_>,
+    stmt: &'a Stmt,
+    names: &mut Places<'a>,
 ) -> Result<StmtCode, NoMemory>
-    requires few { length functions.now + 1 < 2 ^ 32 }
-    requires distinct { are_distinct names.old.items ≡ true }
-    ensures distinct { OnOk result (are_distinct names.new.items ≡ true) }
-    ensures grew { OnOk result (Grew names.old.items names.new.items) }
-    ensures ok { IfOk result (λ step. IsStatement (numbers_of functions.now) names.new.items step
+    ensures grew { OnOk result (Grew names.old names.new) }
+    ensures ok { IfOk result (λ step. IsStatement (numbers_of numbers.now) names.new step
         (statement_of stmt.now)) }
 {
     match stmt {
         Stmt::Let { name, value } => {
-            let place = place(alloc, name, names)?;
-            Ok(StmtCode::Let(place, expression(alloc, functions, value, names)?))
+            let place = names.place(name)?;
+            Ok(StmtCode::Let(place, expression(alloc, numbers, value, names)?))
         }
         Stmt::Assign { name, value } => {
-            let place = place(alloc, name, names)?;
-            Ok(StmtCode::Assign(place, expression(alloc, functions, value, names)?))
+            let place = names.place(name)?;
+            Ok(StmtCode::Assign(place, expression(alloc, numbers, value, names)?))
         }
         Stmt::If { test, yes, no } => {
-            let test = expression(alloc, functions, test, names)?;
-            let yes = statements(alloc, functions, yes, names)?;
-            let no = statements(alloc, functions, no, names)?;
+            let test = expression(alloc, numbers, test, names)?;
+            let yes = statements(alloc, numbers, yes, names)?;
+            let no = statements(alloc, numbers, no, names)?;
             Ok(StmtCode::If(test, yes, no))
         }
         Stmt::While { test, body } => {
-            let test = expression(alloc, functions, test, names)?;
-            let body = statements(alloc, functions, body, names)?;
+            let test = expression(alloc, numbers, test, names)?;
+            let body = statements(alloc, numbers, body, names)?;
             Ok(StmtCode::While(test, body))
         }
-        Stmt::Print { value } => Ok(StmtCode::Print(expression(alloc, functions, value, names)?)),
-        Stmt::Return { value } => Ok(StmtCode::Return(expression(alloc, functions, value, names)?)),
-        Stmt::Invoke(made) => Ok(StmtCode::Invoke(invocation(alloc, functions, made, names)?)),
+        Stmt::Print { value } => Ok(StmtCode::Print(expression(alloc, numbers, value, names)?)),
+        Stmt::Return { value } => Ok(StmtCode::Return(expression(alloc, numbers, value, names)?)),
+        Stmt::Invoke(made) => Ok(StmtCode::Invoke(invocation(alloc, numbers, made, names)?)),
     }
 }
 
 // The code of statements.
 #[tactic(auto, using(crate::proofs::Names::grew_same, crate::proofs::Blocks::no_statements))]
 #[cycle(statement)]
-fn statements(
+fn statements<'a>(
     alloc: Global,
-    functions: &[Function],
-    stmts: &[Stmt],
-    names: &mut Vec<Name>,
+    numbers: &Numbers<'_>,
+    stmts: &'a [Stmt],
+    names: &mut Places<'a>,
 ) -> Result<Vec<StmtCode>, NoMemory>
-    requires few { length functions.now + 1 < 2 ^ 32 }
-    requires distinct { are_distinct names.old.items ≡ true }
-    ensures distinct { OnOk result (are_distinct names.new.items ≡ true) }
-    ensures grew { OnOk result (Grew names.old.items names.new.items) }
-    ensures ok { IfOk result (λ steps. AreStatements (numbers_of functions.now) names.new.items
+    ensures grew { OnOk result (Grew names.old names.new) }
+    ensures ok { IfOk result (λ steps. AreStatements (numbers_of numbers.now) names.new
         steps.items (statements_of stmts.now)) }
 {
     let mut steps = Vec::new(alloc);
@@ -348,7 +288,7 @@ fn statements(
         if steps.reserve(1).is_err() {
             return Err(NoMemory);
         }
-        let step = statement(alloc, functions, stmt, names)?;
+        let step = statement(alloc, numbers, stmt, names)?;
         steps.push_reserved(step);
     }
     Ok(steps)
@@ -358,16 +298,18 @@ fn statements(
 #[tactic(auto, using(crate::proofs::Names::both))]
 fn function(
     alloc: Global,
-    functions: &[Function],
+    numbers: &Numbers<'_>,
     function: &Function,
 ) -> Result<FunctionCode, NoMemory>
-    requires few { length functions.now + 1 < 2 ^ 32 }
     ensures body { IfOk result (λ code. body_in code ≡ statements_of function.now.body.items) }
-    ensures sound { IfOk result (λ code. is_sound (numbers_of functions.now) code ≡ true) }
+    ensures sound { IfOk result (λ code. is_sound (numbers_of numbers.now) code ≡ true) }
 {
-    let mut names = Vec::new(alloc);
-    let body = statements(alloc, functions, &function.body, &mut names)?;
-    Ok(FunctionCode { names, body })
+    let mut names = Places::new(alloc);
+    let body = statements(alloc, numbers, &function.body, &mut names)?;
+    Ok(FunctionCode {
+        names: names.into_names(),
+        body,
+    })
 }
 
 /// The code of each function of a program.
@@ -380,12 +322,13 @@ pub fn resolve(alloc: Global, program: &Program) -> Result<Vec<FunctionCode>, No
         are_sound (numbers_in (tree_of program.now)) codes.items ≡ true) }
 {
     let functions = program.functions.as_slice();
+    let numbers = Numbers::new(alloc, functions)?;
     let mut codes = Vec::new(alloc);
     for f in functions {
         if codes.reserve(1).is_err() {
             return Err(NoMemory);
         }
-        let code = function(alloc, functions, f)?;
+        let code = function(alloc, &numbers, f)?;
         codes.push_reserved(code);
     }
     Ok(codes)

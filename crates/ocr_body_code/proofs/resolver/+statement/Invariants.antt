@@ -1,5 +1,4 @@
-use Rattle.std.proofs.Common.{◌≡◌, ◌+◌, ◌*◌, take, true}
-use Rattle.ocr_body_code.specs.Code.{are_distinct}
+use Rattle.std.proofs.Common.{◌+◌, ◌*◌, take}
 use Rattle.ocr_body_code.specs.Resolved.{Grew, AreStatements, numbers_of}
 use Rattle.ocr_program_tree.specs.View.{statement_of, statements_of}
 use Rattle.ocr_body_code.proofs.Weight.{weight, weights}
@@ -7,9 +6,8 @@ use Rattle.ocr_body_code.proofs.resolver.+statement.Given as goal
 
 abbrev pub invariant-statements-loop-stmt : goal.invariant-statements-loop-stmt
 invariant-statements-loop-stmt l = record {
-  grew : Grew l.fn.names.items l.names.items;
-  distinct : are_distinct l.names.items ≡ true;
-  done : AreStatements (numbers_of l.functions) l.names.items l.steps.items (statements_of (take l.stmt-index l.stmts));
+  grew : Grew l.fn.names l.names;
+  done : AreStatements (numbers_of l.numbers) l.names l.steps.items (statements_of (take l.stmt-index l.stmts));
 }
 
 abbrev pub decreases-statement : goal.decreases-statement
