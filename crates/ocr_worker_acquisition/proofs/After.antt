@@ -97,7 +97,7 @@ stale_awake (phase.Waiting s) = refl
 stale_awake (phase.Running s) = refl
 stale_awake (phase.Ended i) = refl
 
-core_back : (x : Part) (c : Core) → as_core x ≡ part.Core c → x ≡ part.Core c
+pub core_back : (x : Part) (c : Core) → as_core x ≡ part.Core c → x ≡ part.Core c
 core_back (part.Core d) c is = is
 core_back other c is = cc is
 

@@ -121,7 +121,11 @@ name_some : (o : Option (ℕ × Mode)) (d : ℕ) → Some d ≡ name_in o → (m
 name_some None d is = cc is
 name_some (Some x) d is = let same : x.0 ≡ d = cc is in (x.1, ap (λ (n : ℕ). Some (n, x.1)) same)
 
-name_none : (o : Option (ℕ × Mode)) → None ≡ name_in o → o ≡ None
+pub none_is : {A : Type 0} (o : Option A) → ((x : A) → o ≡ Some x → ⊥) → o ≡ None
+none_is None never = refl
+none_is (Some x) never = absurd (never x refl)
+
+pub name_none : (o : Option (ℕ × Mode)) → None ≡ name_in o → o ≡ None
 name_none None is = refl
 name_none (Some x) is = cc is
 

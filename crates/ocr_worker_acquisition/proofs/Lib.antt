@@ -14,4 +14,5 @@ pub mod Readied
 pub mod States
 pub mod Takes
 pub mod Three
+pub mod Through
 pub mod Unstarted

@@ -1,6 +1,6 @@
 -- What a worker keeps once it has entered what a block let its EDT do.
 use Rattle.std.proofs.Common.{◌≡◌, ◌≢◌, ℕ, ◌+◌, ◌≤◌, ◌==◌, Bool, true, false, List, [], ◌∷◌, ◌++◌, take, Option, Some, None, is_some, refl, ap, sym, ◌∙◌, subst, arith}
-use Rattle.std.specs.Prelude.{Err, IfNone, IfOk, IfSome, Ok, Result}
+use Rattle.std.specs.Prelude.{IfNone, IfSome}
 use Rattle.std.specs.List.{All}
 use Rattle.std.proofs.lemmas.List.{append-nil}
 use Rattle.std.proofs.lemmas.List.Elements.{All-cons, All-nil}
@@ -37,12 +37,13 @@ use Rattle.ocr_worker_clerk.proofs.Hands.{apart_is}
 use Rattle.ocr_worker_clerk.proofs.Seen.{core_apart}
 use Rattle.ocr_worker_acquisition.specs.Park.{IsLetWait}
 use Rattle.ocr_worker_acquisition.specs.Block.{CanAct, CarriesOut, IsUnbegun, WantsOther, pair_of}
-use Rattle.ocr_worker_acquisition.specs.Rounds.{GaveFaces, HasWaited, IsAfter, hand_of, lets_wait, places_of, slots_on, two_places}
+use Rattle.ocr_worker_acquisition.specs.Rounds.{GaveFaces, HasMet, HasWaited, IsAfter, hand_of, lets_wait, places_of, slots_on, step_of, two_places}
 use Rattle.ocr_worker_acquisition.specs.Acquisition.{Meets, entry_by, two_faces}
 use Rattle.ocr_worker_acquisition.specs.declared.act.Act.{Act}
 use Rattle.ocr_worker_acquisition.specs.declared.act.Act.TheVariants as act
-use Rattle.ocr_worker_acquisition.specs.declared.acquisition.Step.{Step}
-use Rattle.ocr_worker_acquisition.specs.declared.acquisition.Step.TheVariants as step
+use Rattle.ocr_worker_acquisition.specs.declared.rounds.Met.{Met}
+use Rattle.ocr_worker_acquisition.specs.declared.rounds.Met.TheVariants as met
+use Rattle.smallvec.specs.SmallVec.{SmallVec}
 use Rattle.ocr_worker_acquisition.proofs.After.{IsGoing, alone_after, core_now, keeps_after, later_keys, state_is, still_taken, still_unstarted}
 use Rattle.ocr_worker_acquisition.proofs.Awake.{none_own}
 use Rattle.ocr_worker_acquisition.proofs.Carries.{meets_now}
@@ -75,7 +76,7 @@ module _ (t : OcrTerms) (edt d : ℕ) (first : Bool) (payloads : List ℕ) (a : 
       })
       (ap (λ (l : List ℕ). (t.limit + edt) ∷ l) (pair_places first edt d))
 
-  pub entered : EntersKept t mid new (entry_by a edt d) h
+  unfoldable pub entered : EntersKept t mid new (entry_by a edt d) h
   entered = record { number = enters.number; later = enters.later; sent = enters.sent; step = enters.step; paid = enters.paid; view = enters.view; kept = enters.kept; hand = enters.hand; sees = enters.sees }
 
   pub has : HasTakenOn t edt mid
@@ -114,7 +115,7 @@ none_runs v edt only none u runs =
     cc (on, off)
 
 -- three parts with these numbers
-three_items : (n p q : ℕ) (ps : List (ℕ × Part)) → keys ps ≡ n ∷ p ∷ q ∷ [] → (x : Part) × (y : Part) × (z : Part) × (ps ≡ (n, x) ∷ (p, y) ∷ (q, z) ∷ [])
+pub three_items : (n p q : ℕ) (ps : List (ℕ × Part)) → keys ps ≡ n ∷ p ∷ q ∷ [] → (x : Part) × (y : Part) × (z : Part) × (ps ≡ (n, x) ∷ (p, y) ∷ (q, z) ∷ [])
 three_items n p q [] is = cc is
 three_items n p q (a ∷ rest) is =
     let first : a.0 ≡ n = cc is in let others : keys rest ≡ p ∷ q ∷ [] = cc is in
@@ -240,14 +241,10 @@ has_waited t edt d h old new last enters view = record {
 }
 
 -- after others too
-pub after_stays : (t : OcrTerms) (edt : ℕ) (s : Step) (a b c : OcrKnown) → Stays a b → IsAfter t edt s b c → IsAfter t edt s a c
-after_stays t edt (step.Ready payloads) a b c stays after = after
-after_stays t edt (step.Next wanted) a b c stays after = after
-after_stays t edt step.Parked a b c stays after = (after.0, waited_after a b c edt stays after.1)
-
-pub after_ok : {E : Type 0} (t : OcrTerms) (edt : ℕ) (r : Result Step E) (a b c : OcrKnown) → Stays a b → IfOk r (λ s. IsAfter t edt s b c) → IfOk r (λ s. IsAfter t edt s a c)
-after_ok t edt (Ok s) a b c stays after = after_stays t edt s a b c stays after
-after_ok t edt (Err e) a b c stays after = after
+pub met_after : (t : OcrTerms) (edt : ℕ) (payloads : SmallVec ℕ) (m : Met) (a b c : OcrKnown) → Stays a b → HasMet t edt payloads.items m b c → IsAfter t edt (step_of m payloads) a c
+met_after t edt payloads met.Through a b c stays is = is
+met_after t edt payloads met.Further a b c stays is = (is, tt)
+met_after t edt payloads met.Parked a b c stays is = (is.0, waited_after a b c edt stays is.1)
 
 -- BY WHAT IS DECIDED
 pub if_some : {A : Type 0} (P : A → Type 0) (o : Option A) (x : A) → o ≡ Some x → IfSome o P → P x

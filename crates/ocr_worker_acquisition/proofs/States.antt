@@ -129,7 +129,7 @@ edt_face : (m : Option Made) (links : List slot.SlotCall) (blocks : List block.B
 edt_face (Some (MadeEdt f ps n)) links blocks events scopes k is = (slot.state_of n links, refl)
 edt_face other links blocks events scopes n is = cc is
 
-face_back : (x : Part) (slots : List Slot) → as_face x ≡ part.Edt slots → x ≡ part.Edt slots
+pub face_back : (x : Part) (slots : List Slot) → as_face x ≡ part.Edt slots → x ≡ part.Edt slots
 face_back (part.Core c) slots is = cc is
 face_back other slots is = is
 

@@ -22,6 +22,9 @@ use Rattle.ocr_worker_acquisition.specs.declared.act.Act.TheVariants as act
 use Rattle.ocr_worker_acquisition.specs.declared.acquisition.Step.{Step}
 use Rattle.ocr_worker_acquisition.specs.declared.acquisition.Step.TheVariants as step
 use Rattle.ocr_worker_acquisition.specs.declared.acquisition.Woken.{Woken}
+use Rattle.ocr_worker_acquisition.specs.declared.rounds.Met.{Met}
+use Rattle.ocr_worker_acquisition.specs.declared.rounds.Met.TheVariants as met
+use Rattle.smallvec.specs.SmallVec.{SmallVec}
 use Rattle.ocr_worker_acquisition.specs.declared.acquisition.Woken.TheVariants as woken
 
 -- THE BLOCK that an EDT acquires next is known: it is another object, and an EDT that acquires or
@@ -107,6 +110,18 @@ pub record HasWaited (old new : OcrKnown) (edt : ℕ) : Type 0 where
   pub number : ℕ
   pub block : ℕ
   pub log : new.view.log ≡ old.view.log ++ more ++ (number, Wait edt block) ∷ []
+
+-- WHAT A BLOCK LEAVES
+abbrev pub HasMet : OcrTerms → ℕ → List ℕ → Met → OcrKnown → OcrKnown → Type 0
+HasMet t edt payloads met.Through old new = CanRun t edt payloads new
+HasMet t edt payloads met.Further old new = HoldsCore t edt new
+HasMet t edt payloads met.Parked old new = IsIdleClerk new × HasWaited old new edt
+
+-- and what comes then, with the payloads that were read
+abbrev pub step_of : Met → SmallVec ℕ → Step
+step_of met.Through payloads = step.Ready payloads
+step_of met.Further payloads = step.Next None
+step_of met.Parked payloads = step.Parked
 
 -- WHAT A ROUND LEAVES
 abbrev pub IsAfter : OcrTerms → ℕ → Step → OcrKnown → OcrKnown → Type 0

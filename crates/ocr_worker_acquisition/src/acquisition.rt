@@ -7,6 +7,7 @@ ghost use Rattle.ocr_worker_clerk.specs.Work.{AtWork, HasTakenOn, IsGone, Stays}
 ghost use Rattle.ocr_worker_acquisition.specs.Block.{HoldsCore};
 ghost use Rattle.ocr_worker_acquisition.specs.Rounds.{IsAfter, IsAwoken, IsWantedIf, next_block};
 
+use crate::payloads::Payloads;
 use crate::rounds::{block_round, face_round};
 use ocr_edt::Edt;
 use ocr_guid::Guid;
@@ -20,7 +21,7 @@ use std::sync::Wait;
 #[derive(Drop)]
 pub enum Step {
     /// The plan is done, and the EDT may start with these payloads.
-    Ready(Vec<Guid>),
+    Ready(Payloads),
     /// It goes on: at this block, which it acquires next, or where none is told at its face.
     Next(Option<Guid>),
     /// It waits for a block, and is parked.
@@ -31,7 +32,7 @@ pub enum Step {
 #[derive(Drop)]
 pub enum Woken {
     /// It may start with these payloads.
-    Ready(Vec<Guid>),
+    Ready(Payloads),
     /// It waits for a block, and is parked.
     Parked,
 }
@@ -140,8 +141,8 @@ fn round<R: Wait, G: Gate>(
     }
 }
 
-// The block that an EDT acquires next, where its core tells one.
-fn next_of(core: &Part) -> Option<Guid>
+/// The block that an EDT acquires next, where its core tells one.
+pub(crate) fn next_of(core: &Part) -> Option<Guid>
     ensures { result ≡ next_block core.now }
 {
     let Part::Core(core) = core else {

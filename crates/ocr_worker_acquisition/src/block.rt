@@ -9,7 +9,7 @@ ghost use Rattle.ocr_worker_acquisition.specs.Block.{CanAct, HasThree, KnowsThre
 ghost use Rattle.ocr_worker_acquisition.specs.Acquisition.{Learns};
 
 use crate::act::{Act, act_on};
-use crate::payloads::read_payloads;
+use crate::payloads::{Payloads, read_payloads};
 use ocr_acquire::Mode;
 use ocr_base::NoMemory;
 use ocr_guid::Guid;
@@ -28,7 +28,7 @@ pub(crate) fn read_three<R: Wait, G: Gate>(
     edt: Guid,
     block: Guid,
     first: bool,
-) -> Result<Vec<Guid>, Over>
+) -> Result<Payloads, Over>
     requires work { AtWork job.now.turns.now job.now.program.now clerk.old }
     requires apart { edt ≢ block }
     requires block { is_within job.now.turns.now.1.limit block ≡ true }

@@ -16,7 +16,11 @@ use ocr_count::payload;
 use ocr_guid::Guid;
 use ocr_turns::{Clerk, Turns};
 use ocr_worker_clerk::Ocr;
+use smallvec::SmallVec;
 use std::alloc::Global;
+
+/// What the slots of an EDT are set to, in their order: two of them without memory of their own.
+pub type Payloads = SmallVec<Guid, 2>;
 
 /// The payloads of the slots of an EDT, all of which are set. The clerk has claimed it and keeps
 /// its face, and knows from then on that they are set so.
@@ -26,7 +30,7 @@ pub fn read_payloads(
     clerk: &mut Clerk<Ocr>,
     edt: Guid,
     count: u32,
-) -> Result<Vec<Guid>, NoMemory>
+) -> Result<Payloads, NoMemory>
     requires table { IsOfTable turns.now clerk.old }
     requires is_open { clerk.old.view.closed ≡ None }
     requires claimed { HasClaim clerk.old.view edt }
@@ -39,7 +43,7 @@ pub fn read_payloads(
     ensures count { IfOk result (λ v. length v.items ≡ count) }
     ensures known { IfOk result (λ v. KnowsPayloads clerk.new.view edt v.items) }
 {
-    let mut payloads = Vec::with_capacity(alloc, count as usize)?;
+    let mut payloads = SmallVec::with_capacity(alloc, count as usize)?;
     for slot in 0..count {
         payloads.push_reserved(Guid(payload(turns, clerk, edt, slot)));
     }

@@ -8,14 +8,14 @@ ghost use Rattle.ocr_worker_clerk.specs.Push.{ReadiesNone};
 ghost use Rattle.ocr_worker_clerk.specs.Work.{AtWork, HasTakenOn, IsGone, IsIdleClerk, KeepsFaces, Stays};
 ghost use Rattle.ocr_worker_acquisition.specs.Park.{IsLetWait};
 ghost use Rattle.ocr_worker_acquisition.specs.Block.{CanAct, HasThree, HoldsCore, IsUnbegun, KnowsThree, WantsNext};
-ghost use Rattle.ocr_worker_acquisition.specs.Rounds.{GaveFaces, HasFace, HoldsAwake, IsAfter, IsWanted, KnowsFace, PlansNext, lets_wait, name_in, places_of, two_places};
+ghost use Rattle.ocr_worker_acquisition.specs.Rounds.{GaveFaces, HasFace, HasMet, HoldsAwake, IsAfter, IsWanted, KnowsFace, PlansNext, lets_wait, name_in, places_of, step_of, two_places};
 
-use crate::acquisition::Step;
+use crate::acquisition::{Step, next_of};
 use crate::act::Act;
 use crate::block::{decide, read_three};
 use crate::outcome::carry_out;
 use crate::park::park_edt;
-use crate::payloads::read_payloads;
+use crate::payloads::{Payloads, read_payloads};
 use ocr_acquire::Mode;
 use ocr_guid::Guid;
 use ocr_machine_parts::{Part, next_with};
@@ -23,6 +23,17 @@ use ocr_turns::Clerk;
 use ocr_worker_clerk::{Gate, Job, Ocr, Over, close_memory, give_faces, take_part};
 use std::alloc::Global;
 use std::sync::Wait;
+
+/// What an EDT came to at a block.
+#[derive(Clone, Copy, PartialEq, Eq, Debug)]
+pub enum Met {
+    /// Its plan is done: its core and its face are kept.
+    Through,
+    /// It goes on: its core is kept.
+    Further,
+    /// It waits for the block, and is parked.
+    Parked,
+}
 
 /// Takes the face of an EDT and a block, the lesser number first, so that no two workers wait for
 /// each other.
@@ -73,7 +84,19 @@ pub(crate) fn block_round<R: Wait, G: Gate>(
     let first = take_two(job, worker, clerk, edt, block)?;
     let payloads = read_three(alloc, job, worker, clerk, edt, block, first)?;
     let known = payloads.as_slice();
-    meet(alloc, job, worker, clerk, edt, block, first, known)
+    let met = meet(alloc, job, worker, clerk, edt, block, first, known)?;
+    Ok(step_of(met, payloads))
+}
+
+// What comes after the block for an EDT with these payloads.
+fn step_of(met: Met, payloads: Payloads) -> Step
+    ensures { result ≡ step_of met payloads }
+{
+    match met {
+        Met::Through => Step::Ready(payloads),
+        Met::Further => Step::Next(None),
+        Met::Parked => Step::Parked,
+    }
 }
 
 // The EDT does what the block lets it do, where the block comes next.
@@ -86,7 +109,7 @@ fn meet<R: Wait, G: Gate>(
     block: Guid,
     first: bool,
     payloads: &[Guid],
-) -> Result<Step, Over>
+) -> Result<Met, Over>
     requires work { AtWork job.now.turns.now job.now.program.now clerk.old }
     requires apart { edt ≢ block }
     requires block { is_within job.now.turns.now.1.limit block ≡ true }
@@ -96,19 +119,20 @@ fn meet<R: Wait, G: Gate>(
     requires unbegun { IsUnbegun clerk.old.view edt }
     ensures stays { Stays clerk.old clerk.new }
     ensures work { OnOk result (AtWork job.now.turns.now job.now.program.now clerk.new) }
-    ensures after { IfOk result (λ s. IsAfter job.now.turns.now.1 edt s clerk.old clerk.new) }
+    ensures met { IfOk result (λ m. HasMet job.now.turns.now.1 edt payloads.now m clerk.old
+        clerk.new) }
     ensures readied { OnOk result (ReadiesNone clerk.old clerk.new) }
     ensures gone { OnErr result (IsGone job.now.turns.now worker clerk.new) }
 {
     let Some(act) = decide(alloc, job, worker, clerk, edt, block, first, payloads)? else {
         give_two(job, clerk, edt, block, first);
-        return Ok(Step::Next(None));
+        return Ok(Met::Further);
     };
     act_at_block(alloc, job, worker, clerk, edt, block, first, act, payloads)
 }
 
-// Enters what the block lets the EDT do. An EDT that is to wait is parked; else the core alone is
-// kept.
+// Enters what the block lets the EDT do. An EDT that is to wait is parked; else the core is kept,
+// and the face too where nothing is left to acquire.
 fn act_at_block<R: Wait, G: Gate>(
     alloc: Global,
     job: &Job<R, G>,
@@ -119,7 +143,7 @@ fn act_at_block<R: Wait, G: Gate>(
     first: bool,
     act: Act,
     payloads: &[Guid],
-) -> Result<Step, Over>
+) -> Result<Met, Over>
     requires work { AtWork job.now.turns.now job.now.program.now clerk.old }
     requires apart { edt ≢ block }
     requires block { is_within job.now.turns.now.1.limit block ≡ true }
@@ -127,17 +151,24 @@ fn act_at_block<R: Wait, G: Gate>(
     requires unbegun { IsUnbegun clerk.old.view edt }
     ensures stays { Stays clerk.old clerk.new }
     ensures work { OnOk result (AtWork job.now.turns.now job.now.program.now clerk.new) }
-    ensures after { IfOk result (λ s. IsAfter job.now.turns.now.1 edt s clerk.old clerk.new) }
+    ensures met { IfOk result (λ m. HasMet job.now.turns.now.1 edt payloads.now m clerk.old
+        clerk.new) }
     ensures readied { OnOk result (ReadiesNone clerk.old clerk.new) }
     ensures gone { OnErr result (IsGone job.now.turns.now worker clerk.new) }
 {
     carry_out(alloc, job, worker, clerk, edt, block, first, act, payloads)?;
     if is_wait(act) {
         park_two(job, clerk, edt, block, first);
-        return Ok(Step::Parked);
+        return Ok(Met::Parked);
     }
-    give_two(job, clerk, edt, block, first);
-    Ok(Step::Next(None))
+    let place = job.turns.limit() + edt.0;
+    if let Some(_) = next_of(clerk.part(place)) {
+        give_two(job, clerk, edt, block, first);
+        return Ok(Met::Further);
+    }
+    // Nothing is left to acquire: the EDT starts with its core and its face.
+    job.turns.give_back(clerk, block.0);
+    Ok(Met::Through)
 }
 
 // Whether the EDT is to wait.
@@ -236,7 +267,7 @@ fn read_face<R: Wait, G: Gate>(
     worker: u32,
     clerk: &mut Clerk<Ocr>,
     edt: Guid,
-) -> Result<Vec<Guid>, Over>
+) -> Result<Payloads, Over>
     requires work { AtWork job.now.turns.now job.now.program.now clerk.old }
     requires face { HasFace job.now.turns.now.1 edt clerk.old }
     requires sees { Sees meaning clerk.old.view }

@@ -320,9 +320,9 @@ fn take_new<R: Wait, G: Gate>(
 {
     take_part(job, worker, clerk, place)?;
     let part = clerk.lift(place);
-    if asked.parts.push((place, part)).is_err() || asked.places.push(place).is_err() {
+    let Ok(()) = asked.put(place, part) else {
         return Err(close_memory(job, worker, clerk));
-    }
+    };
     Ok(())
 }
 

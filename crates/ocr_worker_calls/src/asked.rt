@@ -1,5 +1,5 @@
 // What a call needs before its entry: the parts that it names, and its code.
-ghost use Rattle.std.specs.Prelude.{◌≡◌, ◌≤◌, ◌+◌, ◌∷◌, [], length, IfOk, OnOk, OnErr};
+ghost use Rattle.std.specs.Prelude.{◌≡◌, ◌≤◌, ◌+◌, ◌++◌, ◌∷◌, [], length, IfOk, OnOk, OnErr};
 ghost use Rattle.ocr_body_meaning.specs.Body.{Body};
 ghost use Rattle.ocr_machine_parts.specs.Codes.{code_of, wanted};
 ghost use Rattle.ocr_machine_parts.specs.Taken.{face_in};
@@ -8,10 +8,11 @@ ghost use Rattle.ocr_machine_parts.specs.declared.part.Part.TheVariants as part;
 ghost use Rattle.ocr_worker_access.specs.Calls.{faces_of, home_for};
 ghost use Rattle.ocr_worker_access.specs.Access.{HasLifted, Runs, home_at};
 
-use crate::named::{Named, name_parts};
+use crate::named::{copied, named_places};
+use ocr_base::NoMemory;
 use ocr_body_meaning::Call;
 use ocr_guid::{Code, Guid};
-use ocr_machine_codes::decide;
+use ocr_machine_codes::{Numbers, decide};
 use ocr_machine_parts::{Core, Part};
 use ocr_turns::Clerk;
 use ocr_worker_access::core_at;
@@ -25,9 +26,24 @@ use std::sync::Wait;
 pub(crate) struct Asked {
     pub call: Call,
     pub home: Guid,
-    pub places: Vec<u64>,
+    pub places: Numbers,
     pub parts: Vec<(u64, Part)>,
     pub code: Code,
+}
+
+impl Asked {
+    /// Puts a part that was lifted behind the others, with its place.
+    pub(crate) fn put(&mut self, place: u64, part: Part) -> Result<(), NoMemory>
+        ensures same { (self.new.call ≡ self.old.call) × (self.new.code ≡ self.old.code)
+            × (self.new.home ≡ self.old.home) }
+        ensures parts { OnOk result (self.new.parts.items
+            ≡ self.old.parts.items ++ (place, part) ∷ []) }
+        ensures places { OnOk result (self.new.places.items ≡ self.old.places.items ++ place ∷ []) }
+    {
+        self.parts.push((place, part))?;
+        self.places.push(place)?;
+        Ok(())
+    }
 }
 
 /// Takes what the call names, lifts it with the core, and decides the call.
@@ -57,17 +73,19 @@ pub(crate) fn ask<R: Wait, G: Gate>(
 {
     let limit = job.turns.limit();
     let home = home_for(core_at(clerk, limit + edt.0), call);
-    let Ok(named) = name_parts(alloc, limit, edt, home, call) else {
+    let Ok(copy) = copied(call) else {
         return Err(close_memory(job, worker, clerk));
     };
-    let Named { call, places } = named;
+    let Ok(places) = named_places(alloc, limit, edt, home, call) else {
+        return Err(close_memory(job, worker, clerk));
+    };
     take_parts(job, worker, clerk, &places[1..])?;
     let Ok(parts) = lift_parts(alloc, clerk, &places) else {
         return Err(close_memory(job, worker, clerk));
     };
-    let code = decide(limit, edt, &call, &parts);
+    let code = decide(limit, edt, call, &parts);
     Ok(Asked {
-        call,
+        call: copy,
         home,
         places,
         parts,

@@ -20,7 +20,6 @@ use crate::answer::answer;
 use crate::asked::{Asked, ask};
 use crate::entry::enter_call;
 use crate::made::edt_made;
-use crate::print::print;
 use crate::writes::carried_writes;
 use ocr_base::NoMemory;
 use ocr_body_meaning::{Answer, Call};
@@ -34,41 +33,9 @@ use ocr_worker_clerk::{Gate, Job, Ocr, Over, close_memory};
 use std::alloc::Global;
 use std::sync::Wait;
 
-/// Makes the call that the body of the EDT makes next: takes the parts that it names, enters it
-/// with its answer, and settles what the entry leaves. Then the clerk keeps the core alone, as
-/// before. `Err` where the run has ended, or is ended here: for want of memory, which 2^32 messages
-/// of one entry want too, for want of a number, or since the entry would pass the clerk's share.
-pub fn make_any_call<R: Wait, G: Gate>(
-    alloc: Global,
-    job: &Job<R, G>,
-    worker: u32,
-    clerk: &mut Clerk<Ocr>,
-    hand: &mut Hand,
-    edt: Guid,
-    call: &Call,
-) -> Result<Answer, Over>
-    ghost b: { Body }
-    requires work { AtWork job.now.turns.now job.now.program.now clerk.old }
-    requires runs { Runs job.now.turns.now.1 edt b clerk.old }
-    requires next { IsNextWith call.now (private_of call.now (holds_at clerk.old))
-        (says b (own_log clerk.old.view.log edt)) }
-    requires coded { IsCoded call.now }
-    ensures stays { Stays clerk.old clerk.new }
-    ensures work { OnOk result (AtWork job.now.turns.now job.now.program.now clerk.new) }
-    ensures runs { OnOk result (Runs job.now.turns.now.1 edt b clerk.new) }
-    ensures called { IfOk result (λ a. IsCalled edt call.now a clerk.old clerk.new) }
-    ensures hand { IsPushed hand.old hand.new }
-    ensures pushed { OnOk result (PushesReady clerk.old clerk.new hand.old hand.new) }
-    ensures gone { OnErr result (IsGone job.now.turns.now worker clerk.new) }
-{
-    match call {
-        Call::Print { value } => print(alloc, job, worker, clerk, edt, *value),
-        _ => make_from(alloc, job, worker, clerk, hand, edt, call),
-    }
-}
-
-// The call, with a name for the clerk as it is before.
-fn make_from<R: Wait, G: Gate>(
+/// Makes a call, as `make_call` does, from the parts that it names, with a name for the clerk as it
+/// is before.
+pub(crate) fn make_from<R: Wait, G: Gate>(
     alloc: Global,
     job: &Job<R, G>,
     worker: u32,

@@ -1,4 +1,4 @@
-// A call of the body, of which the creation of an EDT is tried at hand first.
+// A call of the body, by its kind: prints and plain creations of EDTs are entered at hand.
 ghost use Rattle.std.specs.Prelude.{IfOk, OnOk, OnErr};
 ghost use Rattle.ocr_body_meaning.specs.Behaviour.{IsNextWith};
 ghost use Rattle.ocr_body_meaning.specs.Body.{Body, says};
@@ -9,8 +9,9 @@ ghost use Rattle.ocr_worker_access.specs.Calls.{IsCoded};
 ghost use Rattle.ocr_worker_access.specs.Access.{IsCalled, Runs, holds_at};
 ghost use Rattle.ocr_worker_access.specs.Served.{own_log};
 
-use crate::call::make_any_call;
+use crate::call::make_from;
 use crate::creation::create_bare;
+use crate::print::print;
 use ocr_body_meaning::{Answer, Call};
 use ocr_guid::Guid;
 use ocr_steal::Hand;
@@ -48,7 +49,8 @@ pub fn make_call<R: Wait, G: Gate>(
 {
     match call {
         Call::EdtCreate { .. } => make_edt(alloc, job, worker, clerk, hand, edt, call),
-        _ => make_any_call(alloc, job, worker, clerk, hand, edt, call),
+        Call::Print { value } => print(alloc, job, worker, clerk, edt, *value),
+        _ => make_from(alloc, job, worker, clerk, hand, edt, call),
     }
 }
 
@@ -79,5 +81,5 @@ fn make_edt<R: Wait, G: Gate>(
     if let Some(answer) = create_bare(alloc, job, worker, clerk, hand, edt, call)? {
         return Ok(answer);
     }
-    make_any_call(alloc, job, worker, clerk, hand, edt, call)
+    make_from(alloc, job, worker, clerk, hand, edt, call)
 }

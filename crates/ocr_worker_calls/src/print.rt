@@ -19,7 +19,7 @@ use ocr_worker_clerk::{Gate, Job, Ocr, Over, enter_at_hand};
 use std::alloc::Global;
 use std::sync::Wait;
 
-/// Enters a print of the body of the EDT, as `make_any_call` enters a call. It names the caller's
+/// Enters a print of the body of the EDT, as `make_call` enters a call. It names the caller's
 /// core alone and leaves it as it stands, so that nothing is lifted for it, and nothing is settled
 /// after it. It is never refused.
 pub(crate) fn print<R: Wait, G: Gate>(

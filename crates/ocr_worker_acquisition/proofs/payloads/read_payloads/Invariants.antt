@@ -1,4 +1,4 @@
-use Rattle.std.proofs.Common.{◌≡◌, ◌≤◌, vec_len, vec_capacity}
+use Rattle.std.proofs.Common.{◌≡◌, ◌≤◌, length}
 use Rattle.ocr_worker_machine.specs.Ocr.{meaning}
 use Rattle.ocr_turns_rule.specs.Contract.{SameHand}
 use Rattle.ocr_turns_rule.specs.Steps.{Sees}
@@ -11,7 +11,7 @@ invariant-loop-slot l = record {
   hand : SameHand l.fn.clerk l.clerk;
   learns : Learns l.fn.clerk.view l.clerk.view;
   sees : Sees meaning l.clerk.view;
-  room : l.count ≤ vec_capacity l.payloads;
-  many : vec_len l.payloads ≡ l.slot;
+  room : l.count ≤ l.payloads.capacity;
+  many : length l.payloads.items ≡ l.slot;
   known : KnowsPayloads l.clerk.view l.edt l.payloads.items;
 }

@@ -1,16 +1,12 @@
-use Rattle.std.proofs.Common.{◌≡◌, ◌∙◌, ◌∷◌, [], ℕ, List, Option, Some, None, refl, ap, subst, sym}
+use Rattle.std.proofs.Common.{◌∙◌, ◌∷◌, [], ℕ, List, Option, Some, None, ap, subst, sym}
 use Rattle.ocr_worker_machine.specs.Clerks.{OcrView}
 use Rattle.ocr_worker_clerk.specs.Entry.{OcrKnown}
 use Rattle.ocr_worker_clerk.specs.Work.{CanRun, Took}
 use Rattle.ocr_worker_clerk.proofs.Push.{took_readies}
 use Rattle.ocr_worker_acquisition.specs.Rounds.{PlansNext}
-use Rattle.ocr_worker_acquisition.proofs.Faces.{after_wants, can_run, faced}
+use Rattle.ocr_worker_acquisition.proofs.Faces.{after_wants, can_run, faced, none_is}
 use Rattle.ocr_worker_acquisition.proofs.Holds.{core_can, take_ready}
 use Rattle.ocr_worker_acquisition.proofs.rounds.face_round.Goals as goal
-
-none_is : {A : Type 0} (o : Option A) → ((x : A) → o ≡ Some x → ⊥) → o ≡ None
-none_is None never = refl
-none_is (Some x) never = absurd (never x refl)
 
 pub read_face-requires-clause-face : goal.read_face-requires-clause-face
 read_face-requires-clause-face g c =
@@ -32,7 +28,7 @@ returns-clause-after g c =
     let plans : PlansNext table.1 c.args.edt payloads None known =
     subst (λ (o : Option ℕ). PlansNext table.1 c.args.edt payloads o known) (none_is c.in_ok-next.next (λ x is. c.in_default.not-Some x is)) c.in_ok-next.ensures.next in
     subst (λ (x : OcrKnown). CanRun table.1 c.args.edt c.in_ok-payloads.payloads.items x) (sym c.in_ok-next.ensures.same)
-    (subst (λ (l : List ℕ). CanRun table.1 c.args.edt l known) c.as_slice-known.ensures.value
+    (subst (λ (l : List ℕ). CanRun table.1 c.args.edt l known) c.as_slice-known.ensures
     (can_run table c.args.job.now.program.now c.args.edt payloads known e.work e.sees plans))
 
 pub returns-in-Some-clause-readied : goal.returns-in-Some-clause-readied

@@ -22,13 +22,13 @@ give_two-requires-clause-keeps g c =
     let done = subst (λ (x : OcrKnown). IsDone t edt d first x) (sym c.in_ok-act.ensures.same) (done_other table c.args.job.now.program.now edt d first payloads old r.block r.unbegun r.work r.ready other) in
     done.keeps
 
-pub returns-in_default-clause-after : goal.returns-in_default-clause-after
-returns-in_default-clause-after g c =
+pub returns-in_default-clause-met : goal.returns-in_default-clause-met
+returns-in_default-clause-met g c =
     let table = c.args.job.now.turns.now in let t = table.1 in let r = c.requires in let old = c.args.clerk.now in
     let edt = c.args.edt in let d = c.args.block in let first = c.args.first in let payloads = c.args.payloads.now in
     let other : WantsOther t edt d first payloads old = if_none (WantsOther t edt d first payloads old) c.in_ok-act.field-0 (λ x is. c.in_default.not-Some x is) c.in_ok-act.ensures.other in
     let done = subst (λ (x : OcrKnown). IsDone t edt d first x) (sym c.in_ok-act.ensures.same) (done_other table c.args.job.now.program.now edt d first payloads old r.block r.unbegun r.work r.ready other) in
-    (holds_given t edt c.decide.new.clerk c.give_two.new.clerk done.core done.shown c.give_two.ensures.gave, tt)
+    holds_given t edt c.decide.new.clerk c.give_two.new.clerk done.core done.shown c.give_two.ensures.gave
 
 pub returns-in_default-clause-readied : goal.returns-in_default-clause-readied
 returns-in_default-clause-readied g c =

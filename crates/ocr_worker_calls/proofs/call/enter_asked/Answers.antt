@@ -65,7 +65,7 @@ settle-requires g c = λ κs within.
     let ps = c.args.asked.parts.items in let e = c.in_ok-resumed.ensures in let mid = c.enter_call.new.clerk in let writes = c.in-Ok.writes in
     let places = faces_of L c.args.asked.home call ++ places_made L call given in
     let d = c.deref-3.result.now in
-    let others = rest_is d (L + c.args.edt) places (c.deref-3.ensures.value ∙ r.1.1.1.0) in
+    let others = rest_is d (L + c.args.edt) places (c.deref-3.ensures ∙ r.1.1.1.0) in
     let made : made_by L (Call c.args.edt c.args.asked.home call given writes) c.args.clerk.now.view.parts ≡ listed c.edt_made-made.result =
     ap (λ o. listed o) (sym (c.edt_made-made.ensures L c.args.edt ∙ (ap (counts L (Call c.args.edt 0 call given [])) c.deref.ensures.value ∙ counts_kept t c.args.edt g.s.0 g.s.1 c.args.clerk.now _ _ ps r.1.0 r.1.1.0 c.args.asked.home call given writes))) in (
       within.0,

@@ -9,7 +9,7 @@ use Rattle.ocr_worker_access.specs.Served.{own_log}
 use Rattle.ocr_worker_clerk.specs.Push.{PushesReady, ReadiesNone}
 use Rattle.ocr_worker_clerk.proofs.Push.{pushes_none}
 use Rattle.ocr_worker_access.proofs.Entered.{ok_then}
-use Rattle.ocr_worker_calls.proofs.call.make_any_call.Goals as goal
+use Rattle.ocr_worker_calls.proofs.choice.make_call.Goals as goal
 
 pub print-requires : goal.print-requires
 print-requires g c = λ κs within.
