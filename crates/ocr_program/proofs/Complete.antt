@@ -16,7 +16,7 @@ use Rattle.ocr_program_grammar.specs.declared.lexeme.Word.TheVariants as word
 use Rattle.ocr_program_grammar.specs.declared.argument_kind.ArgumentKind.{ArgumentKind}
 use Rattle.ocr_program_grammar.specs.Shape.{shape}
 use Rattle.ocr_program_grammar.specs.Grammar as g
-use Rattle.ocr_program_grammar.specs.Grammar.{level, lexeme_of_operator, lexeme_of_sign, IsExpression, AreArguments, Follows, AreMembers, IsStatement, AreStatements, IsProgram}
+use Rattle.ocr_program_grammar.specs.Grammar.{level, lexeme_of_sign, IsExpression, AreArguments, Follows, AreMembers, IsStatement, AreStatements, IsProgram}
 use Rattle.ocr_program_parser.specs.Joined.{with, ended_by, followed_by}
 use Rattle.ocr_program_parser.specs.Machine as m
 use Rattle.ocr_program_parser.specs.Machine.{State, Position, Purpose, Indexed, Stack, Bottom, CallSite, InExpression, AsStatement, Left, Prefix, Round, Index, Argument, Member, FlagsArgument, Operand, AfterOperand, Held, fold_of, reads, step, operator, at_operand_end, after, at_right_operand, element_of, start, Functions}
@@ -117,7 +117,7 @@ start_member _ _ _ _ (g.signed l unary.Not ts rest e d) h k c done ss = refl
 start_member _ _ _ _ (g.signed l unary.Invert ts rest e d) h k c done ss = refl
 start_member _ _ _ _ (g.signed l unary.Minus ts rest e d) h k c done ss = refl
 start_member _ _ _ _ (g.joined l op ts mid rest a b low first second) h k c done ss =
-    start_member (level op) ts (lexeme_of_operator op ∷ mid) a first h k c done ss
+    start_member (level op) ts (lexeme.Operator op ∷ mid) a first h k c done ss
 start_member _ _ _ _ (g.parentheses l ts rest e d) h k c done ss = refl
 start_member _ _ _ _ (g.invoked l c1 ts rest args d) h k c done ss = refl
 
@@ -168,7 +168,7 @@ mutual
         folds = λ n small. r.folds n (omega arith);
       }
   expression _ _ _ _ (g.joined l op ts mid rest a b low first second) h k f high =
-      let r = expression (level op) ts (lexeme_of_operator op ∷ mid) a first h k (omega arith) (omega (arith, level_low op)) in
+      let r = expression (level op) ts (lexeme.Operator op ∷ mid) a first h k (omega arith) (omega (arith, level_low op)) in
       let s = expression (level op + 1) mid rest b second h (Left a op k) (omega arith) (omega (arith, level_low op)) in
       let begins : reads (Some (Operand h k)) ts ≡ reads (Some (Operand h (Left a op k))) mid =
       r.reading

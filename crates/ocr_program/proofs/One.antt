@@ -7,7 +7,9 @@ use Rattle.ocr_program_tree.specs.Tree.{FunctionTree}
 use Rattle.ocr_program_grammar.specs.declared.lexeme.Lexeme.{Lexeme}
 use Rattle.ocr_program_grammar.specs.Grammar.{IsProgram, GoesOn}
 use Rattle.ocr_program_grammar.specs.Parser.{IsTree, IsFault}
-use Rattle.ocr_program_grammar.specs.Lexemes.{lexemes_of, places_of, IsTreeOf, IsSyntaxFault}
+use Rattle.ocr_program_grammar.specs.Lexemes.{IsTreeOf, IsSyntaxFault}
+use Rattle.ocr_program_grammar.specs.Lexing.{lexemes_of, places_of}
+use Rattle.ocr_program_grammar.proofs.Lexed.{told, tree_told}
 use Rattle.ocr_program.proofs.Exact.{one_tree}
 
 -- what goes on goes on from an earlier place
@@ -53,13 +55,27 @@ apart ts n program f t = elim (cases_lt n (length ts)) as (λ _. ⊥) [
 
 pub same_tree : (bytes : List ℕ) (tokens : List Token) (p : List FunctionTree) (program : List FunctionTree)
     → IsTreeOf bytes tokens p → IsTreeOf bytes tokens program → p ≡ program
-same_tree bytes tokens p program a b = one_tree (lexemes_of bytes tokens) p program a.whole b.whole
+same_tree bytes tokens p program a b =
+    one_tree (lexemes_of bytes tokens) p program (tree_told bytes tokens p a).whole (tree_told bytes tokens program b).whole
+
+fault_told : (bytes : List ℕ) (tokens : List Token) (place : ℕ) (f : IsSyntaxFault bytes tokens place)
+    → IsFault (lexemes_of bytes tokens) f.before
+fault_told bytes tokens place f =
+    subst (λ (ls : List Lexeme). IsFault ls f.before) (sym (told bytes tokens f.places f.lexemes f.seen).1) f.fault
+
+place_told : (bytes : List ℕ) (tokens : List Token) (place : ℕ) (f : IsSyntaxFault bytes tokens place)
+    → place ≡ get_or (places_of bytes tokens) f.before (length bytes)
+place_told bytes tokens place f =
+    f.here ∙ ap (λ (ps : List ℕ). get_or ps f.before (length bytes)) (sym (told bytes tokens f.places f.lexemes f.seen).0)
 
 pub same_place : (bytes : List ℕ) (tokens : List Token) (a b : ℕ) → IsSyntaxFault bytes tokens a
     → IsSyntaxFault bytes tokens b → a ≡ b
 same_place bytes tokens a b x y =
-    x.here ∙ ap (λ (n : ℕ). get_or (places_of bytes tokens) n (length bytes)) (one_fault (lexemes_of bytes tokens) x.before y.before x.fault y.fault) ∙ sym y.here
+    place_told bytes tokens a x
+    ∙ ap (λ (n : ℕ). get_or (places_of bytes tokens) n (length bytes)) (one_fault (lexemes_of bytes tokens) x.before y.before (fault_told bytes tokens a x) (fault_told bytes tokens b y))
+    ∙ sym (place_told bytes tokens b y)
 
 pub no_tree : (bytes : List ℕ) (tokens : List Token) (place : ℕ) (program : List FunctionTree)
     → IsSyntaxFault bytes tokens place → IsTreeOf bytes tokens program → ⊥
-no_tree bytes tokens place program f t = apart (lexemes_of bytes tokens) f.before program f.fault t
+no_tree bytes tokens place program f t =
+    apart (lexemes_of bytes tokens) f.before program (fault_told bytes tokens place f) (tree_told bytes tokens program t)

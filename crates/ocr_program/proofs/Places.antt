@@ -7,9 +7,12 @@ use Rattle.ocr_text.specs.Tokens.{IsToken, Tile, AreTokens}
 use Rattle.ocr_program_tree.specs.Tree.{FunctionTree}
 use Rattle.ocr_program_grammar.specs.declared.lexeme.Lexeme.{Lexeme}
 use Rattle.ocr_program_grammar.specs.Grammar.{GoesOn}
-use Rattle.ocr_program_grammar.specs.Limits.{Tally, tally, tally_after, nothing_read, is_over, IsOver}
+use Rattle.ocr_program_grammar.specs.Counts.{tally}
+use Rattle.ocr_program_grammar.specs.Limits.{Tally, tally_after, nothing_read, is_over, IsOver}
 use Rattle.ocr_program_grammar.specs.Parser.{Fits, IsTree, IsFault}
-use Rattle.ocr_program_grammar.specs.Lexemes.{lexeme_of, lexeme_onto, lexemes_of, place_onto, places_of, IsTreeOf, IsSyntaxFault}
+use Rattle.ocr_program_grammar.specs.Lexemes.{IsTreeOf, IsSyntaxFault}
+use Rattle.ocr_program_grammar.specs.Lexing.{lexeme_of, lexeme_onto, lexemes_of, place_onto, places_of}
+use Rattle.ocr_program_grammar.proofs.Lexed.{seen}
 use Rattle.ocr_program_parser.specs.Machine.{State, reads, step, next, start, Functions, program_of}
 use Rattle.ocr_program_parser.specs.Fits.{IsFittingState}
 use Rattle.ocr_program.proofs.Fits.{step_fitting}
@@ -247,39 +250,59 @@ stepped bytes tokens n s s1 y d l p inside is on low = record {
 }
 
 pub over_at : (bytes : List ℕ) (tokens : List Token) (n : ℕ) (s : State) (y : Tally) (d : Token) (l : Lexeme)
-    → Progress bytes tokens n s y → n < length tokens → lexeme_of bytes (get_or tokens n d) ≡ Some l
-    → is_over (tally_after y l) ≡ true → IsSyntaxFault bytes tokens (get_or tokens n d).start
-over_at bytes tokens n s y d l p inside is over = record {
+    → AreTokens bytes tokens → Progress bytes tokens n s y → n < length tokens
+    → lexeme_of bytes (get_or tokens n d) ≡ Some l → is_over (tally_after y l) ≡ true
+    → IsSyntaxFault bytes tokens (get_or tokens n d).start
+over_at bytes tokens n s y d l are p inside is over = record {
+  places = places_of bytes tokens;
+  lexemes = lexemes_of bytes tokens;
+  seen = seen bytes 0 (length bytes) tokens are;
   before = length (lexemes_of bytes (take n tokens));
   fault = subst (λ (ls : List Lexeme). IsFault ls (length (lexemes_of bytes (take n tokens)))) (sym (lexemes_split bytes tokens n d l inside is)) (over_fault _ _ s y l p.read over);
   here = place_is bytes tokens n d l inside is;
 }
 
 pub stop_at : (bytes : List ℕ) (tokens : List Token) (n : ℕ) (s : State) (y : Tally) (d : Token) (l : Lexeme)
-    → Progress bytes tokens n s y → n < length tokens → lexeme_of bytes (get_or tokens n d) ≡ Some l
-    → step s l ≡ None → IsSyntaxFault bytes tokens (get_or tokens n d).start
-stop_at bytes tokens n s y d l p inside is none = record {
+    → AreTokens bytes tokens → Progress bytes tokens n s y → n < length tokens
+    → lexeme_of bytes (get_or tokens n d) ≡ Some l → step s l ≡ None
+    → IsSyntaxFault bytes tokens (get_or tokens n d).start
+stop_at bytes tokens n s y d l are p inside is none = record {
+  places = places_of bytes tokens;
+  lexemes = lexemes_of bytes tokens;
+  seen = seen bytes 0 (length bytes) tokens are;
   before = length (lexemes_of bytes (take n tokens));
   fault = subst (λ (ls : List Lexeme). IsFault ls (length (lexemes_of bytes (take n tokens)))) (sym (lexemes_split bytes tokens n d l inside is)) (stop_fault _ _ s y l p.read none);
   here = place_is bytes tokens n d l inside is;
 }
 
 pub tree_at_end : (bytes : List ℕ) (tokens : List Token) (n : ℕ) (s : State) (y : Tally) (p : List FunctionTree)
-    → Progress bytes tokens n s y → n ≡ length tokens → program_of s ≡ Some p → IsTreeOf bytes tokens p
-tree_at_end bytes tokens n s y p w all is =
+    → AreTokens bytes tokens → Progress bytes tokens n s y → n ≡ length tokens → program_of s ≡ Some p
+    → IsTreeOf bytes tokens p
+tree_at_end bytes tokens n s y p are w all is =
     let whole : take n tokens ≡ tokens = take_all n tokens (omega arith) in
-    subst (λ (ts : List Token). IsTreeOf bytes ts p) whole (tree_read _ s y p w.read is)
+    record {
+      places = places_of bytes tokens;
+      lexemes = lexemes_of bytes tokens;
+      seen = seen bytes 0 (length bytes) tokens are;
+      tree = subst (λ (ts : List Token). IsTree (lexemes_of bytes ts) p) whole (tree_read _ s y p w.read is);
+    }
 
 pub fault_at_end : (bytes : List ℕ) (tokens : List Token) (n : ℕ) (s : State) (y : Tally)
-    → Progress bytes tokens n s y → n ≡ length tokens → program_of s ≡ None → IsSyntaxFault bytes tokens (length bytes)
-fault_at_end bytes tokens n s y w all none =
+    → AreTokens bytes tokens → Progress bytes tokens n s y → n ≡ length tokens → program_of s ≡ None
+    → IsSyntaxFault bytes tokens (length bytes)
+fault_at_end bytes tokens n s y are w all none =
     let whole : take n tokens ≡ tokens = take_all n tokens (omega arith) in
-    let at_end : IsSyntaxFault bytes (take n tokens) (length bytes) = record {
-      before = length (lexemes_of bytes (take n tokens));
-      fault = end_fault _ s y w.read none;
-      here = sym (ap (λ (k : ℕ). get_or (places_of bytes (take n tokens)) k (length bytes)) (sym (as_many bytes (take n tokens))) ∙ get_past (places_of bytes (take n tokens)) (length bytes));
-    } in
-    subst (λ (ts : List Token). IsSyntaxFault bytes ts (length bytes)) whole at_end
+    let read : ℕ = length (lexemes_of bytes (take n tokens)) in
+    let past : length bytes ≡ get_or (places_of bytes (take n tokens)) read (length bytes) =
+    sym (ap (λ (k : ℕ). get_or (places_of bytes (take n tokens)) k (length bytes)) (sym (as_many bytes (take n tokens))) ∙ get_past (places_of bytes (take n tokens)) (length bytes)) in
+    record {
+      places = places_of bytes tokens;
+      lexemes = lexemes_of bytes tokens;
+      seen = seen bytes 0 (length bytes) tokens are;
+      before = read;
+      fault = subst (λ (ts : List Token). IsFault (lexemes_of bytes ts) read) whole (end_fault _ s y w.read none);
+      here = subst (λ (ts : List Token). length bytes ≡ get_or (places_of bytes ts) read (length bytes)) whole past;
+    }
 
 -- each token of the text is one
 tile_token : (bytes : List ℕ) (from end : ℕ) (tokens : List Token) (n : ℕ) (d : Token) → Tile bytes from tokens end

@@ -15,7 +15,7 @@ use Rattle.ocr_program_grammar.specs.declared.argument_kind.ArgumentKind.{Argume
 use Rattle.ocr_program_grammar.specs.declared.argument_kind.ArgumentKind.TheVariants.{Value, Values, NameOfFunction, FlagsAndOutput}
 use Rattle.ocr_program_grammar.specs.Shape.{shape}
 use Rattle.ocr_program_grammar.specs.Grammar as g
-use Rattle.ocr_program_grammar.specs.Grammar.{level, lexeme_of_operator, lexeme_of_sign, IsExpression, AreArguments, Follows, AreMembers, IsStatement, AreStatements, IsProgram}
+use Rattle.ocr_program_grammar.specs.Grammar.{level, lexeme_of_sign, IsExpression, AreArguments, Follows, AreMembers, IsStatement, AreStatements, IsProgram}
 use Rattle.ocr_program_parser.specs.Joined.{with, ended_by}
 use Rattle.ocr_program_parser.specs.Machine as m
 use Rattle.ocr_program_parser.specs.Machine.{State, Position, Purpose, Indexed, Stack, Bottom, CallSite, InExpression, AsStatement, Left, Prefix, Round, Index, Argument, Member, FlagsArgument, Operand, AfterOperand, Held, fold_of, reads, step, operator, at_operand_end, after, at_right_operand, start, Functions}
@@ -85,7 +85,7 @@ abbrev mutual
   Waits : Position → List Lexeme → Stack → List Lexeme → Type 0
   Waits h all (Bottom p) ts = At h all (begun p ts)
   Waits h all (Left a op k) ts =
-      (t0 : List Lexeme) × (Waits h all k t0 × (floor k ≤ level op) × IsExpression (level op) t0 (lexeme_of_operator op ∷ ts) a)
+      (t0 : List Lexeme) × (Waits h all k t0 × (floor k ≤ level op) × IsExpression (level op) t0 (lexeme.Operator op ∷ ts) a)
   Waits h all (Prefix op k) ts = Waits h all k (lexeme_of_sign op ∷ ts)
   Waits h all (Round k) ts = Waits h all k (lexeme.OpenRound ∷ ts)
   Waits h all (Index i k) ts = Waits h all k (indexing i ∷ lexeme.OpenSquare ∷ ts)
@@ -297,10 +297,10 @@ closed_reached h (FlagsArgument c done k) e lexeme.Comma all ts w =
 closed_reached h (Bottom p) e t all ts w = whole_reached h p e t all w.0 ts w.1.0 (w.1.1 0 (omega arith))
 closed_reached h other e t all ts w = tt
 
-spelled_some : (a b : BinaryOp) → Some a ≡ Some b → lexeme_of_operator a ≡ lexeme_of_operator b
-spelled_some a b is = let same : a ≡ b = cc in ap lexeme_of_operator same
+spelled_some : (a b : BinaryOp) → Some a ≡ Some b → lexeme.Operator a ≡ lexeme.Operator b
+spelled_some a b is = let same : a ≡ b = cc in ap lexeme.Operator same
 
-operator_is : (t : Lexeme) (op : BinaryOp) → operator t ≡ Some op → t ≡ lexeme_of_operator op
+operator_is : (t : Lexeme) (op : BinaryOp) → operator t ≡ Some op → t ≡ lexeme.Operator op
 operator_is (lexeme.Operator o) op is = spelled_some o op is
 operator_is other op is = cc
 

@@ -3,7 +3,8 @@ use Rattle.std.proofs.Common.{◌≡◌, ◌<◌, ◌++◌, refl, List, [], ◌�
 use Rattle.ocr_program_tree.specs.Tree as tree
 use Rattle.ocr_program_tree.specs.View.{statements_of}
 use Rattle.ocr_program_tree.specs.declared.tree.Stmt.{Stmt}
-use Rattle.ocr_program_canonical.specs.Canonical.{expression_text, statement_text, statements_text, line, deeper}
+use Rattle.ocr_program_canonical.specs.Canonical.{expression_text, statement_text, statements_text, line}
+use Rattle.ocr_program_canonical.specs.Written.{deeper}
 
 pub without_else : (margin : List ℕ) (e : tree.Expression) (first : tree.Statements) (rs : List Stmt) → length rs ≡ 0
     → statement_text margin (tree.If e first (statements_of rs))

@@ -11,7 +11,8 @@ use Rattle.ocr_program_grammar.specs.Shape.{shape}
 use Rattle.ocr_program_grammar.specs.declared.argument_kind.ArgumentKind.{ArgumentKind}
 use Rattle.ocr_program_grammar.specs.declared.argument_kind.ArgumentKind.TheVariants as slot
 use Rattle.ocr_program_grammar.specs.Grammar as grammar
-use Rattle.ocr_program_grammar.specs.Grammar.{level, unary_level, IsExpression, AreArguments, Follows, AreMembers, IsStatement, AreStatements, IsProgram}
+use Rattle.ocr_program_grammar.specs.Grammar.{level, IsExpression, AreArguments, Follows, AreMembers, IsStatement, AreStatements, IsProgram}
+use Rattle.ocr_program_grammar.specs.declared.levels.TheConstants.{UNARY_LEVEL}
 use Rattle.ocr_program_canonical.specs.Canonical.{level_of}
 use Rattle.ocr_program_canonical.proofs.Lexemes as canonical
 use Rattle.ocr_program_canonical.proofs.Lexemes.{bracketed, is_lower}
@@ -106,7 +107,7 @@ mutual
   expression _ (speakable.paramv e s) l rest h = grammar.paramv l _ rest e (expression e s 0 _ (omega arith))
   expression _ (speakable.depv e s) l rest h = grammar.depv l _ rest e (expression e s 0 _ (omega arith))
   expression _ (speakable.signed op e s) l rest h =
-      grammar.signed l op _ rest e (in_brackets unary_level e rest (is_lower e unary_level) refl (expression e s))
+      grammar.signed l op _ rest e (in_brackets UNARY_LEVEL e rest (is_lower e UNARY_LEVEL) refl (expression e s))
   expression _ (speakable.joined op a b s t) l rest h =
       grammar.joined l op _ _ rest a b h
       (in_brackets (level op) a _ (is_lower a (level op)) refl (expression a s))

@@ -3,7 +3,8 @@ use Rattle.std.proofs.Common.{◌≡◌, ◌≤◌, ℕ, zero, suc, List, [], �
 use Rattle.std.proofs.lemmas.Grind.{common_steps}
 use Rattle.std.proofs.lemmas.Bool.{false_from_ne_true}
 use Rattle.ocr_program_grammar.specs.declared.lexeme.Lexeme.{Lexeme}
-use Rattle.ocr_program_grammar.specs.Limits.{Tally, tally_after, tally, is_over}
+use Rattle.ocr_program_grammar.specs.Limits.{Tally, tally_after, is_over}
+use Rattle.ocr_program_grammar.specs.Counts.{tally}
 
 -- an expression is being read, and so many of its lexemes were
 abbrev pub inside : ℕ → ℕ → Tally

@@ -7,19 +7,19 @@ use Rattle.std.specs.List.{list_all}
 use Rattle.std.proofs.lemmas.Bool.{and_parts, or_parts}
 use Rattle.ocr_text.specs.declared.token.TokenKind.{TokenKind}
 use Rattle.ocr_text.specs.declared.token.TokenKind.TheVariants as kind
-use Rattle.ocr_text.specs.Forms.{is_blank, is_digit, is_letter, is_form, is_double, value_on, value_of}
-use Rattle.ocr_text.specs.Scan.{kind_at, goes_on, run_of, second_of, rest_of, found, found_as}
+use Rattle.ocr_text.specs.Forms.{is_blank, is_digit, is_letter, is_form, is_double, value_of}
+use Rattle.ocr_text.specs.Scan.{kind_at, goes_on, run_of, second_of, rest_of, found, found_as, value_on}
 use Rattle.ocr_text.proofs.Bytes.{first_byte, kind_blank}
 use Rattle.ocr_program_grammar.specs.declared.lexeme.Lexeme.{Lexeme}
 use Rattle.ocr_program_grammar.specs.declared.lexeme.Lexeme.TheVariants as lexeme
-use Rattle.ocr_program_grammar.specs.Texts as texts
+use Rattle.ocr_program_grammar.specs.Lexing as lexing
 use Rattle.ocr_text.proofs.Laws.{pair_is, none_some}
 
 -- what a token of this kind and these bytes is to the grammar
 pub data Gives : TokenKind → List ℕ → Lexeme → Type 0 where
   number : (piece : List ℕ) → value_of piece < 2 ^ 64 → Gives kind.Number piece (lexeme.Number (value_of piece))
-  name : (piece : List ℕ) → Gives kind.Name piece (texts.lexeme_of_name piece)
-  symbol : (piece : List ℕ) (l : Lexeme) → texts.symbol piece ≡ Some l → Gives kind.Symbol piece l
+  name : (piece : List ℕ) → Gives kind.Name piece (lexing.lexeme_of_name piece)
+  symbol : (piece : List ℕ) (l : Lexeme) → lexing.symbol piece ≡ Some l → Gives kind.Symbol piece l
 
 pub data IsLexed : List ℕ → List Lexeme → Type 0 where
   over : IsLexed [] []
@@ -137,7 +137,7 @@ found_name (b ∷ bs) rest form stops =
     let more : run_of (goes_on kind.Name) (bs ++ rest) + 1 ≡ suc (length bs) = omega (arith, run_stopped (goes_on kind.Name) bs rest (and_parts (is_letter b) _ form).1 (stops_name rest stops)) in
     ap (λ (o : Option TokenKind). found_as o b (bs ++ rest)) (first_byte kind.Name b bs form) ∙ ap (λ (n : ℕ). Some (kind.Name, n)) more
 
-pub word : (x rest : List ℕ) (l : Lexeme) (ls : List Lexeme) → is_form kind.Name x ≡ true → texts.lexeme_of_name x ≡ l → Stops rest → IsLexed rest ls → IsLexed (x ++ rest) (l ∷ ls)
+pub word : (x rest : List ℕ) (l : Lexeme) (ls : List Lexeme) → is_form kind.Name x ≡ true → lexing.lexeme_of_name x ≡ l → Stops rest → IsLexed rest ls → IsLexed (x ++ rest) (l ∷ ls)
 word x rest l ls form is stops d = whole kind.Name x rest l ls (found_name x rest form stops) (subst (λ (t : Lexeme). Gives kind.Name x t) is (name x)) d
 
 found_number : (x rest : List ℕ) → is_form kind.Number x ≡ true → Stops rest → found (x ++ rest) ≡ Some (kind.Number, length x)
@@ -176,14 +176,14 @@ second_none a [] apart = refl
 second_none a (b ∷ bs) apart = ap (λ (x : Bool). cond x 1 0) (apart b)
 
 -- a symbol of one byte
-pub single : (a : ℕ) (rest : List ℕ) (l : Lexeme) (ls : List Lexeme) → kind_at a ≡ Some kind.Symbol → second_of a rest ≡ 0 → texts.symbol (a ∷ []) ≡ Some l → IsLexed rest ls → IsLexed (a ∷ rest) (l ∷ ls)
+pub single : (a : ℕ) (rest : List ℕ) (l : Lexeme) (ls : List Lexeme) → kind_at a ≡ Some kind.Symbol → second_of a rest ≡ 0 → lexing.symbol (a ∷ []) ≡ Some l → IsLexed rest ls → IsLexed (a ∷ rest) (l ∷ ls)
 single a rest l ls is alone gives d =
     whole kind.Symbol (a ∷ []) rest l ls
     (ap (λ (o : Option TokenKind). found_as o a rest) is ∙ ap (λ (n : ℕ). Some (kind.Symbol, n + 1)) alone)
     (symbol (a ∷ []) l gives) d
 
 -- one that begins no symbol of two
-pub plain : (a : ℕ) (rest : List ℕ) (l : Lexeme) (ls : List Lexeme) → kind_at a ≡ Some kind.Symbol → ((b : ℕ) → is_double a b ≡ false) → texts.symbol (a ∷ []) ≡ Some l → IsLexed rest ls → IsLexed (a ∷ rest) (l ∷ ls)
+pub plain : (a : ℕ) (rest : List ℕ) (l : Lexeme) (ls : List Lexeme) → kind_at a ≡ Some kind.Symbol → ((b : ℕ) → is_double a b ≡ false) → lexing.symbol (a ∷ []) ≡ Some l → IsLexed rest ls → IsLexed (a ∷ rest) (l ∷ ls)
 plain a rest l ls is apart gives d = single a rest l ls is (second_none a rest apart) gives d
 
 pub open_round : (rest : List ℕ) (ls : List Lexeme) → IsLexed rest ls → IsLexed (40 ∷ rest) (lexeme.OpenRound ∷ ls)

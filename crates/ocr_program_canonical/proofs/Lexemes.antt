@@ -7,7 +7,8 @@ use Rattle.ocr_program_tree.specs.Tree.{Expression, Number, Named, Var, Paramc, 
 use Rattle.ocr_program_grammar.specs.declared.lexeme.Lexeme.{Lexeme}
 use Rattle.ocr_program_grammar.specs.declared.lexeme.Lexeme.TheVariants as lexeme
 use Rattle.ocr_program_grammar.specs.declared.lexeme.Word.TheVariants as word
-use Rattle.ocr_program_grammar.specs.Grammar.{level, unary_level, lexeme_of_operator, lexeme_of_sign}
+use Rattle.ocr_program_grammar.specs.Grammar.{level, lexeme_of_sign}
+use Rattle.ocr_program_grammar.specs.declared.levels.TheConstants.{UNARY_LEVEL}
 use Rattle.ocr_program_canonical.specs.Canonical.{level_of}
 
 abbrev pub bracketed : Bool → (List Lexeme → List Lexeme) → List Lexeme → List Lexeme
@@ -27,10 +28,10 @@ abbrev mutual
   expression LastCode rest = lexeme.Word word.Code ∷ rest
   expression (Paramv e) rest = lexeme.Word word.Paramv ∷ lexeme.OpenSquare ∷ expression e (lexeme.CloseSquare ∷ rest)
   expression (Depv e) rest = lexeme.Word word.Depv ∷ lexeme.OpenSquare ∷ expression e (lexeme.CloseSquare ∷ rest)
-  expression (Unary op e) rest = lexeme_of_sign op ∷ bracketed (is_lower e unary_level) (expression e) rest
+  expression (Unary op e) rest = lexeme_of_sign op ∷ bracketed (is_lower e UNARY_LEVEL) (expression e) rest
   expression (Binary op a b) rest =
       bracketed (is_lower a (level op)) (expression a)
-      (lexeme_of_operator op ∷ bracketed (is_lower b (level op + 1)) (expression b) rest)
+      (lexeme.Operator op ∷ bracketed (is_lower b (level op + 1)) (expression b) rest)
   expression (Invoked c args) rest = lexeme.Call c ∷ lexeme.OpenRound ∷ arguments args (lexeme.CloseRound ∷ rest)
 
   pub arguments : Arguments → List Lexeme → List Lexeme
@@ -90,7 +91,7 @@ abbrev mutual
   size LastCode = 1
   size (Paramv e) = 3 + size e
   size (Depv e) = 3 + size e
-  size (Unary op e) = 1 + bracket_size (is_lower e unary_level) (size e)
+  size (Unary op e) = 1 + bracket_size (is_lower e UNARY_LEVEL) (size e)
   size (Binary op a b) =
       bracket_size (is_lower a (level op)) (size a) + 1 + bracket_size (is_lower b (level op + 1)) (size b)
   size (Invoked c args) = 3 + arguments_size args

@@ -7,7 +7,8 @@ use Rattle.ocr_program_tree.specs.Tree.{Expression, Number, Named, Var, Paramc, 
 use Rattle.ocr_program_grammar.specs.declared.lexeme.Lexeme.{Lexeme}
 use Rattle.ocr_program_grammar.specs.declared.lexeme.Lexeme.TheVariants as lexeme
 use Rattle.ocr_program_grammar.specs.declared.lexeme.Word.TheVariants as word
-use Rattle.ocr_program_grammar.specs.Grammar.{level, unary_level, lexeme_of_operator, lexeme_of_sign}
+use Rattle.ocr_program_grammar.specs.Grammar.{level, lexeme_of_sign}
+use Rattle.ocr_program_grammar.specs.declared.levels.TheConstants.{UNARY_LEVEL}
 use Rattle.ocr_program_grammar.specs.Limits.{within}
 use Rattle.ocr_program_canonical.proofs.Lexemes as canonical
 use Rattle.ocr_program_canonical.proofs.Lexemes.{is_lower, bracket_size, size, arguments_size, further_size}
@@ -71,15 +72,15 @@ mutual
       (after lexeme.OpenSquare (λ ls. canonical.expression e (lexeme.CloseSquare ∷ ls)) (size e + 1) (2 + size e) (λ d n. refl) (omega arith)
       (then (canonical.expression e) (λ ls. lexeme.CloseSquare ∷ ls) (size e) 1 (expression e) (token lexeme.CloseSquare (λ d n. refl))))
   expression (Unary op e) =
-      after (lexeme_of_sign op) _ (bracket_size (is_lower e unary_level) (size e)) _ (unary_within op) refl
-      (bracketed (is_lower e unary_level) (canonical.expression e) (size e) (expression e))
+      after (lexeme_of_sign op) _ (bracket_size (is_lower e UNARY_LEVEL) (size e)) _ (unary_within op) refl
+      (bracketed (is_lower e UNARY_LEVEL) (canonical.expression e) (size e) (expression e))
   expression (Binary op a b) =
       let x = is_lower a (level op) in
       let y = is_lower b (level op + 1) in
       resized _ (bracket_size x (size a) + (1 + bracket_size y (size b))) _ (omega arith)
-      (then (canonical.bracketed x (canonical.expression a)) (λ ls. lexeme_of_operator op ∷ canonical.bracketed y (canonical.expression b) ls) _ _
+      (then (canonical.bracketed x (canonical.expression a)) (λ ls. lexeme.Operator op ∷ canonical.bracketed y (canonical.expression b) ls) _ _
       (bracketed x (canonical.expression a) (size a) (expression a))
-      (after (lexeme_of_operator op) (canonical.bracketed y (canonical.expression b)) _ _ (λ d n. refl) refl (bracketed y (canonical.expression b) (size b) (expression b))))
+      (after (lexeme.Operator op) (canonical.bracketed y (canonical.expression b)) _ _ (λ d n. refl) refl (bracketed y (canonical.expression b) (size b) (expression b))))
   expression (Invoked c args) =
       after (lexeme.Call c) (λ ls. lexeme.OpenRound ∷ canonical.arguments args (lexeme.CloseRound ∷ ls)) (2 + arguments_size args) (3 + arguments_size args) (λ d n. refl) (omega arith)
       (enclosed args)

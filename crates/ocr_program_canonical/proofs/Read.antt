@@ -14,7 +14,8 @@ use Rattle.ocr_program_grammar.specs.declared.lexeme.Word.TheVariants as word
 use Rattle.ocr_program_grammar.specs.declared.argument_kind.ArgumentKind.{ArgumentKind}
 use Rattle.ocr_program_grammar.specs.Shape.{shape}
 use Rattle.ocr_program_grammar.specs.Grammar as grammar
-use Rattle.ocr_program_grammar.specs.Grammar.{level, unary_level, lexeme_of_operator, lexeme_of_sign, IsExpression, AreArguments, Follows, AreMembers, IsStatement, AreStatements, IsProgram}
+use Rattle.ocr_program_grammar.specs.Grammar.{level, lexeme_of_sign, IsExpression, AreArguments, Follows, AreMembers, IsStatement, AreStatements, IsProgram}
+use Rattle.ocr_program_grammar.specs.declared.levels.TheConstants.{UNARY_LEVEL}
 use Rattle.ocr_program_canonical.specs.Canonical.{level_of}
 use Rattle.ocr_program_canonical.proofs.Lexemes.{is_lower, bracket_size, size, size_at, arguments_size, further_size}
 use Rattle.ocr_program_canonical.proofs.Keeps.{Keeps, keeps_now, inside, outer, inside_low, outer_low}
@@ -129,7 +130,7 @@ further_most _ speakable.none = omega arith
 further_most _ (speakable.member e es s r) = omega arith
 
 mutual
-  expression : (l : ℕ) (ts rest : List Lexeme) (e : Expression) → IsExpression l ts rest e → l ≤ unary_level → (n d : ℕ) → Keeps (inside n d) ts → AreGood ts → ReadExpression n d l rest e
+  expression : (l : ℕ) (ts rest : List Lexeme) (e : Expression) → IsExpression l ts rest e → l ≤ UNARY_LEVEL → (n d : ℕ) → Keeps (inside n d) ts → AreGood ts → ReadExpression n d l rest e
   expression _ _ _ _ (grammar.number l i rest) low n d k g = atom n d l rest _ low refl (speakable.number i g.0) k.1 g.1
   expression _ _ _ _ (grammar.constant l c rest) low n d k g = atom n d l rest _ low refl (speakable.constant c) k.1 g.1
   expression _ _ _ _ (grammar.variable l x rest) low n d k g = atom n d l rest _ low refl (speakable.variable x g.0) k.1 g.1
@@ -153,14 +154,14 @@ mutual
         read = more 1 n d rest (size e + 2) _ (omega (arith, bare (tree.Depv e) l low)) (more 1 (n + 1) d rest (size e + 1) (size e + 2) (omega arith) inner);
       }
   expression _ _ _ _ (grammar.signed l op ts rest e s) low n d k g =
-      let r = expression unary_level ts rest e s (omega arith) (n + 1) d (signed_keeps op n d ts k) g.1 in
+      let r = expression UNARY_LEVEL ts rest e s (omega arith) (n + 1) d (signed_keeps op n d ts k) g.1 in
       record {
         speakable = speakable.signed op e r.speakable;
-        read = more 1 n d rest (size_at unary_level e) _ (omega (arith, bare (tree.Unary op e) l low)) r.read;
+        read = more 1 n d rest (size_at UNARY_LEVEL e) _ (omega (arith, bare (tree.Unary op e) l low)) r.read;
       }
   expression _ _ _ _ (grammar.joined l op ts mid rest a b high s t) low n d k g =
       let most = level_most op in
-      let r = expression (level op) ts (lexeme_of_operator op ∷ mid) a s (omega arith) n d k g in
+      let r = expression (level op) ts (lexeme.Operator op ∷ mid) a s (omega arith) n d k g in
       let q = expression (level op + 1) mid rest b t (omega arith) (n + r.read.count + 1) d r.read.keeps.1 r.read.good.1 in
       record {
         speakable = speakable.joined op a b r.speakable q.speakable;

@@ -12,13 +12,13 @@ use Rattle.ocr_program_grammar.specs.declared.lexeme.Lexeme.TheVariants as lexem
 use Rattle.ocr_program_grammar.specs.Shape.{shape}
 use Rattle.ocr_program_grammar.specs.declared.argument_kind.ArgumentKind.{ArgumentKind}
 use Rattle.ocr_program_grammar.specs.declared.argument_kind.ArgumentKind.TheVariants as slot
-use Rattle.ocr_program_grammar.specs.Texts as texts
+use Rattle.ocr_program_grammar.specs.Lexing as lexing
 use Rattle.ocr_program_canonical.proofs.Lexemes.{size, arguments_size}
 
 -- letters that are no reserved name
 pub record IsName (x : List ℕ) : Type 0 where
   pub form : is_form kind.Name x ≡ true
-  pub free : texts.lexeme_of_name x ≡ lexeme.Name x
+  pub free : lexing.lexeme_of_name x ≡ lexeme.Name x
 
 mutual
   pub data IsSpeakable : Expression → Type 0 where

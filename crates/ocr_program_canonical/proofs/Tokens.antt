@@ -5,15 +5,16 @@ use Rattle.ocr_text.specs.declared.token.TokenKind.{TokenKind}
 use Rattle.ocr_text.specs.declared.token.TokenKind.TheVariants as kind
 use Rattle.ocr_text.specs.declared.token.Token.{Token}
 use Rattle.ocr_text.specs.Forms.{is_form}
-use Rattle.ocr_text.specs.Tokens.{IsLongest, IsInRange, Tile, text_of}
+use Rattle.ocr_text.specs.Tokens.{IsLongest, Tile, text_of}
+use Rattle.ocr_text.specs.Texts.{IsInRange}
 use Rattle.ocr_text.specs.Scan.{found}
 use Rattle.ocr_text.proofs.Laws.{found_longest}
 use Rattle.ocr_program_tree.specs.declared.tree.CallName.{CallName}
 use Rattle.ocr_program_tree.specs.declared.tree.Constant as of_constant
 use Rattle.ocr_program_grammar.specs.declared.lexeme.Lexeme.{Lexeme}
 use Rattle.ocr_program_grammar.specs.declared.lexeme.Word.{Word}
-use Rattle.ocr_program_grammar.specs.Texts as texts
-use Rattle.ocr_program_grammar.specs.Lexemes.{lexeme_as, lexeme_of, lexeme_onto, lexemes_of}
+use Rattle.ocr_program_grammar.specs.Lexing as lexing
+use Rattle.ocr_program_grammar.specs.Lexing.{lexeme_as, lexeme_of, lexeme_onto, lexemes_of}
 use Rattle.ocr_program_canonical.proofs.Lexed as lexed
 use Rattle.ocr_program_canonical.proofs.Lexed.{IsLexed, Gives}
 use Rattle.ocr_program_canonical.proofs.Read.{IsGood, AreGood}
@@ -81,30 +82,30 @@ abbrev AreGoodSymbols : List (List ℕ × Lexeme) → Type 0
 AreGoodSymbols [] = Unit {0}
 AreGoodSymbols (s ∷ rest) = IsGood s.1 × AreGoodSymbols rest
 
-found_good : (xs : List (List ℕ × Lexeme)) (text : List ℕ) → AreGoodSymbols xs → IsGoodOption (texts.found_in xs text)
+found_good : (xs : List (List ℕ × Lexeme)) (text : List ℕ) → AreGoodSymbols xs → IsGoodOption (lexing.found_in xs text)
 found_good [] text good = tt
-found_good (s ∷ rest) text good = pick (texts.same text s.0) s.1 (texts.found_in rest text) good.0 (found_good rest text good.1)
+found_good (s ∷ rest) text good = pick (lexing.same text s.0) s.1 (lexing.found_in rest text) good.0 (found_good rest text good.1)
 
-symbol_good : (piece : List ℕ) → IsGoodOption (texts.symbol piece)
+symbol_good : (piece : List ℕ) → IsGoodOption (lexing.symbol piece)
 symbol_good piece =
-    found_good texts.symbols piece
+    found_good lexing.symbols piece
     (tt, (tt, (tt, (tt, (tt, (tt, (tt, (tt, (tt, (tt, (tt, (tt, (tt, (tt, (tt, (tt, (tt, (tt, (tt, (tt, (tt, (tt, (tt, (tt, (tt, (tt, (tt, tt)))))))))))))))))))))))))))
 
 named_good : (w : Option Word) (c : Option CallName) (k : Option of_constant.Constant) (piece : List ℕ) → is_form kind.Name piece ≡ true
-    → texts.word_of piece ≡ w → texts.call_of piece ≡ c → texts.constant_of piece ≡ k → IsGood (texts.found_name w c k piece)
+    → lexing.word_of piece ≡ w → lexing.call_of piece ≡ c → lexing.constant_of piece ≡ k → IsGood (lexing.found_name w c k piece)
 named_good (Some w) c k piece form e1 e2 e3 = tt
 named_good None (Some c) k piece form e1 e2 e3 = tt
 named_good None None (Some k) piece form e1 e2 e3 = tt
 named_good None None None piece form e1 e2 e3 = record {
   form = form;
-  free = λ i. texts.found_name (e1 i) (e2 i) (e3 i) piece;
+  free = λ i. lexing.found_name (e1 i) (e2 i) (e3 i) piece;
 }
 
 piece_good : (k : TokenKind) (piece : List ℕ) → is_form k piece ≡ true → IsInRange k piece → IsGoodOption (lexeme_as k piece)
 piece_good kind.Blank piece form range = tt
 piece_good kind.Comment piece form range = tt
 piece_good kind.Number piece form range = range refl
-piece_good kind.Name piece form range = named_good (texts.word_of piece) (texts.call_of piece) (texts.constant_of piece) piece form refl refl refl
+piece_good kind.Name piece form range = named_good (lexing.word_of piece) (lexing.call_of piece) (lexing.constant_of piece) piece form refl refl refl
 piece_good kind.Symbol piece form range = symbol_good piece
 
 onto_good : (o : Option Lexeme) (ls : List Lexeme) → IsGoodOption o → AreGood ls → AreGood (lexeme_onto o ls)

@@ -17,10 +17,11 @@ use Rattle.ocr_program_grammar.specs.declared.lexeme.Lexeme.TheVariants as lexem
 use Rattle.ocr_program_grammar.specs.declared.lexeme.Word.TheVariants as reserved
 use Rattle.ocr_program_grammar.specs.declared.argument_kind.ArgumentKind.{ArgumentKind}
 use Rattle.ocr_program_grammar.specs.Shape.{shape}
-use Rattle.ocr_program_grammar.specs.Grammar.{level, unary_level, lexeme_of_operator, lexeme_of_sign}
+use Rattle.ocr_program_grammar.specs.Grammar.{level, lexeme_of_sign}
+use Rattle.ocr_program_grammar.specs.declared.levels.TheConstants.{UNARY_LEVEL}
 use Rattle.ocr_program_grammar.specs.Texts.{operator_text, sign_text, call_text, constant_text}
-use Rattle.ocr_program_canonical.specs.Canonical as text
-use Rattle.ocr_program_canonical.specs.Canonical.{expression_text, arguments_text, further_text, statement_text, statements_text, function_text, program_text, further_functions, deeper}
+use Rattle.ocr_program_canonical.specs.Canonical.{expression_text, arguments_text, further_text, statement_text, statements_text, function_text, program_text}
+use Rattle.ocr_program_canonical.specs.Written.{deeper, further_functions}
 use Rattle.ocr_program_canonical.proofs.Lexemes as canonical
 use Rattle.ocr_program_canonical.proofs.Lexemes.{is_lower}
 use Rattle.ocr_program_canonical.proofs.Lexed as lexed
@@ -37,7 +38,7 @@ unary_before unary.Not rest ls apart d = single 33 rest lexeme.Not ls refl apart
 unary_before unary.Invert rest ls apart d = plain 126 rest lexeme.Invert ls refl (λ b. refl) refl d
 unary_before unary.Minus rest ls apart d = plain 45 rest (lexeme.Operator binary.Sub) ls refl (λ b. refl) refl d
 
-operator_before : (op : BinaryOp) (rest : List ℕ) (ls : List Lexeme) → IsLexed rest ls → IsLexed (32 ∷ (operator_text op ++ 32 ∷ rest)) (lexeme_of_operator op ∷ ls)
+operator_before : (op : BinaryOp) (rest : List ℕ) (ls : List Lexeme) → IsLexed rest ls → IsLexed (32 ∷ (operator_text op ++ 32 ∷ rest)) (lexeme.Operator op ∷ ls)
 operator_before binary.Or rest ls d = space _ _ (single 124 (32 ∷ rest) _ ls refl refl refl (space rest ls d))
 operator_before binary.Xor rest ls d = space _ _ (single 94 (32 ∷ rest) _ ls refl refl refl (space rest ls d))
 operator_before binary.And rest ls d = space _ _ (single 38 (32 ∷ rest) _ ls refl refl refl (space rest ls d))
@@ -85,7 +86,10 @@ unary_apart unary.Not x rest = refl
 unary_apart unary.Invert x rest = refl
 unary_apart unary.Minus x rest = refl
 
-bracketed_apart : (b : Bool) (x : List ℕ) → ((rest : List ℕ) → second_of 33 (x ++ rest) ≡ 0) → (rest : List ℕ) → second_of 33 (text.bracketed b x ++ rest) ≡ 0
+abbrev in_brackets : Bool → List ℕ → List ℕ
+in_brackets b x = cond b (codes "(" ++ x ++ codes ")") x
+
+bracketed_apart : (b : Bool) (x : List ℕ) → ((rest : List ℕ) → second_of 33 (x ++ rest) ≡ 0) → (rest : List ℕ) → second_of 33 (in_brackets b x ++ rest) ≡ 0
 bracketed_apart true x all rest = refl
 bracketed_apart false x all rest = all rest
 
@@ -108,7 +112,7 @@ apart _ (speakable.invoked c args s) rest = simp append_assoc (name_apart (call_
 abbrev IsWritten : List ℕ → (List Lexeme → List Lexeme) → Type 0
 IsWritten x front = (rest : List ℕ) (ls : List Lexeme) → Stops rest → IsLexed rest ls → IsLexed (x ++ rest) (front ls)
 
-bracketed : (b : Bool) (x : List ℕ) (front : List Lexeme → List Lexeme) → IsWritten x front → IsWritten (text.bracketed b x) (canonical.bracketed b front)
+bracketed : (b : Bool) (x : List ℕ) (front : List Lexeme → List Lexeme) → IsWritten x front → IsWritten (in_brackets b x) (canonical.bracketed b front)
 bracketed true x front all rest ls stops d = simp append_assoc (open_round _ _ (all (41 ∷ rest) _ refl (close_round rest ls d)))
 bracketed false x front all rest ls stops d = all rest ls stops d
 
@@ -142,7 +146,7 @@ mutual
   expression _ (speakable.depv e s) rest ls stops d =
       simp append_assoc (word (codes "depv") _ (lexeme.Word reserved.Depv) _ refl refl refl (open_square _ _ (expression e s (93 ∷ rest) _ refl (close_square rest ls d))))
   expression _ (speakable.signed op e s) rest ls stops d =
-      let b = is_lower e unary_level in
+      let b = is_lower e UNARY_LEVEL in
       simp append_assoc (unary_before op _ _ (bracketed_apart b (expression_text e) (apart e s) rest)
       (bracketed b (expression_text e) (canonical.expression e) (expression e s) rest ls stops d))
   expression _ (speakable.joined op a b s t) rest ls stops d =

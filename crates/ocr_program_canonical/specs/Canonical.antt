@@ -1,21 +1,17 @@
 -- The canonical text of a task program: its one spelling with the fewest brackets, in lines.
-use Rattle.std.specs.Prelude.{ℕ, ◌+◌, List, [], ◌∷◌, ◌++◌, Bool, true, false, nat_lt, codes, decimal}
+use Rattle.std.specs.Prelude.{ℕ, ◌+◌, List, [], ◌∷◌, ◌++◌, if◌then◌else◌, nat_lt, codes, decimal, flat_map}
 use Rattle.ocr_program_tree.specs.Tree.{Expression, Number, Named, Var, Paramc, Depc, LastCode, Paramv, Depv, Unary, Binary, Invoked, Arguments, empty, value, list, named, Statement, Let, Assign, If, While, Print, Return, Do, Statements, nothing, statement, FunctionTree}
-use Rattle.ocr_program_grammar.specs.Grammar.{level, unary_level}
-use Rattle.ocr_program_grammar.specs.Texts.{operator_text, sign_text, constant_text, call_text}
+use Rattle.ocr_program_grammar.specs.declared.levels.TheConstants.{UNARY_LEVEL}
+use Rattle.ocr_program_grammar.specs.Texts.{level, operator_text, sign_text, constant_text, call_text}
 
 -- the level of the operator of an expression, above all levels where none joins it
 abbrev pub level_of : Expression → ℕ
 level_of (Binary op a b) = level op
-level_of other = unary_level
-
-abbrev pub bracketed : Bool → List ℕ → List ℕ
-bracketed true text = codes "(" ++ text ++ codes ")"
-bracketed false text = text
+level_of other = UNARY_LEVEL
 
 -- an operand, in brackets exactly where its level is below the least that may stand here without
 abbrev pub operand_text : ℕ → ℕ → List ℕ → List ℕ
-operand_text least own text = bracketed (nat_lt own least) text
+operand_text least own text = if nat_lt own least then codes "(" ++ text ++ codes ")" else text
 
 abbrev mutual
   pub expression_text : Expression → List ℕ
@@ -28,10 +24,9 @@ abbrev mutual
   expression_text (Paramv e) = codes "paramv[" ++ expression_text e ++ codes "]"
   expression_text (Depv e) = codes "depv[" ++ expression_text e ++ codes "]"
   expression_text (Unary op e) =
-      sign_text op ++ operand_text unary_level (level_of e) (expression_text e)
-  expression_text (Binary op a b) =
-      operand_text (level op) (level_of a) (expression_text a) ++ codes " " ++ operator_text op
-      ++ codes " "
+      sign_text op ++ operand_text UNARY_LEVEL (level_of e) (expression_text e)
+  expression_text (Binary op a b) = operand_text (level op) (level_of a) (expression_text a)
+      ++ codes " " ++ operator_text op ++ codes " "
       ++ operand_text (level op + 1) (level_of b) (expression_text b)
   expression_text (Invoked call arguments) =
       call_text call ++ codes "(" ++ arguments_text arguments ++ codes ")"
@@ -54,10 +49,6 @@ abbrev mutual
 abbrev pub line : List ℕ → List ℕ → List ℕ
 line margin text = margin ++ text ++ codes "\n"
 
--- two spaces deeper
-abbrev pub deeper : List ℕ → List ℕ
-deeper margin = margin ++ codes "  "
-
 abbrev mutual
   pub statement_text : List ℕ → Statement → List ℕ
   statement_text margin (Let x e) =
@@ -70,18 +61,14 @@ abbrev mutual
       line margin (expression_text (Invoked call arguments) ++ codes ";")
   statement_text margin (While e body) =
       line margin (codes "while " ++ expression_text e ++ codes " {")
-      ++ statements_text (deeper margin) body
-      ++ line margin (codes "}")
+      ++ statements_text (margin ++ codes "  ") body ++ line margin (codes "}")
   statement_text margin (If e first nothing) =
       line margin (codes "if " ++ expression_text e ++ codes " {")
-      ++ statements_text (deeper margin) first
-      ++ line margin (codes "}")
+      ++ statements_text (margin ++ codes "  ") first ++ line margin (codes "}")
   statement_text margin (If e first (statement s rest)) =
       line margin (codes "if " ++ expression_text e ++ codes " {")
-      ++ statements_text (deeper margin) first
-      ++ line margin (codes "} else {")
-      ++ statements_text (deeper margin) (statement s rest)
-      ++ line margin (codes "}")
+      ++ statements_text (margin ++ codes "  ") first ++ line margin (codes "} else {")
+      ++ statements_text (margin ++ codes "  ") (statement s rest) ++ line margin (codes "}")
 
   pub statements_text : List ℕ → Statements → List ℕ
   statements_text margin nothing = []
@@ -92,11 +79,6 @@ function_text f = line [] (codes "fn " ++ f.name ++ codes " {")
     ++ statements_text (codes "  ") f.body ++ line [] (codes "}")
 
 -- an empty line stands between two functions
-abbrev mutual
-  pub program_text : List FunctionTree → List ℕ
-  program_text [] = []
-  program_text (f ∷ rest) = function_text f ++ further_functions rest
-
-  pub further_functions : List FunctionTree → List ℕ
-  further_functions [] = []
-  further_functions (f ∷ rest) = codes "\n" ++ function_text f ++ further_functions rest
+abbrev pub program_text : List FunctionTree → List ℕ
+program_text [] = []
+program_text (f ∷ rest) = function_text f ++ flat_map (λ g. codes "\n" ++ function_text g) rest

@@ -1,7 +1,8 @@
--- Arguments from a place on, counted from 0.
-use Rattle.std.specs.Prelude.{ℕ, zero, suc, List, [], codes}
-use Rattle.ocr_program_tree.specs.Tree.{Arguments}
-use Rattle.ocr_program_canonical.specs.Canonical.{arguments_text, further_text}
+-- Arguments from a place on, counted from 0, the margin of a block, and the functions after the
+-- first.
+use Rattle.std.specs.Prelude.{ℕ, zero, suc, List, [], ◌++◌, codes, flat_map}
+use Rattle.ocr_program_tree.specs.Tree.{Arguments, FunctionTree}
+use Rattle.ocr_program_canonical.specs.Canonical.{arguments_text, further_text, function_text}
 
 -- what stands before the argument at a place
 abbrev pub comma_at : ℕ → List ℕ
@@ -17,3 +18,11 @@ sign_at (suc n) = codes "&"
 abbrev pub from_place : ℕ → Arguments → List ℕ
 from_place zero xs = arguments_text xs
 from_place (suc n) xs = further_text xs
+
+-- two spaces deeper
+abbrev pub deeper : List ℕ → List ℕ
+deeper margin = margin ++ codes "  "
+
+-- functions after others
+abbrev pub further_functions : List FunctionTree → List ℕ
+further_functions rest = flat_map (λ g. codes "\n" ++ function_text g) rest

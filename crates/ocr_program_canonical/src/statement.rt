@@ -3,6 +3,7 @@ ghost use Rattle.std.specs.Prelude.{◌≡◌, ◌++◌, OnOk, IfOk, codes};
 ghost use Rattle.ocr_program_tree.specs.View.{expression_of, statement_of, statements_of, function_of, tree_of};
 ghost use Rattle.ocr_program_grammar.specs.Texts as texts;
 ghost use Rattle.ocr_program_canonical.specs.Canonical as canonical;
+ghost use Rattle.ocr_program_canonical.specs.Written as writing;
 ghost use Rattle.ocr_program_canonical.specs.Canonical.{expression_text, statement_text, statements_text, function_text, program_text};
 
 use crate::expression::{expression, invoke, write};
@@ -13,7 +14,7 @@ use std::alloc::Global;
 
 // The spaces two deeper.
 fn deeper(alloc: Global, margin: &[u8]) -> Result<Vec<u8>, NoMemory>
-    ensures { IfOk result (λ inner. inner.items ≡ canonical.deeper margin.now) }
+    ensures { IfOk result (λ inner. inner.items ≡ writing.deeper margin.now) }
 {
     let mut inner = Vec::from_slice(alloc, margin)?;
     inner.extend_from_slice(b"  ")?;
@@ -120,7 +121,7 @@ fn statement(alloc: Global, text: &mut Vec<u8>, margin: &[u8], stmt: &Stmt) -> R
 fn block(alloc: Global, text: &mut Vec<u8>, margin: &[u8], stmts: &[Stmt]) -> Result<(), NoMemory>
     ensures { OnOk result (text.new.items
         ≡ text.old.items
-        ++ statements_text (canonical.deeper margin.now) (statements_of stmts.now)) }
+        ++ statements_text (writing.deeper margin.now) (statements_of stmts.now)) }
 {
     let inner = deeper(alloc, margin)?;
     for stmt in stmts {

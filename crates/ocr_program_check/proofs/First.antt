@@ -3,7 +3,8 @@ use Rattle.std.proofs.Common.{◌≡◌, ℕ, ◌+◌, List, [], ◌∷◌, ◌+
 use Rattle.std.specs.Option.{option_or, is_some}
 use Rattle.std.proofs.lemmas.List.{append_assoc, append-nil, reverse-append}
 use Rattle.ocr_program_tree.specs.Tree.{FunctionTree}
-use Rattle.ocr_program_check.specs.Check.{Mention, IsFirst, FailsNowhere, BreaksRule, BreaksSome, Breaks, rule_broken, HasNamesake, same_name, no_main, in_body, BreachLaw, names_of, mentions_of}
+use Rattle.ocr_program_check.specs.Check.{Mention, IsFirst, FailsNowhere, Breaks, rule_broken, HasNamesake, same_name, no_main, in_body, BreachLaw, names_of}
+use Rattle.ocr_program_check.specs.Checked.{BreaksRule, BreaksSome, mentions_of}
 use Rattle.ocr_program_check.proofs.Mentions.{first_broken}
 
 -- two ways to take a list apart at an item: at the same place, or one place is before the other
@@ -61,19 +62,19 @@ broken_is_one names f r s a b =
     some_injective r s (sym a.broken ∙ (λ i. rule_broken names (reverse (both.0 i)) (both.1 i)) ∙ b.broken)
 
 pub breach_is_one : BreachLaw
-breach_is_one program r n s m (same_name xs x f p q) (same_name ys y g u v) =
-    let both = first_is_one HasNamesake program xs ys x y f g in (p ∙ sym u, q ∙ ap (λ (zs : List FunctionTree). length zs + 1) both.0 ∙ sym v)
-breach_is_one program r n s m (same_name xs x f p q) (no_main d g u v) = absurd (first_fails HasNamesake program xs x f d)
-breach_is_one program r n s m (same_name xs x f p q) (in_body ys y d g h b v) = absurd (first_fails HasNamesake program xs x f d)
-breach_is_one program r n s m (no_main d g u v) (same_name xs x f p q) = absurd (first_fails HasNamesake program xs x f d)
-breach_is_one program r n s m (no_main d g u v) (no_main c h p q) = (u ∙ sym p, v ∙ sym q)
-breach_is_one program r n s m (no_main d g u v) (in_body ys y c h k b w) = absurd (cc)
-breach_is_one program r n s m (in_body ys y d g h b v) (same_name xs x f p q) = absurd (first_fails HasNamesake program xs x f d)
-breach_is_one program r n s m (in_body ys y c h k b w) (no_main d g u v) = absurd (cc)
-breach_is_one program r n s m (in_body xs x d g h b v) (in_body ys y c k l e w) =
+breach_is_one program _ _ _ _ (same_name xs x f) (same_name ys y g) =
+    let both = first_is_one HasNamesake program xs ys x y f g in (refl, ap (λ (zs : List FunctionTree). length zs + 1) both.0)
+breach_is_one program _ _ _ _ (same_name xs x f) (no_main d g) = absurd (first_fails HasNamesake program xs x f d)
+breach_is_one program _ _ _ _ (same_name xs x f) (in_body ys y s d g h b) = absurd (first_fails HasNamesake program xs x f d)
+breach_is_one program _ _ _ _ (no_main d g) (same_name xs x f) = absurd (first_fails HasNamesake program xs x f d)
+breach_is_one program _ _ _ _ (no_main d g) (no_main c h) = (refl, refl)
+breach_is_one program _ _ _ _ (no_main d g) (in_body ys y s c h k b) = absurd (cc)
+breach_is_one program _ _ _ _ (in_body ys y r d g h b) (same_name xs x f) = absurd (first_fails HasNamesake program xs x f d)
+breach_is_one program _ _ _ _ (in_body ys y r c h k b) (no_main d g) = absurd (cc)
+breach_is_one program _ _ _ _ (in_body xs x r d g h b) (in_body ys y s c k l e) =
     let both = first_is_one (BreaksSome (names_of program)) program xs ys x y h l in (
       broken_is_one (names_of program) x r s b (subst (λ (z : FunctionTree). Breaks (names_of program) z s) (sym both.1) e),
-      v ∙ ap (λ (zs : List FunctionTree). length zs + 1) both.0 ∙ sym w,
+      ap (λ (zs : List FunctionTree). length zs + 1) both.0,
     )
 
 -- ---- the first mention that breaks a rule

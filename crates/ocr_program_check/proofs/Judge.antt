@@ -7,9 +7,10 @@ use Rattle.std.specs.Option.{option_or}
 use Rattle.std.specs.Str.{bytes_eq}
 use Rattle.ocr_program_tree.specs.Tree.{Expression, Statement, Statements, FunctionTree}
 use Rattle.ocr_program_tree.specs.Tree as tree
-use Rattle.ocr_program_check.specs.Check.{Mention, rule_broken, is_among, is_declared, let_names, most_lets, mentions_of, mentions_of_expression, mentions_of_statement, mentions_of_statements}
+use Rattle.ocr_program_check.specs.Check.{Mention, rule_broken, is_among, is_declared, let_names, mentions_of_expression, mentions_of_statement, mentions_of_statements}
+use Rattle.ocr_program_check.specs.declared.names.TheConstants.{MOST_LETS}
 use Rattle.ocr_program_check.specs.Check as check
-use Rattle.ocr_program_check.specs.Checked.{mention_rule, expression_rule, value_rule, let_rule, with_name, Declarations, Outcome, Passed, Broken, told, and_then, leaving, statement_outcome, statements_outcome, rule_of, function_rule, no_declarations}
+use Rattle.ocr_program_check.specs.Checked.{mention_rule, expression_rule, value_rule, let_rule, with_name, Declarations, Outcome, Passed, Broken, told, and_then, leaving, statement_outcome, statements_outcome, rule_of, function_rule, no_declarations, mentions_of}
 use Rattle.ocr_program_check.proofs.Parts.{or_of_none, or_first}
 use Rattle.ocr_program_check.proofs.Mentions.{onto, onto-append, first_broken, first_broken-append, option_or-None, IsQuiet, quiet-used, quiet-expression, IsInner, inner-statements, block, block-declared, known_of, expression_agrees}
 
@@ -73,7 +74,7 @@ value_agrees names past k e t =
     expression_agrees names past e ∙ (λ i. expression_rule (known_of names) (λ x. sym (t.declared x) i) e)
 
 let_agrees : (names : List (List ℕ)) (past : List Mention) (k : Declarations) (x : List ℕ) → Tracks k past → rule_broken names past (check.LetBegins x) ≡ let_rule k x
-let_agrees names past k x t = λ i. cond (sym (t.lets x) i) (Some 3) (cond (nat_lt (sym t.count i) most_lets) None (Some 7))
+let_agrees names past k x t = λ i. cond (sym (t.lets x) i) (Some 3) (cond (nat_lt (sym t.count i) MOST_LETS) None (Some 7))
 
 -- after a `let` its name is let and declared
 among-push : (x y : List ℕ) (ys : List (List ℕ)) (b : Bool) → is_among y ys ≡ b → is_among y (ys ++ (x ∷ [])) ≡ (bytes_eq x y || b)

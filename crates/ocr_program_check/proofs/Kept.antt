@@ -9,11 +9,10 @@ use Rattle.ocr_program_tree.specs.Rules.{has_function, is_function_named, are_fu
 use Rattle.ocr_program_tree.specs.Functions.{number_named}
 use Rattle.ocr_program_tree.specs.declared.tree.CallName.TheVariants as name
 use Rattle.ocr_program_tree.specs.declared.tree.CallName.{CallName}
-use Rattle.ocr_program_check.specs.Check.{FailsNowhere, BreaksSome}
+use Rattle.ocr_program_check.specs.Check.{FailsNowhere}
 use Rattle.ocr_program_check.specs.Check as check
-use Rattle.ocr_program_check.specs.Checked.{Declarations, Outcome, Passed, Broken, told, and_then, leaving, let_rule, value_rule, with_name, mention_rule, expression_rule, arguments_rule, statement_outcome, statements_outcome, rule_of, function_rule, no_declarations}
-use Rattle.ocr_program_check.specs.declared.names.ListKind.{ListKind}
-use Rattle.ocr_program_check.specs.declared.names.ListKind.TheVariants.{Parameters, Dependences}
+use Rattle.ocr_program_check.specs.Checked.{Declarations, Outcome, Passed, Broken, told, and_then, leaving, let_rule, value_rule, with_name, mention_rule, expression_rule, arguments_rule, statement_outcome, statements_outcome, rule_of, function_rule, no_declarations, BreaksSome}
+use Rattle.ocr_program_tree.specs.declared.rules.TheConstants.{MOST_PARAMETERS, MOST_DEPENDENCES}
 use Rattle.ocr_program_check.proofs.Mentions.{known_of}
 use Rattle.ocr_program_check.proofs.Programs.{function_stops}
 
@@ -33,7 +32,7 @@ held false rule e = absurd (cc)
 -- each call with a function's name that breaks no rule is so
 abbrev pub IsKept : (known : List ℕ → Bool) → (CallName → Arguments → Bool) → Type 0
 IsKept known p = (declared : List ℕ → Bool) (call : CallName) (xs : Arguments) → has_function call xs ≡ true
-    → arguments_rule known declared call Parameters xs ≡ None → p call xs ≡ true
+    → arguments_rule known declared call MOST_PARAMETERS xs ≡ None → p call xs ≡ true
 
 mutual
   expression_keeps : (known : List ℕ → Bool) (p : CallName → Arguments → Bool) (kept : IsKept known p) (declared : List ℕ → Bool) (e : Expression)
@@ -53,26 +52,26 @@ mutual
       (expression_keeps known p kept declared b (and_parts (is_each_call has_function a) _ has).1 (right_none (expression_rule known declared a) (expression_rule known declared b) h))
   expression_keeps known p kept declared (tree.Invoked call xs) has h =
       and_from (p call xs) (is_each_call_of_all p xs) (kept declared call xs (and_parts _ (is_each_call_of_all has_function xs) has).0 h)
-      (arguments_keep known p kept declared call Parameters xs (and_parts (has_function call xs) _ has).1 h)
+      (arguments_keep known p kept declared call MOST_PARAMETERS xs (and_parts (has_function call xs) _ has).1 h)
 
-  arguments_keep : (known : List ℕ → Bool) (p : CallName → Arguments → Bool) (kept : IsKept known p) (declared : List ℕ → Bool) (call : CallName) (kind : ListKind) (xs : Arguments)
-      → is_each_call_of_all has_function xs ≡ true → arguments_rule known declared call kind xs ≡ None → is_each_call_of_all p xs ≡ true
-  arguments_keep known p kept declared call kind tree.empty has h = refl
-  arguments_keep known p kept declared call kind (tree.value e rest) has h =
+  arguments_keep : (known : List ℕ → Bool) (p : CallName → Arguments → Bool) (kept : IsKept known p) (declared : List ℕ → Bool) (call : CallName) (most : ℕ) (xs : Arguments)
+      → is_each_call_of_all has_function xs ≡ true → arguments_rule known declared call most xs ≡ None → is_each_call_of_all p xs ≡ true
+  arguments_keep known p kept declared call most tree.empty has h = refl
+  arguments_keep known p kept declared call most (tree.value e rest) has h =
       and_from (is_each_call p e) (is_each_call_of_all p rest)
-      (expression_keeps known p kept declared e (and_parts _ (is_each_call_of_all has_function rest) has).0 (left_none (expression_rule known declared e) (arguments_rule known declared call kind rest) h))
-      (arguments_keep known p kept declared call kind rest (and_parts (is_each_call has_function e) _ has).1 (right_none (expression_rule known declared e) (arguments_rule known declared call kind rest) h))
-  arguments_keep known p kept declared call kind (tree.list es rest) has h =
-      let members : Option ℕ = arguments_rule known declared call kind es in
-      let closed : Option ℕ = mention_rule known declared (check.ListClosed kind (check.count_of es)) in
-      let others : Option ℕ = arguments_rule known declared call Dependences rest in
+      (expression_keeps known p kept declared e (and_parts _ (is_each_call_of_all has_function rest) has).0 (left_none (expression_rule known declared e) (arguments_rule known declared call most rest) h))
+      (arguments_keep known p kept declared call most rest (and_parts (is_each_call has_function e) _ has).1 (right_none (expression_rule known declared e) (arguments_rule known declared call most rest) h))
+  arguments_keep known p kept declared call most (tree.list es rest) has h =
+      let members : Option ℕ = arguments_rule known declared call most es in
+      let closed : Option ℕ = mention_rule known declared (check.ListClosed most (check.count_of es)) in
+      let others : Option ℕ = arguments_rule known declared call MOST_DEPENDENCES rest in
       and_from (is_each_call_of_all p es) (is_each_call_of_all p rest)
-      (arguments_keep known p kept declared call kind es (and_parts _ (is_each_call_of_all has_function rest) has).0 (left_none members (option_or closed others) h))
-      (arguments_keep known p kept declared call Dependences rest (and_parts (is_each_call_of_all has_function es) _ has).1
+      (arguments_keep known p kept declared call most es (and_parts _ (is_each_call_of_all has_function rest) has).0 (left_none members (option_or closed others) h))
+      (arguments_keep known p kept declared call MOST_DEPENDENCES rest (and_parts (is_each_call_of_all has_function es) _ has).1
       (right_none closed others (right_none members (option_or closed others) h)))
-  arguments_keep known p kept declared call kind (tree.named x rest) has h =
-      arguments_keep known p kept declared call kind rest has
-      (right_none (mention_rule known declared (check.mention_of_name call x)) (arguments_rule known declared call kind rest) h)
+  arguments_keep known p kept declared call most (tree.named x rest) has h =
+      arguments_keep known p kept declared call most rest has
+      (right_none (mention_rule known declared (check.mention_of_name call x)) (arguments_rule known declared call most rest) h)
 
 -- a part that passes tells no rule
 told_passes : (k m : Declarations) (o : Option ℕ) → told k o ≡ Passed m → o ≡ None
@@ -168,45 +167,45 @@ named_within name (f ∷ rest) among =
     here (bytes_eq f.name name) (check.is_among name (check.names_of rest)) (number_named name rest) (length rest) among (named_within name rest)
 
 -- the first name among the arguments of ocrEdtTemplateCreate is a function's
-first_known : (known declared : List ℕ → Bool) (kind : ListKind) (xs : Arguments) → nat_lt 0 (length (names_in xs)) ≡ true
-    → arguments_rule known declared name.TemplateCreate kind xs ≡ None → known (slice_index_or (names_in xs) 0 []) ≡ true
-first_known known declared kind tree.empty has h = absurd (cc)
-first_known known declared kind (tree.value e rest) has h =
-    first_known known declared kind rest has (right_none (expression_rule known declared e) (arguments_rule known declared name.TemplateCreate kind rest) h)
-first_known known declared kind (tree.list es rest) has h =
-    let closed : Option ℕ = mention_rule known declared (check.ListClosed kind (check.count_of es)) in
-    let others : Option ℕ = arguments_rule known declared name.TemplateCreate Dependences rest in
-    first_known known declared Dependences rest has (right_none closed others (right_none (arguments_rule known declared name.TemplateCreate kind es) (option_or closed others) h))
-first_known known declared kind (tree.named f rest) has h =
-    held (known f) 5 (left_none (mention_rule known declared (check.FunctionNamed f)) (arguments_rule known declared name.TemplateCreate kind rest) h)
+first_known : (known declared : List ℕ → Bool) (most : ℕ) (xs : Arguments) → nat_lt 0 (length (names_in xs)) ≡ true
+    → arguments_rule known declared name.TemplateCreate most xs ≡ None → known (slice_index_or (names_in xs) 0 []) ≡ true
+first_known known declared most tree.empty has h = absurd (cc)
+first_known known declared most (tree.value e rest) has h =
+    first_known known declared most rest has (right_none (expression_rule known declared e) (arguments_rule known declared name.TemplateCreate most rest) h)
+first_known known declared most (tree.list es rest) has h =
+    let closed : Option ℕ = mention_rule known declared (check.ListClosed most (check.count_of es)) in
+    let others : Option ℕ = arguments_rule known declared name.TemplateCreate MOST_DEPENDENCES rest in
+    first_known known declared MOST_DEPENDENCES rest has (right_none closed others (right_none (arguments_rule known declared name.TemplateCreate most es) (option_or closed others) h))
+first_known known declared most (tree.named f rest) has h =
+    held (known f) 5 (left_none (mention_rule known declared (check.FunctionNamed f)) (arguments_rule known declared name.TemplateCreate most rest) h)
 
 named_kept : (program : List FunctionTree) → IsKept (known_of (check.names_of program)) (is_function_named program)
 named_kept program declared name.TemplateCreate xs has arguments =
     let first : List ℕ = slice_index_or (names_in xs) 0 [] in
     le-leb (number_named first program) (length program)
-    (named_within first program (first_known (known_of (check.names_of program)) declared Parameters xs has arguments))
+    (named_within first program (first_known (known_of (check.names_of program)) declared MOST_PARAMETERS xs has arguments))
 named_kept program declared other xs has arguments = refl
 
 pub keeps_named : (fs : List FunctionTree) → is_each_call_of has_function fs ≡ true → FailsNowhere (BreaksSome (check.names_of fs)) fs → are_functions_named fs ≡ true
 keeps_named fs has none = keeps_each (check.names_of fs) (is_function_named fs) (named_kept fs) fs has none
 
 -- SHORT
-short_arguments : (known declared : List ℕ → Bool) (call : CallName) (kind : ListKind) (xs : Arguments) → arguments_rule known declared call kind xs ≡ None → are_short (check.most_members kind) xs ≡ true
-short_arguments known declared call kind tree.empty h = refl
-short_arguments known declared call kind (tree.value e rest) h =
-    short_arguments known declared call kind rest (right_none (expression_rule known declared e) (arguments_rule known declared call kind rest) h)
-short_arguments known declared call kind (tree.list es rest) h =
-    let members : Option ℕ = arguments_rule known declared call kind es in
-    let closed : Option ℕ = mention_rule known declared (check.ListClosed kind (check.count_of es)) in
-    let others : Option ℕ = arguments_rule known declared call Dependences rest in
-    and_from (nat_le (check.count_of es) (check.most_members kind)) (are_short 32 rest)
-    (held (nat_le (check.count_of es) (check.most_members kind)) 6 (left_none closed others (right_none members (option_or closed others) h)))
-    (short_arguments known declared call Dependences rest (right_none closed others (right_none members (option_or closed others) h)))
-short_arguments known declared call kind (tree.named x rest) h =
-    short_arguments known declared call kind rest (right_none (mention_rule known declared (check.mention_of_name call x)) (arguments_rule known declared call kind rest) h)
+short_arguments : (known declared : List ℕ → Bool) (call : CallName) (most : ℕ) (xs : Arguments) → arguments_rule known declared call most xs ≡ None → are_short most xs ≡ true
+short_arguments known declared call most tree.empty h = refl
+short_arguments known declared call most (tree.value e rest) h =
+    short_arguments known declared call most rest (right_none (expression_rule known declared e) (arguments_rule known declared call most rest) h)
+short_arguments known declared call most (tree.list es rest) h =
+    let members : Option ℕ = arguments_rule known declared call most es in
+    let closed : Option ℕ = mention_rule known declared (check.ListClosed most (check.count_of es)) in
+    let others : Option ℕ = arguments_rule known declared call MOST_DEPENDENCES rest in
+    and_from (nat_le (check.count_of es) most) (are_short 32 rest)
+    (held (nat_le (check.count_of es) most) 6 (left_none closed others (right_none members (option_or closed others) h)))
+    (short_arguments known declared call MOST_DEPENDENCES rest (right_none closed others (right_none members (option_or closed others) h)))
+short_arguments known declared call most (tree.named x rest) h =
+    short_arguments known declared call most rest (right_none (mention_rule known declared (check.mention_of_name call x)) (arguments_rule known declared call most rest) h)
 
 short_kept : (known : List ℕ → Bool) → IsKept known is_list_short
-short_kept known declared call xs has arguments = short_arguments known declared call Parameters xs arguments
+short_kept known declared call xs has arguments = short_arguments known declared call MOST_PARAMETERS xs arguments
 
 pub keeps_short : (names : List (List ℕ)) (fs : List FunctionTree) → is_each_call_of has_function fs ≡ true → FailsNowhere (BreaksSome names) fs → are_lists_short fs ≡ true
 keeps_short names fs has none = keeps_each names is_list_short (short_kept (known_of names)) fs has none

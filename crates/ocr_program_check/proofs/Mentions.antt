@@ -8,8 +8,7 @@ use Rattle.ocr_program_check.specs.Check as check
 use Rattle.ocr_program_check.specs.Checked.{mention_rule, expression_rule, arguments_rule}
 use Rattle.ocr_program_tree.specs.declared.tree.CallName.{CallName}
 use Rattle.ocr_program_tree.specs.declared.tree.CallName.TheVariants as name
-use Rattle.ocr_program_check.specs.declared.names.ListKind.{ListKind}
-use Rattle.ocr_program_check.specs.declared.names.ListKind.TheVariants.{Parameters, Dependences}
+use Rattle.ocr_program_tree.specs.declared.rules.TheConstants.{MOST_PARAMETERS, MOST_DEPENDENCES}
 
 -- the mentions after these, newest first
 abbrev pub onto : List Mention → List Mention → List Mention
@@ -60,8 +59,8 @@ quiet-used y es q = record { lets = λ past. q.lets (check.Used y ∷ past); dec
 quiet-function : (y : List ℕ) (es : List Mention) → IsQuiet es → IsQuiet (check.FunctionNamed y ∷ es)
 quiet-function y es q = record { lets = λ past. q.lets (check.FunctionNamed y ∷ past); declared = λ past n x. q.declared (check.FunctionNamed y ∷ past) n x }
 
-quiet-list : (kind : ListKind) (k : ℕ) (es : List Mention) → IsQuiet es → IsQuiet (check.ListClosed kind k ∷ es)
-quiet-list kind k es q = record { lets = λ past. q.lets (check.ListClosed kind k ∷ past); declared = λ past n x. q.declared (check.ListClosed kind k ∷ past) n x }
+quiet-list : (most : ℕ) (k : ℕ) (es : List Mention) → IsQuiet es → IsQuiet (check.ListClosed most k ∷ es)
+quiet-list most k es q = record { lets = λ past. q.lets (check.ListClosed most k ∷ past); declared = λ past n x. q.declared (check.ListClosed most k ∷ past) n x }
 
 quiet-mention_of_name : (call : CallName) (y : List ℕ) (es : List Mention) → IsQuiet es → IsQuiet (mention_of_name call y ∷ es)
 quiet-mention_of_name name.TemplateCreate y es q = quiet-function y es q
@@ -79,16 +78,16 @@ mutual
   quiet-expression (tree.Depv e) = quiet-expression e
   quiet-expression (tree.Unary op e) = quiet-expression e
   quiet-expression (tree.Binary op a b) = quiet-append (mentions_of_expression a) (mentions_of_expression b) (quiet-expression a) (quiet-expression b)
-  quiet-expression (tree.Invoked call xs) = quiet-arguments call Parameters xs
+  quiet-expression (tree.Invoked call xs) = quiet-arguments call MOST_PARAMETERS xs
 
-  pub quiet-arguments : (call : CallName) (kind : ListKind) (xs : Arguments) → IsQuiet (mentions_of_arguments call kind xs)
-  quiet-arguments call kind tree.empty = quiet-nil
-  quiet-arguments call kind (tree.value e rest) =
-      quiet-append (mentions_of_expression e) (mentions_of_arguments call kind rest) (quiet-expression e) (quiet-arguments call kind rest)
-  quiet-arguments call kind (tree.list members rest) =
-      quiet-append (mentions_of_arguments call kind members) (check.ListClosed kind (count_of members) ∷ mentions_of_arguments call Dependences rest) (quiet-arguments call kind members)
-      (quiet-list kind (count_of members) (mentions_of_arguments call Dependences rest) (quiet-arguments call Dependences rest))
-  quiet-arguments call kind (tree.named x rest) = quiet-mention_of_name call x (mentions_of_arguments call kind rest) (quiet-arguments call kind rest)
+  pub quiet-arguments : (call : CallName) (most : ℕ) (xs : Arguments) → IsQuiet (mentions_of_arguments call most xs)
+  quiet-arguments call most tree.empty = quiet-nil
+  quiet-arguments call most (tree.value e rest) =
+      quiet-append (mentions_of_expression e) (mentions_of_arguments call most rest) (quiet-expression e) (quiet-arguments call most rest)
+  quiet-arguments call most (tree.list members rest) =
+      quiet-append (mentions_of_arguments call most members) (check.ListClosed most (count_of members) ∷ mentions_of_arguments call MOST_DEPENDENCES rest) (quiet-arguments call most members)
+      (quiet-list most (count_of members) (mentions_of_arguments call MOST_DEPENDENCES rest) (quiet-arguments call MOST_DEPENDENCES rest))
+  quiet-arguments call most (tree.named x rest) = quiet-mention_of_name call x (mentions_of_arguments call most rest) (quiet-arguments call most rest)
 
 -- the functions and the variables that a mention of an expression may name
 abbrev pub known_of : List (List ℕ) → List ℕ → Bool
@@ -123,26 +122,26 @@ mutual
       ∙ (λ i. option_or (expression_agrees names past a i) (expression_agrees names (onto past (mentions_of_expression a)) b i))
       ∙ ap (λ (d : List ℕ → Bool). option_or (expression_rule (known_of names) (declared_of past) a) (expression_rule (known_of names) d b))
       (still past (mentions_of_expression a) (quiet-expression a))
-  expression_agrees names past (tree.Invoked call xs) = arguments_agree names past call Parameters xs
+  expression_agrees names past (tree.Invoked call xs) = arguments_agree names past call MOST_PARAMETERS xs
 
-  pub arguments_agree : (names : List (List ℕ)) (past : List Mention) (call : CallName) (kind : ListKind) (xs : Arguments)
-      → first_broken names past (mentions_of_arguments call kind xs) ≡ arguments_rule (known_of names) (declared_of past) call kind xs
-  arguments_agree names past call kind tree.empty = refl
-  arguments_agree names past call kind (tree.value e rest) =
-      first_broken-append names past (mentions_of_expression e) (mentions_of_arguments call kind rest)
-      ∙ (λ i. option_or (expression_agrees names past e i) (arguments_agree names (onto past (mentions_of_expression e)) call kind rest i))
-      ∙ ap (λ (d : List ℕ → Bool). option_or (expression_rule (known_of names) (declared_of past) e) (arguments_rule (known_of names) d call kind rest))
+  pub arguments_agree : (names : List (List ℕ)) (past : List Mention) (call : CallName) (most : ℕ) (xs : Arguments)
+      → first_broken names past (mentions_of_arguments call most xs) ≡ arguments_rule (known_of names) (declared_of past) call most xs
+  arguments_agree names past call most tree.empty = refl
+  arguments_agree names past call most (tree.value e rest) =
+      first_broken-append names past (mentions_of_expression e) (mentions_of_arguments call most rest)
+      ∙ (λ i. option_or (expression_agrees names past e i) (arguments_agree names (onto past (mentions_of_expression e)) call most rest i))
+      ∙ ap (λ (d : List ℕ → Bool). option_or (expression_rule (known_of names) (declared_of past) e) (arguments_rule (known_of names) d call most rest))
       (still past (mentions_of_expression e) (quiet-expression e))
-  arguments_agree names past call kind (tree.list members rest) =
-      let inner : List Mention = mentions_of_arguments call kind members in
-      let close : Mention = check.ListClosed kind (count_of members) in
-      first_broken-append names past inner (close ∷ mentions_of_arguments call Dependences rest)
-      ∙ (λ i. option_or (arguments_agree names past call kind members i) (option_or (rule_broken names past close) (arguments_agree names (close ∷ onto past inner) call Dependences rest i)))
-      ∙ ap (λ (d : List ℕ → Bool). option_or (arguments_rule (known_of names) (declared_of past) call kind members) (option_or (rule_broken names past close) (arguments_rule (known_of names) d call Dependences rest)))
-      (still past inner (quiet-arguments call kind members))
-  arguments_agree names past call kind (tree.named x rest) =
-      (λ i. option_or (name_mention_rule names past call x i) (arguments_agree names (mention_of_name call x ∷ past) call kind rest i))
-      ∙ ap (λ (d : List ℕ → Bool). option_or (mention_rule (known_of names) (declared_of past) (mention_of_name call x)) (arguments_rule (known_of names) d call kind rest))
+  arguments_agree names past call most (tree.list members rest) =
+      let inner : List Mention = mentions_of_arguments call most members in
+      let close : Mention = check.ListClosed most (count_of members) in
+      first_broken-append names past inner (close ∷ mentions_of_arguments call MOST_DEPENDENCES rest)
+      ∙ (λ i. option_or (arguments_agree names past call most members i) (option_or (rule_broken names past close) (arguments_agree names (close ∷ onto past inner) call MOST_DEPENDENCES rest i)))
+      ∙ ap (λ (d : List ℕ → Bool). option_or (arguments_rule (known_of names) (declared_of past) call most members) (option_or (rule_broken names past close) (arguments_rule (known_of names) d call MOST_DEPENDENCES rest)))
+      (still past inner (quiet-arguments call most members))
+  arguments_agree names past call most (tree.named x rest) =
+      (λ i. option_or (name_mention_rule names past call x i) (arguments_agree names (mention_of_name call x ∷ past) call most rest i))
+      ∙ ap (λ (d : List ℕ → Bool). option_or (mention_rule (known_of names) (declared_of past) (mention_of_name call x)) (arguments_rule (known_of names) d call most rest))
       (still past (mention_of_name call x ∷ []) (quiet-mention_of_name call x [] quiet-nil))
 
 -- the mentions of a block with these inside

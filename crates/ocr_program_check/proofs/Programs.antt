@@ -8,9 +8,9 @@ use Rattle.std.specs.Ordering.{nat_cmp}
 use Rattle.std.specs.Str.{bytes_eq}
 use Rattle.ocr_program_tree.specs.Tree.{FunctionTree}
 use Rattle.ocr_program_tree.specs.View.{function_of, functions_of, tree_of}
-use Rattle.ocr_program_check.specs.Check.{is_among, names_of, IsFirst, FailsNowhere, HasNamesake, Breaks, BreaksSome, BreaksNoRule, IsBreach, same_name, no_main, in_body}
+use Rattle.ocr_program_check.specs.Check.{is_among, names_of, IsFirst, FailsNowhere, HasNamesake, Breaks, BreaksNoRule, IsBreach, same_name, no_main, in_body}
 use Rattle.ocr_program_tree.specs.Functions.{main_name}
-use Rattle.ocr_program_check.specs.Checked.{function_rule}
+use Rattle.ocr_program_check.specs.Checked.{function_rule, BreaksSome}
 use Rattle.ocr_program_check.specs.Names.{knows, IsStopAt, IsStopOf}
 use Rattle.ocr_program_check.specs.declared.rules.CheckStop.{CheckStop}
 use Rattle.ocr_program_check.specs.declared.rules.CheckStop.TheVariants.{Fault, NoMemory}
@@ -76,17 +76,18 @@ function_stops known names same f r e =
 pub body_breach : (fs : List Function) (i : ℕ) (f : Function) (r n : ℕ) → i < length fs → f ≡ get_or fs i f → FailsNowhere HasNamesake (functions_of fs) → is_among main_name (names_of (functions_of fs)) ≡ true
     → FailsNowhere (BreaksSome (names_of (functions_of fs))) (functions_of (take i fs)) → Breaks (names_of (functions_of fs)) (function_of f) r → n ≡ i + 1 → IsBreach (functions_of fs) r n
 body_breach fs i f r n h e distinct main earlier b number =
-    in_body (functions_of (take i fs)) (function_of f) distinct main (first_at (BreaksSome (names_of (functions_of fs))) fs i f h e earlier (r, b)) b
-    (number ∙ ap (λ (k : ℕ). k + 1) (sym (length-front fs i h)))
+    subst (λ (k : ℕ). IsBreach (functions_of fs) r k) (sym (number ∙ ap (λ (k : ℕ). k + 1) (sym (length-front fs i h))))
+    (in_body (functions_of (take i fs)) (function_of f) r distinct main (first_at (BreaksSome (names_of (functions_of fs))) fs i f h e earlier (r, b)) b)
 
 pub name_breach : (fs : List Function) (i : ℕ) (f : Function) (n : ℕ) → i < length fs → f ≡ get_or fs i f → FailsNowhere HasNamesake (functions_of (take i fs)) → HasNamesake (functions_of (take i fs)) (function_of f) → n ≡ i + 1 → IsBreach (functions_of fs) 1 n
 name_breach fs i f n h e earlier same number =
-    same_name (functions_of (take i fs)) (function_of f) (first_at HasNamesake fs i f h e earlier same) refl (number ∙ ap (λ (k : ℕ). k + 1) (sym (length-front fs i h)))
+    subst (λ (k : ℕ). IsBreach (functions_of fs) 1 k) (sym (number ∙ ap (λ (k : ℕ). k + 1) (sym (length-front fs i h))))
+    (same_name (functions_of (take i fs)) (function_of f) (first_at HasNamesake fs i f h e earlier same))
 
 pub no_breach : (program : List FunctionTree) → FailsNowhere HasNamesake program → is_among main_name (names_of program) ≡ true → FailsNowhere (BreaksSome (names_of program)) program → BreaksNoRule program
-no_breach program distinct main keeps r n (same_name before f first p q) = first_fails HasNamesake program before f first distinct
-no_breach program distinct main keeps r n (no_main d missing p q) = absurd (cc)
-no_breach program distinct main keeps r n (in_body before f d m first b q) = first_fails (BreaksSome (names_of program)) program before f first keeps
+no_breach program distinct main keeps _ _ (same_name before f first) = first_fails HasNamesake program before f first distinct
+no_breach program distinct main keeps _ _ (no_main d missing) = absurd (cc)
+no_breach program distinct main keeps _ _ (in_body before f r d m first b) = first_fails (BreaksSome (names_of program)) program before f first keeps
 
 -- where the walk of a function stops
 pub walk_stops : (known : List ℕ → Bool) (fs : List Function) (i : ℕ) (f : Function) (stop : CheckStop) → i < length fs → f ≡ get_or fs i f

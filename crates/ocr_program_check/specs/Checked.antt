@@ -1,14 +1,14 @@
 -- What the walk over a tree finds at each place, with the names that it keeps: the way from the
 -- tree in memory to its breach.
-use Rattle.std.specs.Prelude.{ℕ, Bool, cond, nat_lt, nat_le, List, [], ◌∷◌, ◌++◌, length, Option, None, Some}
+use Rattle.std.specs.Prelude.{ℕ, Bool, cond, nat_lt, nat_le, List, [], ◌∷◌, ◌++◌, length, reverse, Option, None, Some, IsSome}
 use Rattle.std.specs.Option.{option_or}
 use Rattle.ocr_program_tree.specs.Tree.{Expression, Arguments, Statement, Statements, FunctionTree}
 use Rattle.ocr_program_tree.specs.Tree as tree
-use Rattle.ocr_program_check.specs.Check.{Mention, rule_broken, is_among, mention_of_name, most_members, most_lets, count_of}
+use Rattle.ocr_program_check.specs.Check.{Mention, Breaks, rule_broken, is_among, mention_of_name, count_of}
 use Rattle.ocr_program_check.specs.Check as check
+use Rattle.ocr_program_check.specs.declared.names.TheConstants.{MOST_LETS}
 use Rattle.ocr_program_tree.specs.declared.tree.CallName.{CallName}
-use Rattle.ocr_program_check.specs.declared.names.ListKind.{ListKind}
-use Rattle.ocr_program_check.specs.declared.names.ListKind.TheVariants.{Parameters, Dependences}
+use Rattle.ocr_program_tree.specs.declared.rules.TheConstants.{MOST_PARAMETERS, MOST_DEPENDENCES}
 
 -- the rule that a mention of an expression breaks, where `known` are the functions and `declared`
 -- the variables
@@ -17,8 +17,8 @@ mention_rule known declared (check.LetBegins x) = None
 mention_rule known declared (check.Declared x) = None
 mention_rule known declared (check.Used x) = cond (declared x) None (Some 4)
 mention_rule known declared (check.FunctionNamed f) = cond (known f) None (Some 5)
-mention_rule known declared (check.ListClosed kind n) =
-    cond (nat_le n (most_members kind)) None (Some 6)
+mention_rule known declared (check.ListClosed most n) =
+    cond (nat_le n most) None (Some 6)
 mention_rule known declared check.BlockOpened = None
 mention_rule known declared check.BlockClosed = None
 
@@ -36,19 +36,19 @@ abbrev mutual
   expression_rule known declared (tree.Binary op a b) =
       option_or (expression_rule known declared a) (expression_rule known declared b)
   expression_rule known declared (tree.Invoked call arguments) =
-      arguments_rule known declared call Parameters arguments
+      arguments_rule known declared call MOST_PARAMETERS arguments
 
-  pub arguments_rule : (known declared : List ℕ → Bool) → CallName → ListKind → Arguments → Option ℕ
-  arguments_rule known declared call kind tree.empty = None
-  arguments_rule known declared call kind (tree.value e rest) =
-      option_or (expression_rule known declared e) (arguments_rule known declared call kind rest)
-  arguments_rule known declared call kind (tree.list members rest) =
-      option_or (arguments_rule known declared call kind members)
-      (option_or (mention_rule known declared (check.ListClosed kind (count_of members)))
-      (arguments_rule known declared call Dependences rest))
-  arguments_rule known declared call kind (tree.named x rest) =
+  pub arguments_rule : (known declared : List ℕ → Bool) → CallName → ℕ → Arguments → Option ℕ
+  arguments_rule known declared call most tree.empty = None
+  arguments_rule known declared call most (tree.value e rest) =
+      option_or (expression_rule known declared e) (arguments_rule known declared call most rest)
+  arguments_rule known declared call most (tree.list members rest) =
+      option_or (arguments_rule known declared call most members)
+      (option_or (mention_rule known declared (check.ListClosed most (count_of members)))
+      (arguments_rule known declared call MOST_DEPENDENCES rest))
+  arguments_rule known declared call most (tree.named x rest) =
       option_or (mention_rule known declared (mention_of_name call x))
-      (arguments_rule known declared call kind rest)
+      (arguments_rule known declared call most rest)
 
 -- the names that the walk of a function keeps: those that were let, and those of them that are
 -- declared where it stands
@@ -79,7 +79,7 @@ leaving k (Broken rule) = Broken rule
 -- the name of a `let`
 abbrev pub let_rule : Declarations → List ℕ → Option ℕ
 let_rule k x =
-    cond (is_among x k.lets) (Some 3) (cond (nat_lt (length k.lets) most_lets) None (Some 7))
+    cond (is_among x k.lets) (Some 3) (cond (nat_lt (length k.lets) MOST_LETS) None (Some 7))
 
 -- a name is declared
 abbrev pub with_name : Declarations → List ℕ → Declarations
@@ -105,7 +105,7 @@ abbrev mutual
   statement_outcome known (tree.Print e) k = told k (value_rule known k e)
   statement_outcome known (tree.Return e) k = told k (value_rule known k e)
   statement_outcome known (tree.Do call arguments) k =
-      told k (arguments_rule known (λ x. is_among x k.declared) call Parameters arguments)
+      told k (arguments_rule known (λ x. is_among x k.declared) call MOST_PARAMETERS arguments)
 
   pub statements_outcome : (known : List ℕ → Bool) → Statements → Declarations → Outcome
   statements_outcome known tree.nothing k = Passed k
@@ -124,3 +124,15 @@ no_declarations = record { lets = []; declared = [] }
 -- the rule that a function breaks first
 abbrev pub function_rule : (known : List ℕ → Bool) → FunctionTree → Option ℕ
 function_rule known f = rule_of (statements_outcome known f.body no_declarations)
+
+-- a mention breaks a rule
+abbrev pub BreaksRule : List (List ℕ) → List Mention → Mention → Type 0
+BreaksRule names before mention = IsSome (rule_broken names (reverse before) mention)
+
+-- some mention of a function breaks a rule
+abbrev pub BreaksSome : List (List ℕ) → List FunctionTree → FunctionTree → Type 0
+BreaksSome names before f = (rule : ℕ) × Breaks names f rule
+
+-- the mentions of a function
+abbrev pub mentions_of : FunctionTree → List Mention
+mentions_of f = check.mentions_of_statements f.body

@@ -10,8 +10,7 @@ use Rattle.ocr_program_tree.specs.Tree.{FunctionTree, Expression}
 use Rattle.ocr_program_tree.specs.View.{members_of}
 use Rattle.ocr_program_tree.specs.declared.tree.Expr.{Expr}
 use Rattle.ocr_program_tree.specs.declared.tree.CallName.TheVariants as name
-use Rattle.ocr_program_check.specs.declared.names.ListKind.{ListKind}
-use Rattle.ocr_program_check.specs.declared.names.ListKind.TheVariants.{Parameters}
+use Rattle.ocr_program_tree.specs.declared.rules.TheConstants.{MOST_PARAMETERS}
 use Rattle.ocr_program_check.specs.Checked.{Declarations, Outcome, Broken, mention_rule, expression_rule, arguments_rule}
 use Rattle.ocr_program_check.specs.declared.rules.CheckFault.{CheckFault}
 use Rattle.ocr_program_check.specs.declared.rules.CheckStop.{CheckStop}
@@ -43,10 +42,10 @@ abbrev pub IsFaultIn : Names → Option ℕ → CheckFault → Type 0
 IsFaultIn s rule fault = (rule ≡ Some fault.rule) × (fault.function ≡ s.function)
 
 -- a list of values with its bracket
-abbrev pub members_rule : (known declared : List ℕ → Bool) → ListKind → List Expr → Option ℕ
-members_rule known declared kind members =
-    option_or (arguments_rule known declared name.EdtCreate Parameters (members_of members))
-    (mention_rule known declared (ListClosed kind (length members)))
+abbrev pub members_rule : (known declared : List ℕ → Bool) → ℕ → List Expr → Option ℕ
+members_rule known declared most members =
+    option_or (arguments_rule known declared name.EdtCreate MOST_PARAMETERS (members_of members))
+    (mention_rule known declared (ListClosed most (length members)))
 
 -- an assignment: the name of its variable, then its expression
 abbrev pub assign_rule : Names → List ℕ → Expression → Option ℕ

@@ -1,7 +1,7 @@
 // The walk of a function in the order of its text, with the names that were let.
 ghost use Rattle.std.specs.Prelude.{◌≡◌, ℕ, List, None, IfErr, OnOk};
 ghost use Rattle.ocr_program_check.specs.Check.{Used, FunctionNamed, mention_of_name};
-ghost use Rattle.ocr_program_check.specs.declared.names.ListKind.TheVariants.{Parameters};
+ghost use Rattle.ocr_program_tree.specs.declared.rules.TheConstants.{MOST_PARAMETERS};
 ghost use Rattle.ocr_program_check.specs.Check.{is_among as among};
 ghost use Rattle.ocr_program_check.specs.Checked.{mention_rule, expression_rule, arguments_rule, let_rule, with_name, no_declarations, Passed, leaving, statement_outcome, statements_outcome, function_rule};
 ghost use Rattle.ocr_program_check.specs.Names.{texts, known_in, declared_in, declarations_in, knows, members_rule, assign_rule, IsFaultIn, IsStopIn, IsStopAt, IsSameFunction};
@@ -17,27 +17,6 @@ use std::collections::BTreeSet;
 
 /// The most names that a function lets.
 pub const MOST_LETS: usize = 64;
-
-/// A list of a call.
-#[derive(Clone, Copy)]
-pub enum ListKind {
-    Parameters,
-    Dependences,
-}
-
-impl ListKind {
-    ghost use Rattle.ocr_program_check.specs.Check.{most_members};
-
-    // The most members of such a list.
-    fn most_members(self) -> usize
-        ensures { result ≡ most_members self }
-    {
-        match self {
-            ListKind::Parameters => MOST_PARAMETERS,
-            ListKind::Dependences => MOST_DEPENDENCES,
-        }
-    }
-}
 
 /// The names where the walk of a function stands: those of the functions, those that this one, by
 /// its number, has let, and those of them that are declared here.
@@ -155,24 +134,24 @@ impl<'n, 'a> Names<'n, 'a> {
         }
     }
 
-    // The arguments of a call, the first list of which are parameters and the second dependences.
+    // The arguments of a call, the first list of which are parameters and the others dependences.
     #[cycle(expression)]
     fn arguments(&self, call: &Invoke) -> Result<(), CheckStop>
         ensures ok { OnOk result
             (arguments_rule (known_in self.now) (declared_in self.now)
-            (name_of call.now) Parameters (arguments_of call.now) ≡ None) }
+            (name_of call.now) MOST_PARAMETERS (arguments_of call.now) ≡ None) }
         ensures err { IfErr result (IsStopAt self.now.function
             (arguments_rule (known_in self.now) (declared_in self.now)
-            (name_of call.now) Parameters (arguments_of call.now))) }
+            (name_of call.now) MOST_PARAMETERS (arguments_of call.now))) }
     {
         let list = call.arguments(self.alloc)?;
-        let mut kind = ListKind::Parameters;
+        let mut most = MOST_PARAMETERS;
         for place in 0..list.len() {
             match list[place] {
                 Argument::Value(value) => self.expression(value)?,
                 Argument::List(values) => {
-                    self.members(kind, values)?;
-                    kind = ListKind::Dependences;
+                    self.members(most, values)?;
+                    most = MOST_DEPENDENCES;
                 }
                 Argument::Name(name) => self.named(call.name(), name)?,
             }
@@ -180,19 +159,19 @@ impl<'n, 'a> Names<'n, 'a> {
         Ok(())
     }
 
-    // A list of values, and the bracket that closes it.
+    // A list of at most so many values, and the bracket that closes it.
     #[cycle(expression)]
     #[tactic(auto, using(crate::proofs::Rulesets::parts))]
-    fn members(&self, kind: ListKind, members: &[Expr]) -> Result<(), CheckStop>
+    fn members(&self, most: usize, members: &[Expr]) -> Result<(), CheckStop>
         ensures ok { OnOk result
-            (members_rule (known_in self.now) (declared_in self.now) kind members.now ≡ None) }
+            (members_rule (known_in self.now) (declared_in self.now) most members.now ≡ None) }
         ensures err { IfErr result (IsStopAt self.now.function
-            (members_rule (known_in self.now) (declared_in self.now) kind members.now)) }
+            (members_rule (known_in self.now) (declared_in self.now) most members.now)) }
     {
         for member in members {
             self.expression(member)?;
         }
-        if members.len() > kind.most_members() {
+        if members.len() > most {
             return Err(CheckStop::Fault(self.fault(6)));
         }
         Ok(())

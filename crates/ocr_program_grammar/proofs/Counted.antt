@@ -9,9 +9,10 @@ use Rattle.ocr_program_grammar.specs.declared.lexeme.Lexeme.TheVariants as lexem
 use Rattle.ocr_program_grammar.specs.declared.lexeme.Word.TheVariants as word
 use Rattle.ocr_program_grammar.specs.declared.argument_kind.ArgumentKind.{ArgumentKind}
 use Rattle.ocr_program_grammar.specs.Grammar as g
-use Rattle.ocr_program_grammar.specs.Grammar.{level, lexeme_of_operator, lexeme_of_sign, IsExpression, AreArguments, Follows, AreMembers}
+use Rattle.ocr_program_grammar.specs.Grammar.{level, lexeme_of_sign, IsExpression, AreArguments, Follows, AreMembers}
 use Rattle.ocr_program_grammar.specs.Shape.{shape}
-use Rattle.ocr_program_grammar.specs.Limits.{Tally, tally, within, tally_after}
+use Rattle.ocr_program_grammar.specs.Limits.{Tally, within, tally_after}
+use Rattle.ocr_program_grammar.specs.Counts.{tally}
 use Rattle.ocr_program_grammar.specs.Laws.{IsCounted, CountLaw}
 
 pub tally_append : (y : Tally) (a b : List Lexeme) → tally y (a ++ b) ≡ tally (tally y a) b
@@ -71,7 +72,7 @@ mutual
       one (lexeme.Word word.Depv) _ rest (λ _ _. refl) (one lexeme.OpenSquare ts rest (λ _ _. refl) (closed lexeme.CloseSquare ts rest (λ _ _. refl) (expression 0 ts (lexeme.CloseSquare ∷ rest) e d)))
   expression _ _ _ _ (g.signed l op ts rest e d) = one (lexeme_of_sign op) ts rest (unary_plain op) (expression 8 ts rest e d)
   expression _ _ _ _ (g.joined l op ts mid rest a b low first second) =
-      both ts (lexeme_of_operator op ∷ mid) rest (expression (level op) ts (lexeme_of_operator op ∷ mid) a first) (one (lexeme_of_operator op) mid rest (λ _ _. refl) (expression (level op + 1) mid rest b second))
+      both ts (lexeme.Operator op ∷ mid) rest (expression (level op) ts (lexeme.Operator op ∷ mid) a first) (one (lexeme.Operator op) mid rest (λ _ _. refl) (expression (level op + 1) mid rest b second))
   expression _ _ _ _ (g.parentheses l ts rest e d) =
       one lexeme.OpenRound ts rest (λ _ _. refl) (closed lexeme.CloseRound ts rest (λ _ _. refl) (expression 0 ts (lexeme.CloseRound ∷ rest) e d))
   expression _ _ _ _ (g.invoked l c ts rest args d) =

@@ -3,3 +3,4 @@ pub mod Counted
 pub mod Spelling
 pub mod Sizes
 pub mod Rulesets
+pub mod Lexed

@@ -9,9 +9,10 @@ use Rattle.ocr_program_grammar.specs.declared.lexeme.Word.TheVariants as word
 use Rattle.ocr_program_grammar.specs.Grammar as g
 use Rattle.ocr_program_grammar.specs.Grammar.{IsStatement, AreStatements, IsProgram}
 use Rattle.ocr_program_grammar.specs.Laws.{IsCounted, SizeLaw}
-use Rattle.ocr_program_grammar.specs.Lexemes.{lexeme_of, lexeme_onto, lexemes_of}
+use Rattle.ocr_program_grammar.specs.Lexing.{lexeme_of, lexeme_onto, lexemes_of}
 use Rattle.ocr_program_grammar.specs.Shape.{shape}
 use Rattle.ocr_program_grammar.proofs.Counted.{expression, arguments}
+use Rattle.ocr_program_grammar.proofs.Lexed.{tree_told}
 
 fewer : (ts rest : List Lexeme) → IsCounted ts rest → length rest ≤ length ts
 fewer ts rest s = omega (arith, ap length s.split, length-append s.front rest)
@@ -58,4 +59,4 @@ tokens_few bytes first (t ∷ rest) last tiled = omega (arith, tiled.0, tiled.1.
 
 pub size_law : SizeLaw
 size_law bytes tokens program are tree =
-    omega (arith, functions_few (lexemes_of bytes tokens) program tree.whole, lexemes_few bytes tokens, tokens_few bytes 0 tokens (length bytes) are)
+    omega (arith, functions_few (lexemes_of bytes tokens) program (tree_told bytes tokens program tree).whole, lexemes_few bytes tokens, tokens_few bytes 0 tokens (length bytes) are)

@@ -9,10 +9,11 @@ use Rattle.ocr_program_tree.specs.declared.tree.Constant.TheVariants as constant
 use Rattle.ocr_program_grammar.specs.declared.lexeme.Lexeme.TheVariants as lexeme
 use Rattle.ocr_program_grammar.specs.declared.lexeme.Word.{Word}
 use Rattle.ocr_program_grammar.specs.declared.lexeme.Word.TheVariants as word
-use Rattle.ocr_program_grammar.specs.Texts.{word_text, call_text, constant_text, operator_text, lexeme_of_name, symbol}
+use Rattle.ocr_program_grammar.specs.Lexing.{lexeme_of_name, symbol}
+use Rattle.ocr_program_grammar.specs.Texts.{word_text, call_text, constant_text, operator_text}
 use Rattle.ocr_program_grammar.specs.Laws.{SpellingLaw}
 
-words : (w : Word) → lexeme_of_name (word_text w) ≡ lexeme.Word w
+pub words : (w : Word) → lexeme_of_name (word_text w) ≡ lexeme.Word w
 words word.Fn = refl
 words word.Let = refl
 words word.If = refl
@@ -26,7 +27,7 @@ words word.Depc = refl
 words word.Depv = refl
 words word.Code = refl
 
-calls : (c : CallName) → lexeme_of_name (call_text c) ≡ lexeme.Call c
+pub calls : (c : CallName) → lexeme_of_name (call_text c) ≡ lexeme.Call c
 calls name.DbCreate = refl
 calls name.DbRelease = refl
 calls name.DbDestroy = refl
@@ -44,7 +45,7 @@ calls name.Abort = refl
 calls name.Load = refl
 calls name.Store = refl
 
-constants : (c : of_constant.Constant) → lexeme_of_name (constant_text c) ≡ lexeme.Constant c
+pub constants : (c : of_constant.Constant) → lexeme_of_name (constant_text c) ≡ lexeme.Constant c
 constants constant.NullGuid = refl
 constants constant.UninitializedGuid = refl
 constants constant.EdtParamUnk = refl
@@ -68,7 +69,7 @@ constants constant.EventSticky = refl
 constants constant.EventLatch = refl
 constants constant.EventChannel = refl
 
-operators : (op : BinaryOp) → symbol (operator_text op) ≡ Some (lexeme.Operator op)
+pub operators : (op : BinaryOp) → symbol (operator_text op) ≡ Some (lexeme.Operator op)
 operators binary.Or = refl
 operators binary.Xor = refl
 operators binary.And = refl

@@ -11,9 +11,10 @@ use Rattle.ocr_program_grammar.specs.declared.lexeme.Lexeme.TheVariants as lexem
 use Rattle.ocr_program_grammar.specs.declared.lexeme.Word.{Word}
 use Rattle.ocr_program_grammar.specs.declared.argument_kind.ArgumentKind.{ArgumentKind}
 use Rattle.ocr_program_grammar.specs.Grammar.{IsExpression, AreArguments}
-use Rattle.ocr_program_grammar.specs.Lexemes.{IsTreeOf}
-use Rattle.ocr_program_grammar.specs.Limits.{tally}
-use Rattle.ocr_program_grammar.specs.Texts.{word_text, call_text, constant_text, operator_text, lexeme_of_name, symbol}
+use Rattle.ocr_program_grammar.specs.Lexemes.{AreLexemes, IsTreeOf}
+use Rattle.ocr_program_grammar.specs.Counts.{tally}
+use Rattle.ocr_program_grammar.specs.Lexing.{lexeme_of_name, symbol}
+use Rattle.ocr_program_grammar.specs.Texts.{word_text, call_text, constant_text, operator_text}
 
 -- From the one list to the other stand tokens of which the tally counts each.
 pub record IsCounted (ts rest : List Lexeme) : Type 0 where
@@ -41,3 +42,11 @@ pub record SpellingLaw : Type 0 where
 abbrev pub SizeLaw : Type 0
 SizeLaw = (bytes : List ℕ) (tokens : List Token) (program : List FunctionTree)
     → AreTokens bytes tokens → IsTreeOf bytes tokens program → length program ≤ length bytes
+
+-- The tokens of a text are lexemes, in one way: no symbol is passed over.
+pub record LexemesLaw : Type 0 where
+  pub some : (bytes : List ℕ) (tokens : List Token) → AreTokens bytes tokens
+      → (places : List ℕ) × ((lexemes : List Lexeme) × AreLexemes bytes tokens places lexemes)
+  pub one : (bytes : List ℕ) (tokens : List Token) (places other_places : List ℕ)
+      (lexemes others : List Lexeme) → AreLexemes bytes tokens places lexemes
+      → AreLexemes bytes tokens other_places others → (places ≡ other_places) × (lexemes ≡ others)

@@ -5,4 +5,5 @@ pub mod Counts
 pub mod Parser
 pub mod Texts
 pub mod Lexemes
+pub mod Lexing
 pub mod Laws

@@ -1,7 +1,7 @@
 -- The limits: how many tokens an outermost expression has, and how deep blocks nest. Both are
 -- counted along the tokens. An outermost expression begins after `print`, `return`, `if`, `while`
 -- or `=`, or with the name of a call that stands alone, and ends before `;` or `{`.
-use Rattle.std.specs.Prelude.{◌≡◌, ◌+◌, ◌-◌, ℕ, List, [], ◌∷◌, Option, Some, None, Bool, true, false, ◌||◌, nat_lt}
+use Rattle.std.specs.Prelude.{◌≡◌, ◌+◌, ◌-◌, ℕ, List, Option, Some, None, Bool, true, ◌||◌, fold, nat_lt, unwrap_or}
 use Rattle.ocr_program_grammar.specs.declared.limits.TheConstants.{MOST_TOKENS, MOST_BLOCKS}
 use Rattle.ocr_program_grammar.specs.declared.lexeme.Lexeme.{Lexeme}
 use Rattle.ocr_program_grammar.specs.declared.lexeme.Lexeme.TheVariants as lexeme
@@ -36,21 +36,12 @@ tally_step d (Some n) t = within d n t
 abbrev pub tally_after : Tally → Lexeme → Tally
 tally_after before t = tally_step before.depth before.tokens t
 
--- the tally after these tokens
-abbrev pub tally : Tally → List Lexeme → Tally
-tally before [] = before
-tally before (t ∷ ts) = tally (tally_after before t) ts
-
 abbrev pub nothing_read : Tally
 nothing_read = record { tokens = None; depth = 0 }
 
-abbrev pub is_long : Option ℕ → Bool
-is_long None = false
-is_long (Some n) = nat_lt MOST_TOKENS n
-
 abbrev pub is_over : Tally → Bool
-is_over t = is_long t.tokens || nat_lt MOST_BLOCKS t.depth
+is_over t = nat_lt MOST_TOKENS (unwrap_or t.tokens 0) || nat_lt MOST_BLOCKS t.depth
 
 -- the last of these tokens, or one before it, is one too many
 abbrev pub IsOver : List Lexeme → Type 0
-IsOver ts = is_over (tally nothing_read ts) ≡ true
+IsOver ts = is_over (fold tally_after nothing_read ts) ≡ true

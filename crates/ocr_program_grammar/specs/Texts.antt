@@ -1,18 +1,18 @@
 -- How tokens are written.
-use Rattle.std.specs.Prelude.{ℕ, List, [], ◌∷◌, Bool, Option, Some, None, ◌++◌, if◌then◌else◌, codes, find, map, nat_eq}
-use Rattle.std.specs.Cmp.Lexicographic.{pointwise}
+use Rattle.std.specs.Prelude.{ℕ, List, Option, Some, None, codes}
+use Rattle.ocr_text.specs.declared.token.TokenKind.{TokenKind}
+use Rattle.ocr_text.specs.declared.token.TokenKind.TheVariants as kind
 use Rattle.ocr_program_tree.specs.declared.tree.BinaryOp.{BinaryOp}
 use Rattle.ocr_program_tree.specs.declared.tree.BinaryOp.TheVariants as binary
 use Rattle.ocr_program_tree.specs.declared.tree.UnaryOp.{UnaryOp}
 use Rattle.ocr_program_tree.specs.declared.tree.UnaryOp.TheVariants as unary
-use Rattle.ocr_program_tree.specs.declared.tree.CallName.{CallName}
-use Rattle.ocr_program_tree.specs.declared.tree.CallName.TheVariants as name
 use Rattle.ocr_program_tree.specs.declared.tree.Constant as of_constant
 use Rattle.ocr_program_tree.specs.declared.tree.Constant.TheVariants as constant
 use Rattle.ocr_program_grammar.specs.declared.lexeme.Lexeme.{Lexeme}
 use Rattle.ocr_program_grammar.specs.declared.lexeme.Lexeme.TheVariants as lexeme
 use Rattle.ocr_program_grammar.specs.declared.lexeme.Word.{Word}
 use Rattle.ocr_program_grammar.specs.declared.lexeme.Word.TheVariants as word
+pub use Rattle.ocr_program_grammar.specs.Shape.{call_text}
 
 abbrev pub word_text : Word → List ℕ
 word_text word.Fn = codes "fn"
@@ -27,24 +27,6 @@ word_text word.Paramv = codes "paramv"
 word_text word.Depc = codes "depc"
 word_text word.Depv = codes "depv"
 word_text word.Code = codes "code"
-
-abbrev pub call_text : CallName → List ℕ
-call_text name.DbCreate = codes "ocrDbCreate"
-call_text name.DbRelease = codes "ocrDbRelease"
-call_text name.DbDestroy = codes "ocrDbDestroy"
-call_text name.EventCreate = codes "ocrEventCreate"
-call_text name.EventCreateParams = codes "ocrEventCreateParams"
-call_text name.EventDestroy = codes "ocrEventDestroy"
-call_text name.Satisfy = codes "ocrEventSatisfy"
-call_text name.SatisfySlot = codes "ocrEventSatisfySlot"
-call_text name.AddDependence = codes "ocrAddDependence"
-call_text name.TemplateCreate = codes "ocrEdtTemplateCreate"
-call_text name.TemplateDestroy = codes "ocrEdtTemplateDestroy"
-call_text name.EdtCreate = codes "ocrEdtCreate"
-call_text name.Shutdown = codes "ocrShutdown"
-call_text name.Abort = codes "ocrAbort"
-call_text name.Load = codes "load"
-call_text name.Store = codes "store"
 
 abbrev pub constant_text : of_constant.Constant → List ℕ
 constant_text constant.NullGuid = codes "NULL_GUID"
@@ -70,23 +52,31 @@ constant_text constant.EventSticky = codes "OCR_EVENT_STICKY_T"
 constant_text constant.EventLatch = codes "OCR_EVENT_LATCH_T"
 constant_text constant.EventChannel = codes "OCR_EVENT_CHANNEL_T"
 
+-- the operators between two operands: the sign of each, and its level, from the lowest. An
+-- expression of a higher level holds closer together
+abbrev pub of_operator : BinaryOp → List ℕ × ℕ
+of_operator binary.Or = (codes "|", 0)
+of_operator binary.Xor = (codes "^", 1)
+of_operator binary.And = (codes "&", 2)
+of_operator binary.Eq = (codes "==", 3)
+of_operator binary.Ne = (codes "!=", 3)
+of_operator binary.Lt = (codes "<", 4)
+of_operator binary.Le = (codes "<=", 4)
+of_operator binary.Gt = (codes ">", 4)
+of_operator binary.Ge = (codes ">=", 4)
+of_operator binary.Shl = (codes "<<", 5)
+of_operator binary.Shr = (codes ">>", 5)
+of_operator binary.Add = (codes "+", 6)
+of_operator binary.Sub = (codes "-", 6)
+of_operator binary.Mul = (codes "*", 7)
+of_operator binary.Div = (codes "/", 7)
+of_operator binary.Rem = (codes "%", 7)
+
 abbrev pub operator_text : BinaryOp → List ℕ
-operator_text binary.Or = codes "|"
-operator_text binary.Xor = codes "^"
-operator_text binary.And = codes "&"
-operator_text binary.Eq = codes "=="
-operator_text binary.Ne = codes "!="
-operator_text binary.Lt = codes "<"
-operator_text binary.Le = codes "<="
-operator_text binary.Gt = codes ">"
-operator_text binary.Ge = codes ">="
-operator_text binary.Shl = codes "<<"
-operator_text binary.Shr = codes ">>"
-operator_text binary.Add = codes "+"
-operator_text binary.Sub = codes "-"
-operator_text binary.Mul = codes "*"
-operator_text binary.Div = codes "/"
-operator_text binary.Rem = codes "%"
+operator_text op = (of_operator op).0
+
+abbrev pub level : BinaryOp → ℕ
+level op = (of_operator op).1
 
 -- the sign before an operand
 abbrev pub sign_text : UnaryOp → List ℕ
@@ -94,78 +84,21 @@ sign_text unary.Not = codes "!"
 sign_text unary.Invert = codes "~"
 sign_text unary.Minus = codes "-"
 
-abbrev pub operators : List BinaryOp
-operators =
-    binary.Or ∷ binary.Xor ∷ binary.And ∷ binary.Eq ∷ binary.Ne ∷ binary.Lt ∷ binary.Le
-    ∷ binary.Gt ∷ binary.Ge
-    ∷ binary.Shl ∷ binary.Shr ∷ binary.Add ∷ binary.Sub ∷ binary.Mul ∷ binary.Div ∷ binary.Rem ∷ []
-
-abbrev pub words : List Word
-words =
-    word.Fn ∷ word.Let ∷ word.If ∷ word.Else ∷ word.While ∷ word.Print ∷ word.Return
-    ∷ word.Paramc ∷ word.Paramv
-    ∷ word.Depc ∷ word.Depv ∷ word.Code ∷ []
-
-abbrev pub calls : List CallName
-calls =
-    name.DbCreate ∷ name.DbRelease ∷ name.DbDestroy ∷ name.EventCreate ∷ name.EventCreateParams
-    ∷ name.EventDestroy
-    ∷ name.Satisfy ∷ name.SatisfySlot ∷ name.AddDependence ∷ name.TemplateCreate
-    ∷ name.TemplateDestroy
-    ∷ name.EdtCreate ∷ name.Shutdown ∷ name.Abort ∷ name.Load ∷ name.Store ∷ []
-
-abbrev pub constants : List of_constant.Constant
-constants =
-    constant.NullGuid ∷ constant.UninitializedGuid ∷ constant.EdtParamUnk ∷ constant.EdtParamDef
-    ∷ constant.EdtPropNone ∷ constant.EdtPropFinish ∷ constant.DbPropNone ∷ constant.DbPropNoAcquire
-    ∷ constant.EvtPropNone ∷ constant.EvtPropTakesArg ∷ constant.EventLatchDecrSlot
-    ∷ constant.EventLatchIncrSlot
-    ∷ constant.DbModeNull ∷ constant.DbModeRo ∷ constant.DbModeConst ∷ constant.DbModeRw
-    ∷ constant.DbModeEw
-    ∷ constant.EventOnce ∷ constant.EventIdem ∷ constant.EventSticky ∷ constant.EventLatch
-    ∷ constant.EventChannel ∷ []
-
-abbrev pub same : List ℕ → List ℕ → Bool
-same a b = pointwise nat_eq a b
-
-abbrev pub word_of : List ℕ → Option Word
-word_of text = find (λ w. same (word_text w) text) words
-
-abbrev pub call_of : List ℕ → Option CallName
-call_of text = find (λ c. same (call_text c) text) calls
-
-abbrev pub constant_of : List ℕ → Option of_constant.Constant
-constant_of text = find (λ c. same (constant_text c) text) constants
-
-abbrev pub found_name : Option Word → Option CallName → Option of_constant.Constant → List ℕ
-    → Lexeme
-found_name (Some w) c k text = lexeme.Word w
-found_name None (Some c) k text = lexeme.Call c
-found_name None None (Some k) text = lexeme.Constant k
-found_name None None None text = lexeme.Name text
-
--- what these letters are: a reserved name, or one that the program chose
-abbrev pub lexeme_of_name : List ℕ → Lexeme
-lexeme_of_name text = found_name (word_of text) (call_of text) (constant_of text) text
-
--- the symbols that are no operators
-abbrev pub marks : List (List ℕ × Lexeme)
-marks =
-    (codes "!", lexeme.Not) ∷ (codes "~", lexeme.Invert) ∷ (codes "=", lexeme.Equals)
-    ∷ (codes ",", lexeme.Comma)
-    ∷ (codes ";", lexeme.Semicolon) ∷ (codes "(", lexeme.OpenRound) ∷ (codes ")", lexeme.CloseRound)
-    ∷ (codes "[", lexeme.OpenSquare) ∷ (codes "]", lexeme.CloseSquare)
-    ∷ (codes "{", lexeme.OpenBrace)
-    ∷ (codes "}", lexeme.CloseBrace) ∷ []
-
--- the symbols, each with what it is
-abbrev pub symbols : List (List ℕ × Lexeme)
-symbols = marks ++ map (λ op. (operator_text op, lexeme.Operator op)) operators
-
-abbrev pub found_in : List (List ℕ × Lexeme) → List ℕ → Option Lexeme
-found_in [] text = None
-found_in (entry ∷ rest) text = if same text entry.0 then Some entry.1 else found_in rest text
-
--- the symbol of these bytes, where they are one
-abbrev pub symbol : List ℕ → Option Lexeme
-symbol text = found_in symbols text
+-- the reserved names and the symbols: the kind of the token that each is, and how it is written
+abbrev pub spelling : Lexeme → Option (TokenKind × List ℕ)
+spelling (lexeme.Word w) = Some (kind.Name, word_text w)
+spelling (lexeme.Call c) = Some (kind.Name, call_text c)
+spelling (lexeme.Constant c) = Some (kind.Name, constant_text c)
+spelling (lexeme.Operator op) = Some (kind.Symbol, operator_text op)
+spelling lexeme.Not = Some (kind.Symbol, codes "!")
+spelling lexeme.Invert = Some (kind.Symbol, codes "~")
+spelling lexeme.Equals = Some (kind.Symbol, codes "=")
+spelling lexeme.Comma = Some (kind.Symbol, codes ",")
+spelling lexeme.Semicolon = Some (kind.Symbol, codes ";")
+spelling lexeme.OpenRound = Some (kind.Symbol, codes "(")
+spelling lexeme.CloseRound = Some (kind.Symbol, codes ")")
+spelling lexeme.OpenSquare = Some (kind.Symbol, codes "[")
+spelling lexeme.CloseSquare = Some (kind.Symbol, codes "]")
+spelling lexeme.OpenBrace = Some (kind.Symbol, codes "{")
+spelling lexeme.CloseBrace = Some (kind.Symbol, codes "}")
+spelling other = None

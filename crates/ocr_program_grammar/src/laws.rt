@@ -1,5 +1,5 @@
 // Laws of the grammar.
-ghost use Rattle.ocr_program_grammar.specs.Laws.{CountLaw, SpellingLaw, SizeLaw};
+ghost use Rattle.ocr_program_grammar.specs.Laws.{CountLaw, LexemesLaw, SpellingLaw, SizeLaw};
 
 /// Carries the laws of the grammar's definitions; it does nothing.
 #[tactic(auto, using(crate::proofs::Rulesets::laws))]
@@ -7,4 +7,5 @@ pub fn grammar_laws()
     ensures counts { CountLaw }
     ensures spellings { SpellingLaw }
     ensures sizes { SizeLaw }
+    ensures lexemes { LexemesLaw }
 {}

@@ -1,7 +1,7 @@
 // The tokens of a text as the grammar sees them.
 ghost use Rattle.std.specs.Prelude.{◌≡◌, IfOk};
 ghost use Rattle.ocr_text.specs.Tokens.{IsToken};
-ghost use Rattle.ocr_program_grammar.specs.Lexemes.{lexeme_of};
+ghost use Rattle.ocr_program_grammar.specs.Lexing.{lexeme_of};
 
 use crate::lexeme::Lexeme;
 use crate::words::{lexeme_of_name, symbol};

@@ -1,6 +1,7 @@
 // How tokens are written.
 ghost use Rattle.std.specs.Prelude.{◌≡◌, [], ◌∷◌, IfOk};
 ghost use Rattle.ocr_program_grammar.specs.Texts as texts;
+ghost use Rattle.ocr_program_grammar.specs.Lexing as lexing;
 
 use crate::lexeme::{Lexeme, Word};
 use ocr_program_tree::{BinaryOp, CallName, Constant, Name, UnaryOp};
@@ -175,19 +176,19 @@ pub fn sign_text(op: UnaryOp) -> &'static [u8]
 }
 
 fn word_of(text: &[u8]) -> Option<Word>
-    ensures { result ≡ texts.word_of text.now }
+    ensures { result ≡ lexing.word_of text.now }
 {
     WORDS.iter().copied().find(|word| word_text(*word) == text)
 }
 
 fn call_of(text: &[u8]) -> Option<CallName>
-    ensures { result ≡ texts.call_of text.now }
+    ensures { result ≡ lexing.call_of text.now }
 {
     CALLS.iter().copied().find(|call| call_text(*call) == text)
 }
 
 fn constant_of(text: &[u8]) -> Option<Constant>
-    ensures { result ≡ texts.constant_of text.now }
+    ensures { result ≡ lexing.constant_of text.now }
 {
     CONSTANTS
         .iter()
@@ -197,7 +198,7 @@ fn constant_of(text: &[u8]) -> Option<Constant>
 
 /// What these letters are: a reserved name, or one that the program chose.
 pub fn lexeme_of_name(alloc: Global, text: &[u8]) -> Result<Lexeme, AllocError>
-    ensures { IfOk result (λ l. l ≡ texts.lexeme_of_name text.now) }
+    ensures { IfOk result (λ l. l ≡ lexing.lexeme_of_name text.now) }
 {
     if let Some(word) = word_of(text) {
         return Ok(Lexeme::Word(word));
@@ -213,7 +214,7 @@ pub fn lexeme_of_name(alloc: Global, text: &[u8]) -> Result<Lexeme, AllocError>
 
 // The symbol of one byte.
 fn single(byte: u8) -> Option<Lexeme>
-    ensures { result ≡ texts.symbol (byte ∷ []) }
+    ensures { result ≡ lexing.symbol (byte ∷ []) }
 {
     match byte {
         b'!' => Some(Lexeme::Not),
@@ -243,7 +244,7 @@ fn single(byte: u8) -> Option<Lexeme>
 
 // The symbol of two bytes.
 fn double(first: u8, second: u8) -> Option<Lexeme>
-    ensures { result ≡ texts.symbol (first ∷ second ∷ []) }
+    ensures { result ≡ lexing.symbol (first ∷ second ∷ []) }
 {
     match second {
         b'=' => match first {
@@ -267,7 +268,7 @@ fn double(first: u8, second: u8) -> Option<Lexeme>
 
 /// The symbol of these bytes, where they are one.
 pub fn symbol(text: &[u8]) -> Option<Lexeme>
-    ensures { result ≡ texts.symbol text.now }
+    ensures { result ≡ lexing.symbol text.now }
 {
     match text {
         [first] => single(*first),

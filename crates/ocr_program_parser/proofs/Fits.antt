@@ -5,7 +5,7 @@ use Rattle.std.specs.Prelude.{nat_le}
 use Rattle.ocr_program_tree.specs.declared.tree.CallName.{CallName}
 use Rattle.ocr_program_tree.specs.Tree as tree
 use Rattle.ocr_program_tree.specs.Tree.{Expression, Arguments, empty, value, list, named}
-use Rattle.ocr_program_grammar.specs.Grammar.{level}
+use Rattle.ocr_program_grammar.specs.Texts.{level}
 use Rattle.ocr_program_grammar.specs.declared.argument_kind.ArgumentKind.{ArgumentKind}
 use Rattle.ocr_program_grammar.specs.declared.argument_kind.ArgumentKind.TheVariants.{Value, Values, NameOfFunction}
 use Rattle.ocr_program_grammar.specs.Shape.{shape}

@@ -11,7 +11,7 @@ use Rattle.ocr_program_tree.specs.Tree.{Expression, Arguments, empty, value, lis
 use Rattle.ocr_program_grammar.specs.declared.lexeme.Lexeme.{Lexeme}
 use Rattle.ocr_program_grammar.specs.declared.lexeme.Lexeme.TheVariants as lexeme
 use Rattle.ocr_program_grammar.specs.declared.lexeme.Word.TheVariants as word
-use Rattle.ocr_program_grammar.specs.Grammar.{level}
+use Rattle.ocr_program_grammar.specs.Texts.{level}
 use Rattle.ocr_program_grammar.specs.declared.argument_kind.ArgumentKind.{ArgumentKind}
 use Rattle.ocr_program_grammar.specs.declared.argument_kind.ArgumentKind.TheVariants.{Value, Values, NameOfFunction, FlagsAndOutput}
 use Rattle.ocr_program_grammar.specs.Shape.{shape}

@@ -6,7 +6,7 @@ use Rattle.ocr_program_tree.specs.declared.tree.BinaryOp.{BinaryOp}
 use Rattle.ocr_program_tree.specs.declared.tree.CallName.{CallName}
 use Rattle.ocr_program_tree.specs.Tree as tree
 use Rattle.ocr_program_tree.specs.Tree.{Expression, Arguments}
-use Rattle.ocr_program_grammar.specs.Grammar.{level}
+use Rattle.ocr_program_grammar.specs.Texts.{level}
 use Rattle.ocr_program_grammar.specs.declared.argument_kind.ArgumentKind.{ArgumentKind}
 
 -- what an outermost expression is for

@@ -1,11 +1,11 @@
 -- Which kind a first byte tells.
-use Rattle.std.proofs.Common.{◌≡◌, ◌≤◌, ℕ, List, [], ◌∷◌, Bool, true, false, ◌||◌, ◌&&◌, ◌==◌, nat_le, nat_lt, cond, refl, sym, ap, subst, ◌∙◌, Option, Some, None, arith, inl, inr}
+use Rattle.std.proofs.Common.{◌≡◌, ◌≤◌, ℕ, List, [], ◌∷◌, Bool, true, false, ◌||◌, ◌&&◌, ◌==◌, nat_le, nat_lt, codes, cond, refl, sym, ap, subst, ◌∙◌, Option, Some, None, arith, inl, inr}
 use Rattle.std.proofs.lemmas.Grind.{common_steps}
 use Rattle.std.specs.List.{list_any, list_all}
 use Rattle.std.proofs.lemmas.Bool.{and_parts, or_cases}
 use Rattle.ocr_text.specs.declared.token.TokenKind.{TokenKind}
 use Rattle.ocr_text.specs.declared.token.TokenKind.TheVariants as kind
-use Rattle.ocr_text.specs.Forms.{blanks, singles, is_blank, is_digit, is_letter, is_single, is_double, is_symbol, is_form}
+use Rattle.ocr_text.specs.Forms.{is_blank, is_digit, is_letter, is_single, is_double, is_symbol, is_form}
 use Rattle.ocr_text.specs.Scan.{kind_at}
 
 pub equal_from : (a b : ℕ) → (a == b) ≡ true → a ≡ b
@@ -35,6 +35,12 @@ not_listed low high b [] from to all = refl
 not_listed low high b (c ∷ cs) from to all =
     let other : (c == b) ≡ false = outside c low high b from to (and_parts _ _ all).0 in
     ap (λ (x : Bool). x || list_any (λ d. d == b) cs) other ∙ not_listed low high b cs from to (and_parts (nat_lt c low || nat_lt high c) _ all).1
+
+abbrev blanks : List ℕ
+blanks = codes " \t\r\n"
+
+abbrev pub singles : List ℕ
+singles = codes "!%&()*+,-/;<=>[]^{|}~"
 
 digit_range : (b : ℕ) → is_digit b ≡ true → (48 ≤ b) × (b ≤ 57)
 digit_range b is = (le_from 48 b (and_parts _ _ is).0, le_from b 57 (and_parts (nat_le 48 b) _ is).1)

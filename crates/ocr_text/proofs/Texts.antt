@@ -4,9 +4,9 @@ use Rattle.std.proofs.lemmas.List.{length-take-le}
 use Rattle.std.proofs.Math.ListN.{drop_of_length-le}
 use Rattle.ocr_text.specs.declared.token.TokenKind.{TokenKind}
 use Rattle.ocr_text.specs.declared.token.Token.{Token}
-use Rattle.ocr_text.specs.Tokens.{IsLongest, IsInRange, Tile, AreTokens, text_of}
+use Rattle.ocr_text.specs.Tokens.{IsLongest, Tile, AreTokens, text_of}
 use Rattle.ocr_text.specs.Laws.{TextsLaw}
-use Rattle.ocr_text.specs.Texts.{BeginWith, AreTexts, texts_of, Placed}
+use Rattle.ocr_text.specs.Texts.{IsInRange, BeginWith, AreTexts, texts_of, Placed}
 use Rattle.ocr_text.proofs.Laws.{found_longest, longest_found}
 
 text_length : (bytes : List ℕ) (place end : ℕ) (k : TokenKind) → IsLongest bytes place k end → length (take (end - place) (drop place bytes)) ≡ end - place

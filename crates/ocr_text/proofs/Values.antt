@@ -1,6 +1,6 @@
 -- The values of digits.
 use Rattle.std.proofs.Common.{◌+◌, ◌-◌, ◌*◌, ◌≤◌, ◌<◌, ℕ, List, [], ◌∷◌, length, get_or, arith}
-use Rattle.ocr_text.specs.Forms.{value_on}
+use Rattle.ocr_text.specs.Scan.{value_on}
 
 value_grows : (v : ℕ) (bs : List ℕ) → v ≤ value_on v bs
 value_grows v [] = omega arith

@@ -1,5 +1,5 @@
 -- The token at the front of some bytes, by its first byte.
-use Rattle.std.specs.Prelude.{◌+◌, ℕ, List, [], ◌∷◌, Bool, false, ◌||◌, ◌==◌, not, if◌then◌else◌, Option, Some, None}
+use Rattle.std.specs.Prelude.{◌+◌, ◌-◌, ◌*◌, ℕ, List, [], ◌∷◌, Bool, false, ◌||◌, ◌==◌, not, if◌then◌else◌, Option, Some, None, fold}
 use Rattle.ocr_text.specs.declared.token.TokenKind.{TokenKind}
 use Rattle.ocr_text.specs.declared.token.TokenKind.TheVariants as kind
 use Rattle.ocr_text.specs.Forms.{is_blank, is_digit, is_letter, is_single, is_double}
@@ -48,3 +48,7 @@ found_as (Some k) b bs = Some (k, rest_of k b bs + 1)
 abbrev pub found : List ℕ → Option (TokenKind × ℕ)
 found [] = None
 found (b ∷ bs) = found_as (kind_at b) b bs
+
+-- the value of digits that stand behind a number of this value
+abbrev pub value_on : ℕ → List ℕ → ℕ
+value_on v digits = fold (λ v b. 10 * v + (b - 48)) v digits

@@ -1,9 +1,15 @@
 -- The kinds and texts of tokens, without their places.
-use Rattle.std.specs.Prelude.{◌≡◌, ℕ, List, [], ◌∷◌, Some, length, take, drop, map}
-use Rattle.ocr_text.specs.Tokens.{IsInRange, text_of, Tile}
+use Rattle.std.specs.Prelude.{◌≡◌, ◌<◌, ◌^◌, ℕ, List, [], ◌∷◌, Some, length, take, drop, map}
+use Rattle.ocr_text.specs.Forms.{value_of}
+use Rattle.ocr_text.specs.Tokens.{text_of, Tile}
 use Rattle.ocr_text.specs.Scan.{found}
 use Rattle.ocr_text.specs.declared.token.TokenKind.{TokenKind}
+use Rattle.ocr_text.specs.declared.token.TokenKind.TheVariants as kind
 use Rattle.ocr_text.specs.declared.token.Token.{Token}
+
+-- a number is below 2 ^ 64
+abbrev pub IsInRange : TokenKind → List ℕ → Type 0
+IsInRange k piece = k ≡ kind.Number → value_of piece < 2 ^ 64
 
 -- these bytes begin with a token of this kind and text
 pub record BeginWith (bytes : List ℕ) (k : TokenKind) (piece : List ℕ) : Type 0 where

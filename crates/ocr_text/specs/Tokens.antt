@@ -21,13 +21,10 @@ IsNoToken bytes place =
 abbrev pub text_of : List ℕ → Token → List ℕ
 text_of bytes token = slice_range bytes token.start token.end
 
--- a number is below 2 ^ 64
-abbrev pub IsInRange : TokenKind → List ℕ → Type 0
-IsInRange k piece = k ≡ kind.Number → value_of piece < 2 ^ 64
-
+-- the longest match at its place, and a number below 2 ^ 64
 pub record IsToken (bytes : List ℕ) (token : Token) : Type 0 where
   pub longest : IsLongest bytes token.start token.kind token.end
-  pub in_range : IsInRange token.kind (text_of bytes token)
+  pub in_range : token.kind ≡ kind.Number → value_of (text_of bytes token) < 2 ^ 64
 
 -- these tokens adjoin, from the first place to the last one
 abbrev pub Tile : List ℕ → ℕ → List Token → ℕ → Type 0

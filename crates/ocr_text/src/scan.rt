@@ -2,7 +2,8 @@
 ghost use Rattle.std.specs.Prelude.{◌≡◌, ◌<◌, ◌≤◌, ◌+◌, ◌^◌, ◌↔◌, IfOk, IfErr, IfSome, IfNone, IsTrue, length, drop, slice_range};
 ghost use Rattle.std.specs.List.{list_all};
 ghost use Rattle.ocr_text.specs.Forms as form;
-ghost use Rattle.ocr_text.specs.Tokens.{AreTokens, IsFault, IsLongest, IsNoToken, IsInRange, text_of};
+ghost use Rattle.ocr_text.specs.Tokens.{AreTokens, IsFault, IsLongest, IsNoToken, text_of};
+ghost use Rattle.ocr_text.specs.Texts.{IsInRange};
 ghost use Rattle.ocr_text.specs.Scan as spec;
 ghost use Rattle.ocr_text.specs.Laws.{TokensLaw, TextsLaw};
 

@@ -16,12 +16,12 @@ tally_after-tally-requires c = within_limits _ _ _ _ _ c.loop-place.invariant
 
 pub returns-then-is_over : goal.returns-then-is_over
 returns-then-is_over c =
-    over_at _ _ _ _ _ _ _ c.loop-place.invariant c.loop-place-test.true (sym c.in_ok-lexeme.ensures ∙ c.in-Some.is)
+    over_at _ _ _ _ _ _ _ c.requires c.loop-place.invariant c.loop-place-test.true (sym c.in_ok-lexeme.ensures ∙ c.in-Some.is)
     (sym (ap limits.is_over c.tally_after-tally.ensures) ∙ sym c.is_over.ensures ∙ c.if-is_over.true)
 
 pub returns-in_default-2 : goal.returns-in_default-2
 returns-in_default-2 c =
-    stop_at _ _ _ _ _ _ _ c.loop-place.invariant c.loop-place-test.true (sym c.in_ok-lexeme.ensures ∙ c.in-Some.is)
+    stop_at _ _ _ _ _ _ _ c.requires c.loop-place.invariant c.loop-place-test.true (sym c.in_ok-lexeme.ensures ∙ c.in-Some.is)
     (sym c.in_ok-next.ensures ∙ ap state_if_any c.in_default-2.is)
 
 pub loop-place-preserved : goal.loop-place-preserved
@@ -31,7 +31,7 @@ loop-place-preserved c =
     (sym c.in_ok-next.ensures ∙ ap state_if_any c.in-Some-2.is) (sym (ap limits.is_over c.tally_after-tally.ensures) ∙ sym c.is_over.ensures ∙ c.if-is_over.false))
 
 pub returns-in-Some-finished : goal.returns-in-Some-finished
-returns-in-Some-finished c = tree_at_end _ _ _ _ _ _ c.loop-place.invariant (omega arith) (search rules)
+returns-in-Some-finished c = tree_at_end _ _ _ _ _ _ c.requires c.loop-place.invariant (omega arith) (search rules)
 
 pub returns-in-None : goal.returns-in-None
-returns-in-None c = fault_at_end _ _ _ _ _ c.loop-place.invariant (omega arith) (search rules)
+returns-in-None c = fault_at_end _ _ _ _ _ c.requires c.loop-place.invariant (omega arith) (search rules)

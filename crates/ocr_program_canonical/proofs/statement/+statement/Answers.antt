@@ -2,7 +2,8 @@ use Rattle.std.proofs.Common.{◌≡◌, ◌<◌, ◌++◌, ◌∙◌, sym, ap, 
 use Rattle.ocr_program_tree.specs.Tree.{Statement, While, If}
 use Rattle.ocr_program_tree.specs.declared.tree.Stmt.{Stmt}
 use Rattle.ocr_program_tree.specs.View.{expression_of, statement_of, statements_of}
-use Rattle.ocr_program_canonical.specs.Canonical.{expression_text, statement_text, statements_text, line, deeper}
+use Rattle.ocr_program_canonical.specs.Canonical.{expression_text, statement_text, statements_text, line}
+use Rattle.ocr_program_canonical.specs.Written.{deeper}
 use Rattle.ocr_program_canonical.proofs.Pieces.{three, five, on_ok}
 use Rattle.ocr_program_tree.proofs.Rows.{while_view, if_view}
 use Rattle.ocr_program_canonical.proofs.Blocks.{without_else, with_else}

@@ -1,6 +1,6 @@
 use Rattle.std.proofs.Common.{◌≡◌, ◌++◌, drop}
 use Rattle.ocr_program_tree.specs.View.{functions_of}
-use Rattle.ocr_program_canonical.specs.Canonical.{further_functions}
+use Rattle.ocr_program_canonical.specs.Written.{further_functions}
 use Rattle.ocr_program_canonical.proofs.statement.functions.Given as goal
 
 abbrev pub invariant-loop-other : goal.invariant-loop-other

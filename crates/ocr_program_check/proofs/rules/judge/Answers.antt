@@ -1,7 +1,8 @@
 use Rattle.std.proofs.Common.{◌≡◌, ◌≤◌, ◌∙◌, ℕ, List, length, take, true, false, refl, sym, ap, subst, arith}
 use Rattle.std.proofs.lemmas.List.{take_all, length-map}
 use Rattle.std.proofs.lemmas.Result.{err_from_is_err_and}
-use Rattle.ocr_program_check.specs.Check.{BreaksSome, FailsNowhere, is_among, names_of, no_main}
+use Rattle.ocr_program_check.specs.Check.{FailsNowhere, is_among, names_of, no_main}
+use Rattle.ocr_program_check.specs.Checked.{BreaksSome}
 use Rattle.ocr_program_tree.proofs.Named.{functions_named}
 use Rattle.ocr_program_tree.specs.Functions.{main_name}
 use Rattle.ocr_program_check.specs.Names.{knows}
@@ -9,14 +10,14 @@ use Rattle.ocr_program_tree.specs.View.{function_of, functions_of}
 use Rattle.ocr_program_tree.specs.declared.tree.Function.{Function}
 use Rattle.ocr_program_check.proofs.Kept.{keeps_named, keeps_short, named_within}
 use Rattle.ocr_program_check.proofs.First.{FailsNowhere-nil}
-use Rattle.ocr_program_check.proofs.Programs.{none_more, function_sound, walk_stops}
+use Rattle.ocr_program_check.proofs.Programs.{no_breach, none_more, function_sound, walk_stops}
 use Rattle.ocr_program_check.proofs.rules.judge.Goals as goal
 
 pub returns-then-not-contains-clause-err : goal.returns-then-not-contains-clause-err
 returns-then-not-contains-clause-err c =
     let missing : is_among main_name (names_of (functions_of c.args.functions.now)) ≡ false =
     sym (c.in_ok-names.ensures.names main_name) ∙ ap (λ (x : List ℕ). knows c.in_ok-names.names x) (sym c.main_name.ensures) ∙ sym c.contains.ensures ∙ c.if-not-contains.true in
-    no_main c.in_ok-names.ensures.distinct missing refl refl
+    no_main c.in_ok-names.ensures.distinct missing
 
 pub loop-i-init : goal.loop-i-init
 loop-i-init c = FailsNowhere-nil (BreaksSome (names_of (functions_of c.args.functions.now)))
@@ -35,12 +36,23 @@ loop-i-preserved c =
     none_more (BreaksSome (names_of (functions_of c.args.functions.now))) c.args.functions.now c.loop-i.i c.index-functions-i.result c.loop-i-test.true c.index-functions-i.is c.loop-i.invariant
     (λ b. function_sound (λ x. knows c.in_ok-names.names x) (names_of (functions_of c.args.functions.now)) c.in_ok-names.ensures.names (functions_of (take c.loop-i.i c.args.functions.now)) (function_of c.index-functions-i.result) c.in_ok-walk_function.ensures.ok b)
 
+-- what was kept of each function so far was kept of all, past the last
+all_sound : (fs : List Function) (i : ℕ) → length fs ≤ i → FailsNowhere (BreaksSome (names_of (functions_of fs))) (functions_of (take i fs))
+    → FailsNowhere (BreaksSome (names_of (functions_of fs))) (functions_of fs)
+all_sound fs i outside kept =
+    subst (λ (gs : List Function). FailsNowhere (BreaksSome (names_of (functions_of fs))) (functions_of gs)) (take_all i fs outside) kept
+
+pub returns-clause-ok : goal.returns-clause-ok
+returns-clause-ok c =
+    let fs : List Function = c.args.functions.now in
+    let main : is_among main_name (names_of (functions_of fs)) ≡ true =
+    sym (c.in_ok-names.ensures.names main_name) ∙ ap (λ (x : List ℕ). knows c.in_ok-names.names x) (sym c.main_name.ensures) ∙ sym c.contains.ensures ∙ c.if-not-contains.false in
+    no_breach (functions_of fs) c.in_ok-names.ensures.distinct main (all_sound fs c.loop-i.i (omega (arith, c.loop-i-test.false)) c.loop-i.invariant)
+
 pub returns-clause-runnable : goal.returns-clause-runnable
 returns-clause-runnable c =
     let fs : List Function = c.args.functions.now in
-    let outside : length fs ≤ c.loop-i.i = omega (arith, c.loop-i-test.false) in
-    let sound : FailsNowhere (BreaksSome (names_of (functions_of fs))) (functions_of fs) =
-    subst (λ (gs : List Function). FailsNowhere (BreaksSome (names_of (functions_of fs))) (functions_of gs)) (take_all c.loop-i.i fs outside) c.loop-i.invariant in
+    let sound = all_sound fs c.loop-i.i (omega (arith, c.loop-i-test.false)) c.loop-i.invariant in
     let main : is_among main_name (names_of (functions_of fs)) ≡ true =
     sym (c.in_ok-names.ensures.names main_name) ∙ ap (λ (x : List ℕ). knows c.in_ok-names.names x) (sym c.main_name.ensures) ∙ sym c.contains.ensures ∙ c.if-not-contains.false in
     record {

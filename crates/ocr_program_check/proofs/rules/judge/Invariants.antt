@@ -1,5 +1,6 @@
 use Rattle.std.proofs.Common.{take}
-use Rattle.ocr_program_check.specs.Check.{FailsNowhere, BreaksSome, names_of}
+use Rattle.ocr_program_check.specs.Check.{FailsNowhere, names_of}
+use Rattle.ocr_program_check.specs.Checked.{BreaksSome}
 use Rattle.ocr_program_tree.specs.View.{functions_of}
 use Rattle.ocr_program_check.proofs.rules.judge.Given as goal
 

@@ -1,6 +1,7 @@
 use Rattle.std.proofs.Common.{◌≡◌, length, true}
 use Rattle.std.specs.List.{list_all}
-use Rattle.ocr_text.specs.Forms.{is_digit, value_on, value_of}
+use Rattle.ocr_text.specs.Forms.{is_digit, value_of}
+use Rattle.ocr_text.specs.Scan.{value_on}
 use Rattle.ocr_text.proofs.scan.number_value.Given as goal
 
 abbrev pub invariant-loop-rest : goal.invariant-loop-rest

@@ -1,5 +1,6 @@
 use Rattle.std.proofs.Common.{sym, subst, ℕ, rules}
-use Rattle.ocr_text.specs.Tokens.{IsLongest, IsInRange, text_of}
+use Rattle.ocr_text.specs.Tokens.{IsLongest, text_of}
+use Rattle.ocr_text.specs.Texts.{IsInRange}
 use Rattle.ocr_text.proofs.Laws.{tile_on}
 use Rattle.ocr_text.proofs.scan.tokens.Goals as goal
 
