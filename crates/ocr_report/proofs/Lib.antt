@@ -1,4 +1,5 @@
 pub mod Counts
+pub mod Doomed
 pub mod Made
 pub mod Numbered
 pub mod Opened

@@ -62,7 +62,7 @@ lines_same f g same [] = refl
 lines_same f g same (t ∷ ts) =
     ap (λ slots. left_line t slots ++ left_lines f ts) (same t) ∙ ap (λ rest. left_line t (g t) ++ rest) (lines_same f g same ts)
 
-one_more : (a n j : ℕ) → a + n ≡ j → range_with_len a (suc n) ≡ range_with_len a n ++ j ∷ []
+pub one_more : (a n j : ℕ) → a + n ≡ j → range_with_len a (suc n) ≡ range_with_len a n ++ j ∷ []
 one_more a zero j e =
     let same : a ≡ j = omega (arith, e) in
     ap (λ (k : ℕ). k ∷ []) same

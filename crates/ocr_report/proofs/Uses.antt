@@ -4,8 +4,8 @@ use Rattle.ocr_machine_history.specs.declared.entry.Entry.{Entry}
 use Rattle.ocr_machine_history.specs.declared.entry.Entry.TheVariants as an
 use Rattle.ocr_machine_history.specs.History.{History}
 use Rattle.ocr_journal.specs.Phrase.{Text, phrase}
-use Rattle.ocr_report.specs.Destroyed.{is_destroyed, is_victim, victim_in, was_destroyed}
-use Rattle.ocr_report.specs.Stale.{stale_line, stale_lines, first_stale, objects_of}
+use Rattle.ocr_report.specs.Destroyed.{is_destroyed, is_victim, victim_in, was_destroyed, told_lines}
+use Rattle.ocr_report.specs.Stale.{stale_line, first_stale, objects_of}
 use Rattle.ocr_machine_history.specs.Stale.{is_stale}
 
 first_same : (f g : ℕ → Bool) → ((n : ℕ) → f n ≡ g n) → (ns : List ℕ) → first_stale f ns ≡ first_stale g ns
@@ -13,7 +13,7 @@ first_same f g same [] = refl
 first_same f g same (n ∷ ns) =
     ap (λ b. if b then n else first_stale f ns) (same n) ∙ ap (λ m. if g n then n else m) (first_same f g same ns)
 
-line_same : (f g : ℕ → Bool) → ((n : ℕ) → f n ≡ g n) → (e : Entry) → stale_line f e ≡ stale_line g e
+pub line_same : (f g : ℕ → Bool) → ((n : ℕ) → f n ≡ g n) → (e : Entry) → stale_line f e ≡ stale_line g e
 line_same f g same (an.Call t home c a w) =
     ap (λ n. if is_stale a.code then phrase (codes "call") (t ∷ n ∷ []) ++ 10 ∷ [] else []) (first_same f g same (objects_of c))
 line_same f g same (an.Deliver m c) = refl
@@ -26,9 +26,9 @@ line_same f g same (an.End t g') = refl
 line_same f g same (an.Stop why) = refl
 
 pub lines_next : (past : History) (e : Entry) (f : ℕ → Bool) (old new : Text) → ((n : ℕ) → f n ≡ is_destroyed past n)
-    → old ≡ stale_lines past → new ≡ old ++ stale_line f e → new ≡ stale_lines (e ∷ past)
+    → old ≡ told_lines past → new ≡ old ++ stale_line f e → new ≡ told_lines (e ∷ past)
 lines_next past e f old new same is made =
-    made ∙ ap (λ (x : Text). x ++ stale_line f e) is ∙ ap (λ (x : Text). stale_lines past ++ x) (line_same f (is_destroyed past) same e)
+    made ∙ ap (λ (x : Text). x ++ stale_line f e) is ∙ ap (λ (x : Text). told_lines past ++ x) (line_same f (is_destroyed past) same e)
 
 pub destroyed_next : (past : History) (e : Entry) (f g : ℕ → Bool) → ((n : ℕ) → f n ≡ was_destroyed past n)
     → ((n : ℕ) → g n ≡ (is_victim (victim_in e) n || f n)) → (n : ℕ) → g n ≡ was_destroyed (e ∷ past) n

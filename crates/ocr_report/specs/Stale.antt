@@ -7,10 +7,11 @@ use Rattle.ocr_machine_history.specs.declared.entry.Entry.{Entry}
 use Rattle.ocr_machine_history.specs.declared.entry.Entry.TheVariants as an
 use Rattle.ocr_machine_history.specs.declared.entry.What.{What}
 use Rattle.ocr_machine_history.specs.declared.entry.What.TheVariants as what
-use Rattle.ocr_machine_history.specs.History.{History}
+use Rattle.ocr_machine_history.specs.History.{History, Setting}
 use Rattle.ocr_machine_history.specs.Stale.{is_stale, stale_uses}
+use Rattle.ocr_machine_parts.specs.Parts.{parts_of}
+use Rattle.ocr_machine_parts.specs.Kinds.{is_destroyed}
 use Rattle.ocr_journal.specs.Phrase.{Text, phrase}
-use Rattle.ocr_report.specs.Destroyed.{is_destroyed}
 use Rattle.ocr_report.specs.Headed.{headed}
 
 -- the objects that a call names, in the order of its arguments
@@ -44,9 +45,10 @@ stale_line destroyed (an.StaleAcquire t d) = phrase (codes "acquire") (t ∷ d �
 stale_line destroyed other = []
 
 -- the lines of all uses, the oldest first
-abbrev pub stale_lines : History → Text
-stale_lines [] = []
-stale_lines (e ∷ past) = stale_lines past ++ stale_line (is_destroyed past) e
+abbrev pub stale_lines : Setting → History → Text
+stale_lines s [] = []
+stale_lines s (e ∷ past) =
+    stale_lines s past ++ stale_line (λ g. is_destroyed ((parts_of s past).face g)) e
 
-abbrev pub stale_text : History → Text
-stale_text past = headed (codes "stale") (length (stale_uses past)) (stale_lines past)
+abbrev pub stale_text : Setting → History → Text
+stale_text s past = headed (codes "stale") (length (stale_uses past)) (stale_lines s past)

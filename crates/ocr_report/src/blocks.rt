@@ -1,9 +1,11 @@
 // The blocks that were made.
 ghost use Rattle.std.specs.Prelude.{◌≡◌, ◌++◌, ◌≤◌, length, OnOk, IfOk};
+ghost use Rattle.std.specs.List.{flat_map};
 ghost use Rattle.ocr_datablock.specs.Block.{is_gone};
 ghost use Rattle.ocr_worker_machine.specs.Ocr.{setting_in};
 ghost use Rattle.ocr_machine_history.specs.History.{history_of};
 ghost use Rattle.ocr_machine_parts.specs.Kinds.{is_block};
+ghost use Rattle.ocr_machine_parts.specs.declared.part.Part.TheVariants as part;
 ghost use Rattle.ocr_machine_parts.specs.Legal.{IsRun};
 ghost use Rattle.ocr_report.specs.Blocks as spec;
 ghost use Rattle.ocr_machine_state.specs.State.{face_on};
@@ -54,7 +56,7 @@ fn state_words(block: &Block) -> &'static [u8]
 // Writes the line of a block.
 fn block_line(text: &mut Vec<u8>, number: u64, block: &Block) -> Result<(), NoMemory>
     ensures { OnOk result (text.new.items
-        ≡ text.old.items ++ spec.block_line number block.now) }
+        ≡ text.old.items ++ spec.block_line number (part.Block block.now)) }
 {
     phrase(text, b"block", &[number])?;
     phrase(text, b" words", &[u64::from(block.words())])?;
@@ -64,7 +66,7 @@ fn block_line(text: &mut Vec<u8>, number: u64, block: &Block) -> Result<(), NoMe
 // Writes the line of an object, where it is a block.
 fn line_of(text: &mut Vec<u8>, table: &State, object: u64) -> Result<(), NoMemory>
     ensures { OnOk result (text.new.items
-        ≡ text.old.items ++ spec.line_of object (face_on table.now object)) }
+        ≡ text.old.items ++ spec.block_line object (face_on table.now object)) }
 {
     match table.face(object) {
         Some(Part::Block(block)) => block_line(text, object, block.get()),
@@ -74,7 +76,7 @@ fn line_of(text: &mut Vec<u8>, table: &State, object: u64) -> Result<(), NoMemor
 
 fn block_lines(alloc: Global, table: &State, blocks: &[u64]) -> Result<Vec<u8>, NoMemory>
     ensures { IfOk result (λ text.
-        text.items ≡ spec.block_lines (face_on table.now) blocks.now) }
+        text.items ≡ flat_map (λ d. spec.block_line d (face_on table.now d)) blocks.now) }
 {
     let mut text = Vec::new(alloc);
     for block in blocks {

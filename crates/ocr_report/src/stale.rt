@@ -1,7 +1,9 @@
 // The uses of destroyed objects.
 ghost use Rattle.std.specs.Prelude.{◌≡◌, ◌++◌, [], ◌∷◌, length, OnOk, IfOk};
-ghost use Rattle.ocr_machine_history.specs.History.{history_of};
+ghost use Rattle.ocr_machine_history.specs.History.{Setting, history_of};
 ghost use Rattle.ocr_machine_history.specs.Stale as history;
+ghost use Rattle.ocr_machine_parts.specs.Legal.{IsRun};
+ghost use Rattle.ocr_report.specs.Destroyed as destroyed;
 ghost use Rattle.ocr_report.specs.Ends.{is_ended};
 ghost use Rattle.ocr_report.specs.Stale as spec;
 
@@ -105,17 +107,29 @@ fn stale_line(text: &mut Vec<u8>, ends: &Ends, entry: &Entry) -> Result<(), NoMe
     }
 }
 
-/// The report on the uses of destroyed objects: how many there are, and for each who used what.
-/// NoMemory where memory is refused.
-pub fn stale_text(alloc: Global, journal: &Journal) -> Result<Vec<u8>, NoMemory>
-    ensures { IfOk result (λ text. text.items ≡ spec.stale_text (history_of journal.now)) }
+// The lines of the uses, the oldest first.
+fn stale_lines(alloc: Global, entries: &[Entry]) -> Result<Vec<u8>, NoMemory>
+    ensures { IfOk result (λ text. text.items ≡ destroyed.told_lines (history_of entries.now)) }
 {
-    let entries = journal.entries();
     let mut ends = Ends::new(alloc);
     let mut lines = Vec::new(alloc);
     for entry in entries {
         stale_line(&mut lines, &ends, entry)?;
         ends.note(entry)?;
     }
-    headed(alloc, b"stale", stale_count(entries), &lines)
+    Ok(lines)
+}
+
+/// The report on the uses of destroyed objects: how many there are, and for each who used what. In
+/// a run an object is destroyed if the machine's part of it is. NoMemory where memory is refused.
+pub fn stale_text(alloc: Global, journal: &Journal) -> Result<Vec<u8>, NoMemory>
+    ensures told { IfOk result (λ text.
+        text.items ≡ destroyed.told_text (history_of journal.now)) }
+    ensures run { IfOk result (λ text. (s : Setting) → IsRun s (history_of journal.now)
+        → text.items ≡ spec.stale_text s (history_of journal.now)) }
+{
+    let entries = journal.entries();
+    let lines = stale_lines(alloc, entries)?;
+    let text = headed(alloc, b"stale", stale_count(entries), &lines)?;
+    Ok(text)
 }

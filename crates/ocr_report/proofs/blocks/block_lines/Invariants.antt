@@ -1,7 +1,9 @@
 use Rattle.std.proofs.Common.{◌≡◌, take}
-use Rattle.ocr_report.specs.Blocks.{block_lines}
+use Rattle.std.specs.List.{flat_map}
+use Rattle.ocr_report.specs.Blocks.{block_line}
 use Rattle.ocr_machine_state.specs.State.{face_on}
 use Rattle.ocr_report.proofs.blocks.block_lines.Given as goal
 
 abbrev pub invariant-loop-block : goal.invariant-loop-block
-invariant-loop-block l = l.text.items ≡ block_lines (face_on l.table) (take l.block-index l.blocks)
+invariant-loop-block l =
+    l.text.items ≡ flat_map (λ d. block_line d (face_on l.table d)) (take l.block-index l.blocks)
