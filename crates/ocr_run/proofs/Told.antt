@@ -1,22 +1,25 @@
 -- Lines on `err`.
-use Rattle.std.proofs.Common.{rules, arith, ◌∙◌, ap, ◌∷◌, Bool, true, false, ◌||◌, ◌==◌, ◌↔◌, ◌≡◌, ◌≢◌, sym, subst, ◌⊎◌, inl, inr, ℕ, List, [], take, Option, Some, None, refl}
+use Rattle.std.proofs.Common.{rules, arith, ◌∙◌, ap, ◌∷◌, Bool, true, false, ◌||◌, ◌==◌, ◌↔◌, ◌≡◌, ◌≢◌, ◌<◌, ◌≤◌, length, length-append, sym, subst, ◌⊎◌, inl, inr, ℕ, List, [], take, Option, Some, None, refl}
 use Rattle.std.proofs.lemmas.Bool.{eqb-true, or_cases}
-use Rattle.std.proofs.lemmas.List.{length-map}
 use Rattle.std.specs.Prelude.{IfSome, IfNone, IsSome, IsNone}
 use Rattle.std.specs.Io.KnownBytes.{Appends, Keeps}
 use Rattle.std.proofs.lemmas.Grind.{common_steps}
 use Rattle.ocr_machine_history.specs.declared.entry.Entry.{Entry}
 use Rattle.ocr_machine_history.specs.History.{history_of}
 use Rattle.ocr_machine_history.specs.Output.{ending_of}
-use Rattle.ocr_run_command.specs.Wanted.{IsAsked, given_in, value}
+use Rattle.ocr_run_command.specs.Wanted.{IsAsked, IsOr}
+use Rattle.ocr_run_command.specs.declared.wanted.Options.{Options}
 use Rattle.ocr_run_command.specs.declared.wanted.Wanted.{Wanted}
 use Rattle.ocr_run_command.specs.declared.wanted.Wanted.TheVariants as want
 use Rattle.ocr_run_execution.specs.declared.text.TextFault.{TextFault}
 use Rattle.ocr_run_execution.specs.Lines.{ending_line}
-use Rattle.ocr_run.specs.Headline as headline
 use Rattle.ocr_run_execution.specs.Ending.{IsMet, shut_down, stuck, aborted, faulted, out_of_memory, limited}
-use Rattle.ocr_run.specs.Wants.{IsServable, IsAnsweredAs, IsReadAs}
-use Rattle.ocr_run.specs.Headline.{IsHeadline, IsCheck, IsTold, IsStatus, IsStatusOf, IsCaused, IsWritten, whole, front, nothing, CameTo, is_silent, ran, refused, no_program, read_failed, write_failed, IsAllOf, IsLine, of_run, of_check, words_refused, text_too_big, text_refused, read_fault, write_fault, want_of_memory}
+use Rattle.ocr_run.specs.Wants.{IsServable, IsLoad, IsTextFor, IsAnsweredAs, IsReadAs}
+use Rattle.ocr_program_tree.specs.Tree.{FunctionTree}
+use Rattle.ocr_program_load.specs.LoadText.{load_text}
+use Rattle.ocr_run_execution.specs.ProgramText.{IsProgramText, IsNoProgram, most_bytes}
+use Rattle.ocr_run_execution.proofs.Texts.{loaded_program, text_law}
+use Rattle.ocr_run.specs.Headline.{IsHeadline, of_source, of_number, IsAnswered, IsCheck, HasProgram, HasNoProgram, IsFirstFault, IsTooBig, IsTold, IsStatus, IsStatusOf, IsCaused, IsWritten, whole, front, nothing, CameTo, is_silent, IsAllOf, IsLine, of_run, of_check, words_refused, text_too_big, text_refused, read_fault, write_fault, want_of_memory}
 
 -- a line that was written whole, or a front of it
 pub told_whole : (old new : Option (List ℕ)) (fault : Type 0) (line : List ℕ) → Appends old new line → IsTold old new fault line
@@ -50,17 +53,17 @@ weaker_line A B C D journal status line f h want_of_memory = want_of_memory
 pub line_at : (A : Type 0) (B : TextFault → Type 0) (journal : Option (List Entry)) (n status : ℕ) (line : List ℕ) → status ≡ n → IsLine A B journal n line → IsLine A B journal status line
 line_at A B journal n status line is known = subst (λ (m : ℕ). IsLine A B journal m line) (sym is) known
 
-pub status_at : (n status : ℕ) → status ≡ n → IsStatus n → IsStatus status
-status_at n status is known = subst IsStatus (sym is) known
+status_at : (n status : ℕ) → status ≡ n → 2 ≤ n → n ≤ 10 → IsStatus status
+status_at n status is least most = inr (omega (arith, is, least), omega (arith, is, most))
 
--- the statuses of runs, but for want of memory
+-- the statuses of runs
 pub met_status : (status : ℕ) → IsMet status → IsStatus status
-met_status status shut_down = ran
-met_status status stuck = headline.stuck
-met_status status aborted = headline.aborted
-met_status status faulted = headline.faulted
-met_status status out_of_memory = headline.out_of_memory
-met_status status limited = headline.limited
+met_status status shut_down = inl refl
+met_status status stuck = inr (omega arith, omega arith)
+met_status status aborted = inr (omega arith, omega arith)
+met_status status faulted = inr (omega arith, omega arith)
+met_status status out_of_memory = inr (omega arith, omega arith)
+met_status status limited = inr (omega arith, omega arith)
 
 silent_cases : (n : ℕ) → is_silent n ≡ true → (n ≡ 2) ⊎ ((n ≡ 3) ⊎ ((n ≡ 7) ⊎ (n ≡ 9)))
 silent_cases n is = elim (or_cases (n == 2) ((n == 3) || ((n == 7) || (n == 9))) is) [
@@ -77,10 +80,10 @@ silent_cases n is = elim (or_cases (n == 2) ((n == 3) || ((n == 7) || (n == 9)))
 -- the statuses with which nothing is written
 pub silent_status : (status : ℕ) → is_silent status ≡ true → IsStatus status
 silent_status status is = elim (silent_cases status is) [
-  | inl two ↦ status_at 2 status two refused
-  | inr (inl three) ↦ status_at 3 status three no_program
-  | inr (inr (inl seven)) ↦ status_at 7 status seven read_failed
-  | inr (inr (inr nine)) ↦ status_at 9 status nine headline.out_of_memory
+  | inl two ↦ status_at 2 status two (omega arith) (omega arith)
+  | inr (inl three) ↦ status_at 3 status three (omega arith) (omega arith)
+  | inr (inr (inl seven)) ↦ status_at 7 status seven (omega arith) (omega arith)
+  | inr (inr (inr nine)) ↦ status_at 9 status nine (omega arith) (omega arith)
 ]
 
 -- none of them is that of a run
@@ -194,35 +197,111 @@ checked_caused check None status one none is = record {
 checked_caused check (Some entries) status one none is = cc none
 
 pub checked_status : (status : ℕ) → (status ≡ 0) ⊎ ((status ≡ 3) ⊎ ((status ≡ 8) ⊎ (status ≡ 9))) → IsStatus status
-checked_status status (inl is) = status_at 0 status is ran
-checked_status status (inr (inl is)) = status_at 3 status is no_program
-checked_status status (inr (inr (inl is))) = status_at 8 status is headline.write_failed
-checked_status status (inr (inr (inr is))) = status_at 9 status is headline.out_of_memory
+checked_status status (inl is) = inl is
+checked_status status (inr (inl is)) = status_at 3 status is (omega arith) (omega arith)
+checked_status status (inr (inr (inl is))) = status_at 8 status is (omega arith) (omega arith)
+checked_status status (inr (inr (inr is))) = status_at 9 status is (omega arith) (omega arith)
 
 -- THE WORDS
+is_within : (default least most : ℕ) (o : Option (List ℕ)) (n : ℕ) → least ≤ default → default ≤ most → IsOr default least most o n → (least ≤ n) × (n ≤ most)
+is_within default least most None n from to is = (omega (arith, is, from), omega (arith, is, to))
+is_within default least most (Some t) n from to is = (is.from, is.to)
+
 pub servable : (words : List (List ℕ)) (wanted : Wanted) → IsAsked words wanted → IsServable wanted
 servable [] wanted asked = absurd asked
 servable (command ∷ rest) (want.Run options args) (line, of, (is, run)) =
     let o = run.options_are in (
-      rw (run.args_are, length-map (given_in line).numbers value) run.few,
-      record { workers = (o.workers_from, o.workers_to); objects = (o.objects_from, o.objects_to); events = (o.events_from, o.events_to) },
+      run.few,
+      record {
+        workers = is_within 4 1 64 _ options.workers (omega arith) (omega arith) o.workers;
+        objects = is_within 4096 2 65536 _ options.objects (omega arith) (omega arith) o.objects;
+        events = is_within 200000 1 16000000 _ options.events (omega arith) (omega arith) o.events;
+      },
     )
 servable (command ∷ rest) want.Check asked = tt
-servable (command ∷ rest) (want.Load number options) (line, of, (is, load)) = load.not_built
+servable (command ∷ rest) (want.Load number options) (line, of, (is, load)) = (
+  load.number_is.to,
+  record {
+    workers = is_within 4 1 64 _ options.workers (omega arith) (omega arith) load.workers;
+    objects = (omega (arith, load.objects), omega (arith, load.objects));
+    events = (omega (arith, load.events), omega (arith, load.events));
+  },
+)
 
 pub headline_of : (words : List (List ℕ)) (wanted : Wanted) (left_old left_new old new : Option (List ℕ)) (fault : Type 0) (status : ℕ) (journal : Option (List Entry)) → IsAsked words wanted
     → IfSome journal (IsReadAs wanted left_old left_new old new fault status) → IfSome journal (IsHeadline words left_old left_new old new fault status)
 headline_of words wanted left_old left_new old new fault status None asked run = tt
-headline_of words (want.Run options args) left_old left_new old new fault status (Some entries) asked run = record { options = options; args = args; asked = asked; run = run }
-headline_of words want.Check left_old left_new old new fault status (Some entries) asked run = absurd run
-headline_of words (want.Load number options) left_old left_new old new fault status (Some entries) asked run = absurd run
+headline_of words (want.Run options args) left_old left_new old new fault status (Some entries) asked run = of_source options args run.bytes asked run.text run.answered
+headline_of words want.Check left_old left_new old new fault status (Some entries) asked run = absurd run.answered
+headline_of words (want.Load number options) left_old left_new old new fault status (Some entries) asked run =
+    of_number number options asked (subst (λ (bytes : List ℕ). IsAnswered options [] bytes old new fault status entries) run.text run.answered)
 
-pub read_as : (wanted : Wanted) (bytes : List ℕ) (left_old left_new old new : Option (List ℕ)) (fault : Type 0) (status : ℕ) (journal : Option (List Entry)) → IsAllOf left_old left_new bytes
+pub read_as : (wanted : Wanted) (bytes : List ℕ) (left_old left_new old new : Option (List ℕ)) (fault : Type 0) (status : ℕ) (journal : Option (List Entry)) → IsTextFor wanted left_old left_new bytes
     → IfSome journal (IsAnsweredAs wanted bytes old new fault status) → IfSome journal (IsReadAs wanted left_old left_new old new fault status)
-read_as wanted bytes left_old left_new old new fault status None all run = tt
-read_as (want.Run options args) bytes left_old left_new old new fault status (Some entries) all run = record { bytes = bytes; read = all; answered = run }
-read_as want.Check bytes left_old left_new old new fault status (Some entries) all run = absurd run
-read_as (want.Load number options) bytes left_old left_new old new fault status (Some entries) all run = absurd run
+read_as wanted bytes left_old left_new old new fault status None text run = tt
+read_as wanted bytes left_old left_new old new fault status (Some entries) text run = record { bytes = bytes; text = text; answered = run }
+
+-- THE BYTES OF THE PROGRAM
+-- a check reads them
+pub checked_text : (wanted : Wanted) (left_old left_new : Option (List ℕ)) (bytes : List ℕ) → IsCheck wanted → IsTextFor wanted left_old left_new bytes → IsAllOf left_old left_new bytes
+checked_text (want.Run options args) left_old left_new bytes check text = absurd check
+checked_text want.Check left_old left_new bytes check text = text
+checked_text (want.Load number options) left_old left_new bytes check text = absurd check
+
+-- the text of a number is a program
+loaded : (number : ℕ) → number ≤ 500 → (program : List FunctionTree) × IsProgramText (load_text number) program
+loaded number few = loaded_program number (omega (arith, few))
+
+-- there are such bytes
+pub program_for : (wanted : Wanted) (left_old left_new : Option (List ℕ)) (bytes : List ℕ) → IsServable wanted → IsTextFor wanted left_old left_new bytes → HasProgram wanted left_old
+    → (program : List FunctionTree) × IsProgramText bytes program
+program_for (want.Run options args) None left_new bytes bounds text has = absurd has
+program_for (want.Run options args) (Some told) left_new bytes bounds text has = (has.0, subst (λ (b : List ℕ). IsProgramText b has.0) (sym text.0) has.1)
+program_for want.Check None left_new bytes bounds text has = absurd has
+program_for want.Check (Some told) left_new bytes bounds text has = (has.0, subst (λ (b : List ℕ). IsProgramText b has.0) (sym text.0) has.1)
+program_for (want.Load number options) left_old left_new bytes bounds text has =
+    let program = loaded number bounds.0 in (program.0, subst (λ (b : List ℕ). IsProgramText b program.0) (sym text) program.1)
+
+none_of : (bytes told : List ℕ) → bytes ≡ told → length bytes ≤ most_bytes → (most_bytes < length told) ⊎ ((found : TextFault) × IsNoProgram told found) → (found : TextFault) × IsNoProgram bytes found
+none_of bytes told is short (inl long) = absurd (omega (arith, ap length is, short, long))
+none_of bytes told is short (inr none) = (none.0, subst (λ (b : List ℕ). IsNoProgram b none.0) (sym is) none.1)
+
+-- there are none
+pub no_program_for : (wanted : Wanted) (left_old left_new : Option (List ℕ)) (bytes : List ℕ) → IsTextFor wanted left_old left_new bytes → length bytes ≤ most_bytes → HasNoProgram wanted left_old
+    → (found : TextFault) × IsNoProgram bytes found
+no_program_for (want.Run options args) None left_new bytes text short has = absurd has
+no_program_for (want.Run options args) (Some told) left_new bytes text short has = none_of bytes told text.0 short has
+no_program_for want.Check None left_new bytes text short has = absurd has
+no_program_for want.Check (Some told) left_new bytes text short has = none_of bytes told text.0 short has
+no_program_for (want.Load number options) left_old left_new bytes text short has = absurd has
+
+-- bytes that are no program are those of the source
+pub first_fault : (wanted : Wanted) (left_old left_new : Option (List ℕ)) (bytes : List ℕ) (found : TextFault) → IsServable wanted → IsTextFor wanted left_old left_new bytes → length bytes ≤ most_bytes
+    → IsNoProgram bytes found → IsFirstFault left_old left_new found
+first_fault (want.Run options args) left_old left_new bytes found bounds text short none = record { bytes = bytes; read = text; size = short; no_program = none }
+first_fault want.Check left_old left_new bytes found bounds text short none = record { bytes = bytes; read = text; size = short; no_program = none }
+first_fault (want.Load number options) left_old left_new bytes found bounds text short none =
+    let program = program_for (want.Load number options) left_old left_new bytes bounds text tt in absurd (text_law.apart bytes program.0 found program.1 none)
+
+-- the text of a number is no bytes that are no program
+pub loaded_none : (wanted : Wanted) (left_old left_new : Option (List ℕ)) (bytes : List ℕ) (found : TextFault) → IsLoad wanted → IsServable wanted → IsTextFor wanted left_old left_new bytes
+    → IsNoProgram bytes found → ⊥
+loaded_none (want.Run options args) left_old left_new bytes found load bounds text none = load
+loaded_none want.Check left_old left_new bytes found load bounds text none = load
+loaded_none (want.Load number options) left_old left_new bytes found load bounds text none =
+    let program = program_for (want.Load number options) left_old left_new bytes bounds text tt in text_law.apart bytes program.0 found program.1 none
+
+-- a source with more bytes than a program has
+too_long : (told : List ℕ) (left_new : Option (List ℕ)) (given_old given_new : ℕ) → IsTooBig (Some told) left_new given_old given_new → most_bytes < length told
+too_long told None given_old given_new big = absurd big.front
+too_long told (Some rest) given_old given_new big = omega (arith, big.count, ap length big.front, length-append big.bytes rest)
+
+pub too_big_none : (wanted : Wanted) (left_old left_new : Option (List ℕ)) (given_old given_new : ℕ) → (IsLoad wanted → ⊥) → HasProgram wanted left_old → IsTooBig left_old left_new given_old given_new → ⊥
+too_big_none (want.Run options args) None left_new given_old given_new unloaded has big = has
+too_big_none (want.Run options args) (Some told) left_new given_old given_new unloaded has big = omega (arith, has.1.size, too_long told left_new given_old given_new big)
+too_big_none want.Check None left_new given_old given_new unloaded has big = has
+too_big_none want.Check (Some told) left_new given_old given_new unloaded has big = omega (arith, has.1.size, too_long told left_new given_old given_new big)
+too_big_none (want.Load number options) left_old left_new given_old given_new unloaded has big = unloaded tt
 
 -- a check is wanted where the words ask for one
 pub check_of : (words : List (List ℕ)) (wanted : Wanted) → ((other : Wanted) → IsAsked words other → other ≡ wanted) → IsAsked words want.Check → IsCheck wanted
@@ -294,3 +373,7 @@ given_of words wanted (Some entries) status asked none is = inl refl
 given_of words want.Check None status asked none is = inr asked
 given_of words (want.Run options args) None status asked none is = absurd (loud status is (none (λ a. a)))
 given_of words (want.Load number options) None status asked none is = absurd (loud status is (none (λ a. a)))
+
+-- the text of a number is the text for it
+pub text_of_load : (wanted : Wanted) (number : ℕ) (options : Options) (left_old left_new : Option (List ℕ)) (bytes : List ℕ) → wanted ≡ want.Load number options → bytes ≡ load_text number → IsTextFor wanted left_old left_new bytes
+text_of_load wanted number options left_old left_new bytes is text = subst (λ (w : Wanted). IsTextFor w left_old left_new bytes) (sym is) text

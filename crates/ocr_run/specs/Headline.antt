@@ -1,5 +1,5 @@
 -- The headline: the bytes written are the output of the run's own journal, which is a run of the
--- machine on the program that the bytes read are.
+-- machine on the program that was asked for.
 use Rattle.std.specs.Prelude.{◌≡◌, ◌≢◌, ◌⊎◌, ◌<◌, ◌≤◌, ◌+◌, ◌↔◌, ◌==◌, ◌||◌, ℕ, Bool, List, [], length, take, Option, Some, None, codes}
 use Rattle.std.specs.Io.KnownBytes.{Appends, Keeps}
 use Rattle.ocr_io.specs.Source.{Took}
@@ -11,6 +11,7 @@ use Rattle.ocr_run_command.specs.Wanted.{IsAsked}
 use Rattle.ocr_run_command.specs.declared.wanted.Options.{Options}
 use Rattle.ocr_run_command.specs.declared.wanted.Wanted.{Wanted}
 use Rattle.ocr_run_command.specs.declared.wanted.Wanted.TheVariants as want
+use Rattle.ocr_program_load.specs.LoadText.{load_text}
 use Rattle.ocr_run_execution.specs.declared.text.TextFault.{TextFault}
 use Rattle.ocr_run_execution.specs.Executed.{IsExecuted}
 use Rattle.ocr_run_execution.specs.Lines.{ending_line, fault_line}
@@ -38,21 +39,17 @@ pub record IsAnswered (options : Options) (args bytes : List ℕ) (out_old out_n
   pub executed : IsExecuted options args bytes journal text ending
   pub written : IsWritten out_old out_new fault text ending status
 
--- all bytes of the source were read, and the output of the journal that they give was written
-pub record IsRead (options : Options) (args : List ℕ)
-    (left_old left_new out_old out_new : Option (List ℕ)) (fault : Type 0) (status : ℕ)
-    (journal : List Entry) : Type 0 where
-  pub bytes : List ℕ
-  pub read : IsAllOf left_old left_new bytes
-  pub answered : IsAnswered options args bytes out_old out_new fault status journal
-
--- the words ask for a run, and this is it
-pub record IsHeadline (words : List (List ℕ)) (left_old left_new out_old out_new : Option (List ℕ))
+-- THE HEADLINE: the words ask for a run, of the program that all bytes of the source are, or of the
+-- one that `load` has for a number; and this is it
+pub data IsHeadline (words : List (List ℕ)) (left_old left_new out_old out_new : Option (List ℕ))
     (fault : Type 0) (status : ℕ) (journal : List Entry) : Type 0 where
-  pub options : Options
-  pub args : List ℕ
-  pub asked : IsAsked words (want.Run options args)
-  pub run : IsRead options args left_old left_new out_old out_new fault status journal
+  of_source : (options : Options) (args bytes : List ℕ) → IsAsked words (want.Run options args)
+      → IsAllOf left_old left_new bytes
+      → IsAnswered options args bytes out_old out_new fault status journal
+      → IsHeadline words left_old left_new out_old out_new fault status journal
+  of_number : (number : ℕ) (options : Options) → IsAsked words (want.Load number options)
+      → IsAnswered options [] (load_text number) out_old out_new fault status journal
+      → IsHeadline words left_old left_new out_old out_new fault status journal
 
 -- the canonical text of these bytes was written
 pub record IsCopied (bytes : List ℕ) (out_old out_new : Option (List ℕ)) (fault : Type 0)
@@ -83,15 +80,26 @@ AreRefused words = (wanted : Wanted) → IsAsked words wanted → ⊥
 
 -- a check is wanted
 abbrev pub IsCheck : Wanted → Type 0
-IsCheck (want.Run options args) = ⊥
 IsCheck want.Check = Unit {0}
-IsCheck (want.Load number options) = ⊥
+IsCheck other = ⊥
+
+-- there is a program: the source tells bytes that are one, or `load` has it
+abbrev pub HasProgram : Wanted → Option (List ℕ) → Type 0
+HasProgram (want.Load number options) left = Unit {0}
+HasProgram other None = ⊥
+HasProgram other (Some bytes) = (program : List FunctionTree) × IsProgramText bytes program
+
+-- there is none: the source tells bytes that are refused, as too many or as no program
+abbrev pub HasNoProgram : Wanted → Option (List ℕ) → Type 0
+HasNoProgram (want.Load number options) left = ⊥
+HasNoProgram other None = ⊥
+HasNoProgram other (Some bytes) =
+    (most_bytes < length bytes) ⊎ ((found : TextFault) × IsNoProgram bytes found)
 
 -- what is wanted came to its end with this status
 abbrev pub IsComplete : Wanted → Option (List Entry) → ℕ → Type 0
-IsComplete (want.Run options args) journal status = CameTo journal status
 IsComplete want.Check journal status = status ≡ 0
-IsComplete (want.Load number options) journal status = CameTo journal status
+IsComplete other journal status = CameTo journal status
 
 -- the statuses of runs come exactly from their ends: quiet or a shutdown, quiet with EDTs left, an
 -- abort, a fault in a body, a limit
@@ -113,10 +121,6 @@ pub record IsFirstFault (left_old left_new : Option (List ℕ)) (found : TextFau
   pub read : IsAllOf left_old left_new bytes
   pub size : length bytes ≤ most_bytes
   pub no_program : IsNoProgram bytes found
-
--- bytes are refused: they are too many, or no program
-abbrev pub IsRefusedText : List ℕ → Type 0
-IsRefusedText bytes = (most_bytes < length bytes) ⊎ ((found : TextFault) × IsNoProgram bytes found)
 
 -- the line that goes with a status
 pub data IsLine (too_big : Type 0) (is_fault : TextFault → Type 0)
@@ -140,17 +144,8 @@ pub record IsTold (old new : Option (List ℕ)) (fault : Type 0) (line : List �
   pub front : (told ≡ line) ⊎ (fault × ((n : ℕ) × (told ≡ take n line)))
 
 -- the statuses
-pub data IsStatus : ℕ → Type 0 where
-  ran : IsStatus 0
-  refused : IsStatus 2
-  no_program : IsStatus 3
-  stuck : IsStatus 4
-  aborted : IsStatus 5
-  faulted : IsStatus 6
-  read_failed : IsStatus 7
-  write_failed : IsStatus 8
-  out_of_memory : IsStatus 9
-  limited : IsStatus 10
+abbrev pub IsStatus : ℕ → Type 0
+IsStatus n = (n ≡ 0) ⊎ ((2 ≤ n) × (n ≤ 10))
 
 -- the statuses with which nothing is written
 abbrev pub is_silent : ℕ → Bool

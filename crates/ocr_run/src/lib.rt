@@ -9,6 +9,6 @@ pub use ocr_machine_laws::{
 };
 pub use ocr_machine_parts::{block_laws, event_laws, machine_laws, run_laws, settled_laws};
 pub use ocr_memory_model_order::order_laws;
-pub use ocr_run_command::{Options, Reports, Wanted, WordsStop, command};
-pub use ocr_run_execution::{Gate, Merged, NoGate, TextFault, text_laws};
+pub use ocr_run_command::{Options, Reports, Wanted, WordsStop, command, words_law};
+pub use ocr_run_execution::{Gate, Merged, NoGate, TextFault, load_laws, load_text, text_laws};
 pub use top::{Ended, ocr_main};

@@ -1,5 +1,5 @@
 // The top call.
-ghost use Rattle.std.specs.Prelude.{◌≡◌, ◌≢◌, ◌⊎◌, ◌+◌, ◌<◌, ◌≤◌, ◌^◌, true, IfSome, IfNone, IsSome, IsNone, length, List, ℕ, Option, Some};
+ghost use Rattle.std.specs.Prelude.{◌≡◌, ◌≢◌, ◌⊎◌, ◌+◌, ◌<◌, ◌≤◌, ◌^◌, ◌↔◌, true, IfOk, IfErr, IsErrOf, IfSome, IfNone, IsSome, IsNone, length, List, ℕ, Option, Some, Err};
 ghost use Rattle.std.specs.Io.KnownBytes.{Keeps};
 ghost use Rattle.ocr_base.specs.Count.{Rose};
 ghost use Rattle.ocr_program_tree.specs.Tree.{FunctionTree};
@@ -11,13 +11,13 @@ ghost use Rattle.ocr_run_execution.specs.Ending.{IsMet};
 ghost use Rattle.ocr_run_execution.specs.Executed.{AreWithin};
 ghost use Rattle.ocr_run_execution.specs.Lines.{ending_line};
 ghost use Rattle.ocr_run_execution.specs.ProgramText.{IsProgramText, IsNoProgram, most_bytes};
-ghost use Rattle.ocr_run.specs.Headline.{IsHeadline, IsAnswered, IsCopied, IsCheckedText, IsWritten, IsCheck, IsComplete, IsCaused, CameTo, AreRefused, IsTooBig, IsFirstFault, IsRefusedText, IsLine, IsTold, IsStatus, is_silent};
-ghost use Rattle.ocr_run.specs.Wants.{IsServable, IsAnsweredAs, IsReadAs};
+ghost use Rattle.ocr_run.specs.Headline.{IsHeadline, IsAnswered, IsCopied, IsCheckedText, IsWritten, IsCheck, IsComplete, IsCaused, CameTo, AreRefused, IsTooBig, IsFirstFault, HasProgram, HasNoProgram, IsLine, IsTold, IsStatus, is_silent};
+ghost use Rattle.ocr_run.specs.Wants.{IsServable, IsLoad, IsTextFor, IsAnsweredAs, IsReadAs};
 
 use ocr_io::{ReadStop, Sink, Source, read_all, write_all};
 use ocr_run_command::{Options, Wanted, WordsStop, command};
 use ocr_run_execution::{
-    Executed, Gate, Merged, TextFault, TextStop, canonical_of, execute, line_of_fault,
+    Executed, Gate, Merged, TextFault, TextStop, canonical_of, execute, line_of_fault, load_text,
 };
 use std::alloc::Global;
 use std::sync::Wait;
@@ -252,11 +252,39 @@ fn answer<R: Threads + Wait + Sync, O: Sink, E: Sink, G: Gate + Sync>(
             answer_run(rt, alloc, options, args.into_vec(), bytes, out, err, gate)
         }
         Wanted::Check => answer_check(alloc, bytes, out, err),
-        Wanted::Load { .. } => unreachable!(),
+        Wanted::Load { options, .. } => {
+            answer_run(rt, alloc, options, Vec::new(alloc), bytes, out, err, gate)
+        }
     }
 }
 
-// Reads the input, and does with it what is wanted.
+// The bytes of the program that is wanted: all of the source, or the text of a number, for which
+// nothing is read.
+#[tactic(auto, using(crate::proofs::Told::all_of))]
+fn text_for<S: Source>(alloc: Global, wanted: &Wanted, input: &mut S) -> Result<Vec<u8>, ReadStop>
+    ensures text { IfOk result
+        (λ text. IsTextFor wanted.now (S.left input.old) (S.left input.new) text.items) }
+    ensures most { IfOk result (λ text. length text.items ≤ most_bytes) }
+    ensures loaded { IsLoad wanted.now
+        → (input.new ≡ input.old) × IfErr result (λ stop. stop ≡ ReadStop.NoMemory) }
+    ensures too_big { IsErrOf result ReadStop.TooBig
+        → IsTooBig (S.left input.old) (S.left input.new) (S.given input.old) (S.given input.new) }
+    ensures exactly { S.given input.old + (most_bytes + 1) < 2 ^ 64
+        → ((result ≡ Err ReadStop.TooBig)
+        ↔ (S.given input.new ≡ S.given input.old + (most_bytes + 1))) }
+    ensures failed { IsErrOf result ReadStop.Failed
+        → Rose (S.failures input.old) (S.failures input.new) }
+{
+    match wanted {
+        Wanted::Load { number, .. } => match load_text(alloc, *number) {
+            Ok(text) => Ok(text),
+            Err(_) => Err(ReadStop::NoMemory),
+        },
+        Wanted::Run { .. } | Wanted::Check => read_all(alloc, input, MOST_BYTES),
+    }
+}
+
+// Takes the bytes of the program, and does with them what is wanted.
 fn serve<R: Threads + Wait + Sync, S: Source, O: Sink, E: Sink, G: Gate + Sync>(
     rt: &R,
     alloc: Global,
@@ -269,6 +297,8 @@ fn serve<R: Threads + Wait + Sync, S: Source, O: Sink, E: Sink, G: Gate + Sync>(
     requires { IsServable wanted }
     ensures status { IsStatus result.status }
     ensures accepted { result.status ≢ 2 }
+    ensures loaded { IsLoad wanted
+        → (input.new ≡ input.old) × (result.status ≢ 3) × (result.status ≢ 7) }
     ensures ran { IfSome result.journal (IsReadAs wanted (S.left input.old) (S.left input.new)
         (O.taken out.old) (O.taken out.new) (Rose (O.failures out.old) (O.failures out.new))
         result.status) }
@@ -286,12 +316,11 @@ fn serve<R: Threads + Wait + Sync, S: Source, O: Sink, E: Sink, G: Gate + Sync>(
     ensures read_fault { result.status ≡ 7
         → IsNone result.journal × Rose (S.failures input.old) (S.failures input.new) }
     ensures write_fault { result.status ≡ 8 → Rose (O.failures out.old) (O.failures out.new) }
-    ensures complete { (bytes : List ℕ) (program : List FunctionTree)
-        → S.left input.old ≡ Some bytes → IsProgramText bytes program
+    ensures complete { HasProgram wanted (S.left input.old)
         → (Rose (S.failures input.old) (S.failures input.new) → ⊥)
         → (Rose (O.failures out.old) (O.failures out.new) → ⊥)
         → (result.status ≡ 9) ⊎ IsComplete wanted result.journal result.status }
-    ensures refused { (bytes : List ℕ) → S.left input.old ≡ Some bytes → IsRefusedText bytes
+    ensures refused { HasNoProgram wanted (S.left input.old)
         → (Rose (S.failures input.old) (S.failures input.new) → ⊥)
         → (result.status ≡ 3) ⊎ (result.status ≡ 9) }
     ensures told { (line : List ℕ) × (IsTold (E.taken err.old) (E.taken err.new)
@@ -300,7 +329,7 @@ fn serve<R: Threads + Wait + Sync, S: Source, O: Sink, E: Sink, G: Gate + Sync>(
         (S.given input.new))
         (IsFirstFault (S.left input.old) (S.left input.new)) result.journal result.status line) }
 {
-    match read_all(alloc, input, MOST_BYTES) {
+    match text_for(alloc, &wanted, input) {
         Ok(bytes) => answer(rt, alloc, wanted, &bytes, out, err, gate),
         Err(ReadStop::Failed) => refuse(err, 7, b"read fault\n"),
         Err(ReadStop::TooBig) => refuse(err, 3, b"text too big\n"),
@@ -309,13 +338,13 @@ fn serve<R: Threads + Wait + Sync, S: Source, O: Sink, E: Sink, G: Gate + Sync>(
 }
 
 /// The program: looks at the words, reads the input, does what the words ask for, and writes what
-/// comes of it.
+/// comes of it. For `load` nothing is read.
 ///
 /// The words may be any: docs/LANGUAGE.md tells in "The words" which forms are taken, and in
 /// "The program" the statuses, 2 where the words have no form; the line that goes with a status is
-/// written to `err`. For `run` the journal is given with each of the statuses 0, 4, 5, 6, 8 and 10,
-/// may be given with 9, and is not given with 2, 3 and 7. `check` gives none. Each worker of a run
-/// passes the gate before it enters an entry.
+/// written to `err`. For `run` and `load` the journal is given with each of the statuses 0, 4, 5, 6,
+/// 8 and 10, may be given with 9, and is not given with 2, 3 and 7. `check` gives none. Each worker
+/// of a run passes the gate before it enters an entry.
 pub fn ocr_main<R: Threads + Wait + Sync, S: Source, O: Sink, E: Sink, G: Gate + Sync>(
     rt: &R,
     alloc: Global,
@@ -326,8 +355,8 @@ pub fn ocr_main<R: Threads + Wait + Sync, S: Source, O: Sink, E: Sink, G: Gate +
     gate: &G,
 ) -> Ended
     // The headline, for any number of workers and whatever order their steps come in: the words ask
-    // for a run, all bytes of the source are a program, the journal is a run of it that came to its
-    // end and kept the limits, and the bytes written are the journal's output.
+    // for a run, all bytes of the source are a program, or `load` has it, the journal is a run of it
+    // that came to its end and kept the limits, and the bytes written are the journal's output.
     ensures headline { IfSome result.journal
         (IsHeadline (texts_of words.now) (S.left input.old) (S.left input.new) (O.taken out.old)
         (O.taken out.new) (Rose (O.failures out.old) (O.failures out.new)) result.status) }
@@ -348,6 +377,9 @@ pub fn ocr_main<R: Threads + Wait + Sync, S: Source, O: Sink, E: Sink, G: Gate +
     ensures words { result.status ≡ 2 → AreRefused (texts_of words.now) }
     ensures words_refused { AreRefused (texts_of words.now)
         → ((result.status ≡ 2) ⊎ (result.status ≡ 9)) × (input.new ≡ input.old) }
+    ensures loaded { (number : ℕ) (options : Options)
+        → IsAsked (texts_of words.now) (Wanted.Load number options)
+        → (input.new ≡ input.old) × (result.status ≢ 3) × (result.status ≢ 7) }
     ensures no_program { result.status ≡ 3 → IsNone result.journal
         × (IsTooBig (S.left input.old) (S.left input.new) (S.given input.old) (S.given input.new)
         ⊎ ((found : TextFault) × IsFirstFault (S.left input.old) (S.left input.new) found)) }
@@ -359,14 +391,13 @@ pub fn ocr_main<R: Threads + Wait + Sync, S: Source, O: Sink, E: Sink, G: Gate +
 
     // Where no read and no write failed, a program is run to its end or its text written, and other
     // bytes are refused, but for want of memory.
-    ensures complete { (wanted : Wanted) (bytes : List ℕ) (program : List FunctionTree)
-        → IsAsked (texts_of words.now) wanted
-        → S.left input.old ≡ Some bytes → IsProgramText bytes program
+    ensures complete { (wanted : Wanted) → IsAsked (texts_of words.now) wanted
+        → HasProgram wanted (S.left input.old)
         → (Rose (S.failures input.old) (S.failures input.new) → ⊥)
         → (Rose (O.failures out.old) (O.failures out.new) → ⊥)
         → (result.status ≡ 9) ⊎ IsComplete wanted result.journal result.status }
-    ensures refused { (wanted : Wanted) (bytes : List ℕ) → IsAsked (texts_of words.now) wanted
-        → S.left input.old ≡ Some bytes → IsRefusedText bytes
+    ensures refused { (wanted : Wanted) → IsAsked (texts_of words.now) wanted
+        → HasNoProgram wanted (S.left input.old)
         → (Rose (S.failures input.old) (S.failures input.new) → ⊥)
         → (result.status ≡ 3) ⊎ (result.status ≡ 9) }
 

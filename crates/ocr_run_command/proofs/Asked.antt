@@ -1,20 +1,28 @@
--- What is asked writes its numbers in digits, and words that ask for nothing.
-use Rattle.std.proofs.Common.{String, Global, ◌≡◌, ◌∙◌, ◌≤◌, ℕ, Bool, cond, suc, true, false, refl, sym, ap, ap₂, subst, codes, arith, List, [], ◌∷◌, ◌++◌, map, length, drop, Option, Some, None, slice_index}
-use Rattle.std.specs.Prelude.{slice_get, string_bytes}
+-- What is asked writes its numbers in digits; words that ask for nothing; and words ask for one thing.
+use Rattle.std.proofs.Common.{String, Global, ◌≡◌, ◌==◌, ◌∙◌, ◌≤◌, ℕ, Bool, cond, suc, true, false, refl, sym, ap, ap₂, subst, codes, arith, List, [], ◌∷◌, ◌++◌, map, length, ◌<◌, drop, lt-ltb, true≢false, Option, Some, None, slice_index}
+use Rattle.std.specs.Prelude.{is_none, nat_lt, slice_get, string_bytes, option_map}
+use Rattle.std.specs.Borrow.{Bor}
 use Rattle.std.specs.List.{All}
+use Rattle.std.proofs.lemmas.Bool.{eqb-true}
+use Rattle.std.proofs.lemmas.List.{length-map}
 use Rattle.std.specs.Str.{bytes_eq}
 use Rattle.std.specs.Str.Parse.{IsNumeral}
-use Rattle.ocr_run_command.specs.Form.{numbers_in, values_of, Text, Piece, number, option, joined, flag, Line, IsLineOf, tail_pieces, said, AreKnown, is_in, option_names}
-use Rattle.ocr_run_command.proofs.Readings.{option_given, numbers_given}
-use Rattle.ocr_run_command.proofs.Names.{name_of, value_of, given, numbers}
-use Rattle.ocr_run_command.specs.Wanted.{Asks, IsAsked, IsCheck, IsNone, IsNumber, IsOr, IsRun, Texts, default_workers, first, given_in}
+use Rattle.ocr_run_command.specs.Form.{Text, Piece, number, option, joined, flag, Line, IsLineOf, tail_pieces, said, AreKnown, is_in, option_names, flag_names, name_of, value_of, given, numbers, texts_of}
+use Rattle.ocr_run_command.specs.Given.{Gives}
+use Rattle.ocr_run_command.proofs.Readings.{known_said, all_plain, same_given, same_flag}
+use Rattle.ocr_run_command.specs.Wanted.{Asks, AskedLaw, IsAsked, IsNumber, IsOr, IsRun, IsRunOptions, AreNumbers, is_given, option_in, reports_in, value}
 use Rattle.ocr_run_command.specs.Numerals.{AreNumerals}
+use Rattle.ocr_run_command.specs.Reader.{reader_app}
+use Rattle.ocr_run_command.specs.declared.given.Arguments.{Arguments}
 use Rattle.ocr_run_command.specs.declared.wanted.Options.{Options}
+use Rattle.ocr_run_command.specs.declared.wanted.Reports.{Reports}
 use Rattle.ocr_run_command.specs.declared.wanted.Wanted.{Wanted}
 use Rattle.ocr_run_command.specs.declared.wanted.Wanted.TheVariants as a
 use Rattle.ocr_run_command.proofs.Rules.{each}
 use Rattle.ocr_run_command.proofs.Rows.{equal}
 use Rattle.ocr_run_command.proofs.Pieces.{given-append}
+use Rattle.ocr_run_command.proofs.Whole.{Shows, line_is_taken}
+use Rattle.clap.specs.Simple.{matches_of}
 
 abbrev Digits : List Text → Type 0
 Digits [] = Unit {0}
@@ -49,14 +57,14 @@ numerals (joined n t ∷ ps) known h =
     (own_digits (joined n t) ps n refl (h.1 n known.0), numerals ps known.1 (rest_digits (joined n t) ps numbers h.0, λ name e. rest_digits (joined n t) ps name (h.1 name e)))
 numerals (flag n ∷ ps) known h = numerals ps known.1 (rest_digits (flag n) ps numbers h.0, λ name e. rest_digits (flag n) ps name (h.1 name e))
 
-one_or_none : (xs : List Text) (default n : ℕ) → length xs ≤ 1 → IsOr default (first xs) n → Digits xs
-one_or_none [] default n few h = tt
-one_or_none (x ∷ []) default n few h = (h.0.digits, tt)
-one_or_none (x ∷ y ∷ xs) default n few h = absurd (omega arith)
+one_or_none : (xs : List Text) (default least most n : ℕ) → length xs ≤ 1 → IsOr default least most (slice_get xs 0) n → Digits xs
+one_or_none [] default least most n few h = tt
+one_or_none (x ∷ []) default least most n few h = (h.is_number.digits, tt)
+one_or_none (x ∷ y ∷ xs) default least most n few h = absurd (omega arith)
 
-none : (xs : List Text) → IsNone (first xs) → Digits xs
+none : (xs : List Text) → slice_get xs 0 ≡ None → Digits xs
 none [] h = tt
-none (x ∷ xs) h = absurd h
+none (x ∷ xs) h = cc h
 
 all : (xs : List Text) → All IsNumber xs → Digits xs
 all [] h = tt
@@ -73,104 +81,203 @@ writes l known n w o e =
     front : (name : Text) → Own l name → Digits (given name l.pieces)
     front name h = digits_left (given name l.pieces) (given name (tail_pieces l.tail)) (subst Digits (given-append name l.pieces (tail_pieces l.tail)) h)
 
-module _ (l : Line) (words : List Text) (line : IsLineOf l words) where
-  own : (o : Text) → is_in o option_names ≡ true → Digits (values_of o (said l)) → Own l o
-  own o e h = subst Digits (sym (option_given l o line.known e)) h
+nothing_said : (ps qs : List Piece) → ps ++ qs ≡ [] → AreNumerals ps
+nothing_said [] qs is = tt
+nothing_said (p ∷ ps) qs is = cc is
 
-  own_numbers : Digits (numbers_in (said l)) → Own l numbers
-  own_numbers h = subst Digits (sym (numbers_given l line.known)) h
-
-  own_or : (o : Text) → is_in o option_names ≡ true → (default n : ℕ) → IsOr default (first (values_of o (said l))) n → Own l o
-  own_or o e default n h = own o e (one_or_none (values_of o (said l)) default n (line.options_once o e) h)
-
-  own_none : (o : Text) → is_in o option_names ≡ true → IsNone (first (values_of o (said l))) → Own l o
-  own_none o e h = own o e (none (values_of o (said l)) h)
-
-asked_digits : (command : Text) (l : Line) (words : List Text) (w : Wanted) → IsLineOf l words → Asks command (given_in l) w → AreNumerals l.pieces
+asked_digits : (command : Text) (l : Line) (words : List Text) (w : Wanted) → IsLineOf l words → Asks command (said l) w → AreNumerals l.pieces
 asked_digits command l words (a.Run options args) line asks =
     let o = asks.1.options_are in
-    writes l line.known (own_numbers l words line (all _ asks.1.numbers)) (own_or l words line (codes "workers") refl default_workers options.workers o.workers)
-    (own_or l words line (codes "objects") refl 4096 options.objects o.objects) (own_or l words line (codes "events") refl 200000 options.events o.events)
-asked_digits command l words a.Check line asks =
-    writes l line.known (own_numbers l words line (subst Digits (sym asks.1.numbers) tt)) (own_none l words line (codes "workers") refl asks.1.workers)
-    (own_none l words line (codes "objects") refl asks.1.objects) (own_none l words line (codes "events") refl asks.1.events)
+    writes l line.known (all _ asks.1.numbers_are) (one_or_none _ 4 1 64 options.workers (line.once (codes "workers") refl) o.workers)
+    (one_or_none _ 4096 2 65536 options.objects (line.once (codes "objects") refl) o.objects) (one_or_none _ 200000 1 16000000 options.events (line.once (codes "events") refl) o.events)
+asked_digits command l words a.Check line asks = nothing_said l.pieces (tail_pieces l.tail) asks.1
 asked_digits command l words (a.Load n options) line asks =
-    writes l line.known (own_numbers l words line (subst Digits (sym asks.1.numbers) (asks.1.is_number.digits, tt)))
-    (own_or l words line (codes "workers") refl default_workers options.workers asks.1.workers)
-    (own_none l words line (codes "objects") refl asks.1.no_objects) (own_none l words line (codes "events") refl asks.1.no_events)
+    writes l line.known (subst Digits (sym asks.1.one) (asks.1.number_is.is_number.digits, tt))
+    (one_or_none _ 4 1 64 options.workers (line.once (codes "workers") refl) asks.1.workers) (none _ asks.1.no_objects) (none _ asks.1.no_events)
 
 -- ---- words that ask for nothing
-
-abbrev pub Denies : Text → Texts → Type 0
-Denies command t = (w : Wanted) → Asks command t w → ⊥
 
 -- as the reader says it
 pub no_line : (words : List Text) → ((l : Line) → IsLineOf l (drop 1 words) → AreNumerals l.pieces → ⊥) → (w : Wanted) → IsAsked words w → ⊥
 no_line [] none w asked = asked
 no_line (command ∷ rest) none w asked = none asked.0 asked.1 (asked_digits command asked.0 rest w asked.1 asked.2)
 
-pub no_command : (words : List (String Global)) (s : String Global) (t : Texts) → Some s ≡ slice_get words 0
-    → ((l : Line) → IsLineOf l (drop 1 (map (λ w. string_bytes w) words)) → AreNumerals l.pieces → t ≡ given_in l)
-    → Denies (string_bytes s) t → (w : Wanted) → IsAsked (map (λ w. string_bytes w) words) w → ⊥
-no_command [] s t is every denies w asked = asked
-no_command (x ∷ xs) s t is every denies w asked =
-    let same : string_bytes s ≡ string_bytes x = ap (λ o. elim o as (λ _. Text) [ Some y ↦ string_bytes y | None ↦ string_bytes s ]) is in
-    let digits = asked_digits (string_bytes x) asked.0 _ w asked.1 asked.2 in
-    let texts = every asked.0 asked.1 digits in
-    denies w (subst (λ c. Asks c t w) (sym same) (subst (λ u. Asks (string_bytes x) u w) (sym texts) asked.2))
+command_is : (s x : String Global) (xs : List (String Global)) → Some s ≡ slice_get (x ∷ xs) 0 → string_bytes s ≡ string_bytes x
+command_is s x xs is = ap (λ o. elim o as (λ _. Text) [ Some y ↦ string_bytes y | None ↦ string_bytes s ]) is
+
+-- what the code keeps asks for nothing
+pub no_command : (words : List (String Global)) (s : String Global) (g : Arguments) → Some s ≡ slice_get words 0
+    → ((l : Line) → IsLineOf l (drop 1 (texts_of words)) → AreNumerals l.pieces → Gives g (said l))
+    → ((ps : List Piece) → AreKnown ps → Gives g ps → (w : Wanted) → Asks (string_bytes s) ps w → ⊥) → (w : Wanted) → IsAsked (texts_of words) w → ⊥
+no_command [] s g is every denies w asked = asked
+no_command (x ∷ xs) s g is every denies w asked =
+    let l = asked.0 in
+    let gives = every l asked.1 (asked_digits (string_bytes x) l _ w asked.1 asked.2) in
+    denies (said l) (known_said l asked.1.known) gives w (subst (λ c. Asks c (said l) w) (sym (command_is s x xs is)) asked.2)
+
+-- what the code keeps asks for this
+pub some_command : (words : List (String Global)) (s : String Global) (g : Arguments) (w : Wanted) → Some s ≡ slice_get words 0
+    → (l : Line) × IsLineOf l (drop 1 (texts_of words)) × Gives g (said l)
+    → ((ps : List Piece) → AreKnown ps → Gives g ps → Asks (string_bytes s) ps w) → IsAsked (texts_of words) w
+some_command [] s g w is line asks = cc is
+some_command (x ∷ xs) s g w is line asks =
+    let l = line.0 in
+    (l, line.1, subst (λ c. Asks c (said l) w) (command_is s x xs is) (asks (said l) (known_said l line.1.known) line.2))
+
+-- ---- nothing after a command
+
+own_given : (p : Piece) (ps : List Piece) → given (name_of p) (p ∷ ps) ≡ [] → ⊥
+own_given p ps is =
+    let here : value_of p ∷ given (name_of p) ps ≡ [] = sym (ap (λ b. cond b (value_of p ∷ given (name_of p) ps) (given (name_of p) ps)) (equal (name_of p))) ∙ is in
+    cc here
+
+no_pieces : (ps : List Piece) → AreKnown ps → given numbers ps ≡ [] → ((n : Text) → is_in n option_names ≡ true → given n ps ≡ [])
+    → ((n : Text) → is_in n flag_names ≡ true → given n ps ≡ []) → ps ≡ []
+no_pieces [] known n o f = refl
+no_pieces (number t ∷ ps) known n o f = absurd (own_given (number t) ps n)
+no_pieces (option x t ∷ ps) known n o f = absurd (own_given (option x t) ps (o x known.0))
+no_pieces (joined x t ∷ ps) known n o f = absurd (own_given (joined x t) ps (o x known.0))
+no_pieces (flag x ∷ ps) known n o f = absurd (own_given (flag x) ps (f x known.0))
+
+no_texts : (xs : List Text) → slice_get xs 0 ≡ None → xs ≡ []
+no_texts [] is = refl
+no_texts (x ∷ xs) is = cc is
+
+no_times : (xs : List Text) → nat_lt 0 (length xs) ≡ false → xs ≡ []
+no_times [] is = refl
+no_times (x ∷ xs) is = absurd (true≢false (sym (lt-ltb 0 (length (x ∷ xs)) (omega arith)) ∙ is))
+
+no_option : (o : Option (Bor Text)) (p : Option Text) → option_map (λ s. s.now) o ≡ p → is_none o ≡ true → p ≡ None
+no_option None p is none = sym is
+no_option (Some s) p is none = cc none
+
+abbrev pub no_reports : Reports
+no_reports = record { summary = false; left = false; stale = false; refused = false; races = false; blocks = false; journal = false }
+
+pub nothing_kept : (g : Arguments) (ps : List Piece) → AreKnown ps → Gives g ps → is_none g.workers ≡ true → is_none g.objects ≡ true → is_none g.events ≡ true → g.reports ≡ no_reports → g.numbers.items ≡ [] → ps ≡ []
+nothing_kept g ps known gives w o e r n =
+    let reports : reports_in ps ≡ no_reports = sym gives.reports ∙ r in
+    no_pieces ps known (sym gives.numbers_are ∙ ap (map (λ s. s.now)) n)
+    (λ name k. each (λ x. given x ps ≡ []) option_names name (
+      no_texts _ (no_option g.workers _ gives.workers w),
+      (no_texts _ (no_option g.objects _ gives.objects o), (no_texts _ (no_option g.events _ gives.events e), tt)),
+    ) k)
+    (λ name k. each (λ x. given x ps ≡ []) flag_names name (
+      no_times _ (ap (λ x. x.summary) reports),
+      (
+        no_times _ (ap (λ x. x.left) reports),
+        (
+          no_times _ (ap (λ x. x.stale) reports),
+          (no_times _ (ap (λ x. x.refused) reports), (no_times _ (ap (λ x. x.races) reports), (no_times _ (ap (λ x. x.blocks) reports), (no_times _ (ap (λ x. x.journal) reports), tt)))),
+        ),
+      ),
+    ) k)
+
+pub no_items : (xs : List (Bor Text)) → (length xs == 0) ≡ true → xs ≡ []
+no_items [] is = refl
+no_items (x ∷ xs) is = absurd (omega (arith, eqb-true (length (x ∷ xs)) 0 is))
+
+pub no_numbers : (g : Arguments) (ps : List Piece) → Gives g ps → ps ≡ [] → g.numbers.items ≡ []
+no_numbers g ps gives none = go g.numbers.items (gives.numbers_are ∙ ap (given numbers) none)
+  where
+    go : (xs : List (Bor Text)) → map (λ s. s.now) xs ≡ [] → xs ≡ []
+    go [] is = refl
+    go (x ∷ xs) is = cc is
+
+-- a run of numbers that were not kept for want of memory
+pub unkept_run : (g : Arguments) (ps : List Piece) (options : Options) (texts : List (Bor Text)) → Gives g ps → texts ≡ g.numbers.items → IsRunOptions ps options
+    → AreNumbers (map (λ s. s.now) texts) → length texts ≤ 32 → 0 < length texts → ((w : Wanted) × Asks (codes "run") ps w) × (0 < length (given numbers ps))
+unkept_run g ps options texts gives are is all few some =
+    let here : map (λ s. s.now) texts ≡ given numbers ps = ap (map (λ s. s.now)) are ∙ gives.numbers_are in
+    let count : length (given numbers ps) ≡ length texts = sym (ap length here) ∙ length-map texts (λ (s : Bor Text). s.now) in
+    let run : IsRun ps options (map value (given numbers ps)) = record {
+      options_are = is;
+      numbers_are = subst AreNumbers here all;
+      args_are = refl;
+      few = omega (arith, length-map (given numbers ps) value, count, few);
+    } in
+    ((a.Run options (map value (given numbers ps)), (refl, run)), omega (arith, count, some))
 
 differ : (c d e : Text) → c ≡ d → c ≡ e → (slice_index d 0 ≡ slice_index e 0 → ⊥) → ⊥
 differ c d e p q apart = apart (ap (λ x. slice_index x 0) (sym p ∙ q))
 
-pub denies_run : (c : Text) (t : Texts) → c ≡ codes "run" → ((options : Options) (args : List ℕ) → IsRun t options args → ⊥) → Denies c t
-denies_run c t is none (a.Run options args) asks = none options args asks.1
-denies_run c t is none a.Check asks = differ c _ _ is asks.0 (λ e. omega (arith, e))
-denies_run c t is none (a.Load n options) asks = differ c _ _ is asks.0 (λ e. omega (arith, e))
-
-pub denies_check : (c : Text) (t : Texts) → c ≡ codes "check" → (IsCheck t → ⊥) → Denies c t
-denies_check c t is none (a.Run options args) asks = differ c _ _ is asks.0 (λ e. omega (arith, e))
-denies_check c t is none a.Check asks = none asks.1
-denies_check c t is none (a.Load n options) asks = differ c _ _ is asks.0 (λ e. omega (arith, e))
-
--- any other command
-pub denies_other : (c : Text) (t : Texts) → (c ≡ codes "run" → ⊥) → (c ≡ codes "check" → ⊥) → Denies c t
-denies_other c t no_run no_check (a.Run options args) asks = no_run asks.0
-denies_other c t no_run no_check a.Check asks = no_check asks.0
-denies_other c t no_run no_check (a.Load n options) asks = asks.1.not_built
-
 -- ---- words ask for one thing
 
-is_or_one : (default : ℕ) (o : Option Text) (n m : ℕ) → IsOr default o n → IsOr default o m → n ≡ m
-is_or_one default None n m h k = h ∙ sym k
-is_or_one default (Some t) n m h k = h.1 ∙ sym k.1
+-- these pieces give the same
+record Same (ps qs : List Piece) : Type 0 where
+  workers : option_in (codes "workers") ps ≡ option_in (codes "workers") qs
+  objects : option_in (codes "objects") ps ≡ option_in (codes "objects") qs
+  events : option_in (codes "events") ps ≡ option_in (codes "events") qs
+  reports : reports_in ps ≡ reports_in qs
+  numbers_are : given numbers ps ≡ given numbers qs
 
-one_options : (t : Texts) (p q : Options) → p.workers ≡ q.workers → p.objects ≡ q.objects → p.events ≡ q.events → p.reports ≡ q.reports → p ≡ q
-one_options t p q w o e r = λ i. record { workers = w i; objects = o i; events = e i; reports = r i }
+same_pieces : (rows : List _) (ps qs : List Piece) → AreKnown ps → AreKnown qs → Shows rows ps → Shows rows qs → Same ps qs
+same_pieces rows ps qs known_p known_q a b = record {
+  workers = ap (λ xs. slice_get xs 0) (same_given rows ps qs a b (codes "workers") refl);
+  objects = ap (λ xs. slice_get xs 0) (same_given rows ps qs a b (codes "objects") refl);
+  events = ap (λ xs. slice_get xs 0) (same_given rows ps qs a b (codes "events") refl);
+  reports = λ i. record {
+    summary = flag_is (codes "summary") refl i;
+    left = flag_is (codes "left") refl i;
+    stale = flag_is (codes "stale") refl i;
+    refused = flag_is (codes "refused") refl i;
+    races = flag_is (codes "races") refl i;
+    blocks = flag_is (codes "blocks") refl i;
+    journal = flag_is (codes "journal") refl i;
+  };
+  numbers_are = same_given rows ps qs a b numbers refl;
+}
+  where
+    flag_is : (name : Text) → is_in name flag_names ≡ true → is_given name ps ≡ is_given name qs
+    flag_is name e = same_flag rows ps qs known_p known_q a b name e
 
-one_asked : (c : Text) (t : Texts) (v w : Wanted) → Asks c t v → Asks c t w → v ≡ w
-one_asked c t (a.Run p xs) (a.Run q ys) h k =
+is_or_one : (default least most : ℕ) (o p : Option Text) (n m : ℕ) → o ≡ p → IsOr default least most o n → IsOr default least most p m → n ≡ m
+is_or_one default least most None None n m is h k = h ∙ sym k
+is_or_one default least most None (Some u) n m is h k = cc is
+is_or_one default least most (Some t) None n m is h k = cc is
+is_or_one default least most (Some t) (Some u) n m is h k =
+    let same : t ≡ u = ap (λ o. elim o as (λ _. Text) [ Some y ↦ y | None ↦ t ]) is in
+    h.is ∙ ap value same ∙ sym k.is
+
+one_options : (p q : Options) → p.workers ≡ q.workers → p.objects ≡ q.objects → p.events ≡ q.events → p.reports ≡ q.reports → p ≡ q
+one_options p q w o e r = λ i. record { workers = w i; objects = o i; events = e i; reports = r i }
+
+one_text : (t u : Text) (xs ys : List Text) → xs ≡ ys → xs ≡ t ∷ [] → ys ≡ u ∷ [] → t ≡ u
+one_text t u xs ys is h k = ap (λ zs. elim zs as (λ _. Text) [ [] ↦ t | (z ∷ rest) ↦ z ]) (sym h ∙ is ∙ k)
+
+one_asked : (c : Text) (ps qs : List Piece) (v w : Wanted) → Same ps qs → Asks c ps v → Asks c qs w → v ≡ w
+one_asked c ps qs (a.Run p xs) (a.Run q ys) same h k =
     let f = h.1.options_are in
     let g = k.1.options_are in
-    let same = one_options t p q (is_or_one default_workers t.workers _ _ f.workers g.workers) (is_or_one 4096 t.objects _ _ f.objects g.objects)
-    (is_or_one 200000 t.events _ _ f.events g.events) (f.reports ∙ sym g.reports) in
-    ap₂ (λ (o : Options) (zs : List ℕ). a.Run o zs) same (h.1.args_are ∙ sym k.1.args_are)
-one_asked c t (a.Run p xs) a.Check h k = absurd (differ c _ _ h.0 k.0 (λ e. omega (arith, e)))
-one_asked c t (a.Run p xs) (a.Load n q) h k = absurd (differ c _ _ h.0 k.0 (λ e. omega (arith, e)))
-one_asked c t a.Check (a.Run q ys) h k = absurd (differ c _ _ h.0 k.0 (λ e. omega (arith, e)))
-one_asked c t a.Check a.Check h k = refl
-one_asked c t a.Check (a.Load n q) h k = absurd (differ c _ _ h.0 k.0 (λ e. omega (arith, e)))
-one_asked c t (a.Load n p) (a.Run q ys) h k = absurd (differ c _ _ h.0 k.0 (λ e. omega (arith, e)))
-one_asked c t (a.Load n p) a.Check h k = absurd (differ c _ _ h.0 k.0 (λ e. omega (arith, e)))
-one_asked c t (a.Load n p) (a.Load m q) h k = absurd h.1.not_built
+    let options = one_options p q (is_or_one 4 1 64 _ _ _ _ same.workers f.workers g.workers) (is_or_one 4096 2 65536 _ _ _ _ same.objects f.objects g.objects)
+    (is_or_one 200000 1 16000000 _ _ _ _ same.events f.events g.events) (f.reports ∙ same.reports ∙ sym g.reports) in
+    ap₂ (λ (o : Options) (zs : List ℕ). a.Run o zs) options (h.1.args_are ∙ ap (map value) same.numbers_are ∙ sym k.1.args_are)
+one_asked c ps qs (a.Run p xs) a.Check same h k = absurd (differ c _ _ h.0 k.0 (λ e. omega (arith, e)))
+one_asked c ps qs (a.Run p xs) (a.Load n q) same h k = absurd (differ c _ _ h.0 k.0 (λ e. omega (arith, e)))
+one_asked c ps qs a.Check (a.Run q ys) same h k = absurd (differ c _ _ h.0 k.0 (λ e. omega (arith, e)))
+one_asked c ps qs a.Check a.Check same h k = refl
+one_asked c ps qs a.Check (a.Load n q) same h k = absurd (differ c _ _ h.0 k.0 (λ e. omega (arith, e)))
+one_asked c ps qs (a.Load n p) (a.Run q ys) same h k = absurd (differ c _ _ h.0 k.0 (λ e. omega (arith, e)))
+one_asked c ps qs (a.Load n p) a.Check same h k = absurd (differ c _ _ h.0 k.0 (λ e. omega (arith, e)))
+one_asked c ps qs (a.Load n p) (a.Load m q) same h k =
+    let f = h.1 in
+    let g = k.1 in
+    let number_is : n ≡ m = f.number_is.is ∙ ap value (one_text f.text g.text _ _ same.numbers_are f.one g.one) ∙ sym g.number_is.is in
+    let options = one_options p q (is_or_one 4 1 64 _ _ _ _ same.workers f.workers g.workers) (f.objects ∙ sym g.objects) (f.events ∙ sym g.events)
+    (f.reports ∙ ap (λ (r : Reports). record r { summary = true }) same.reports ∙ sym g.reports) in
+    ap₂ (λ (x : ℕ) (o : Options). a.Load x o) number_is options
 
-pub only_one : (words : List (String Global)) (s : String Global) (t : Texts) (w : Wanted) → Some s ≡ slice_get words 0
-    → ((l : Line) → IsLineOf l (drop 1 (map (λ w. string_bytes w) words)) → AreNumerals l.pieces → t ≡ given_in l)
-    → Asks (string_bytes s) t w → (v : Wanted) → IsAsked (map (λ w. string_bytes w) words) v → v ≡ w
-only_one [] s t w is every asks v asked = absurd asked
-only_one (x ∷ xs) s t w is every asks v asked =
-    let same : string_bytes s ≡ string_bytes x = ap (λ o. elim o as (λ _. Text) [ Some y ↦ string_bytes y | None ↦ string_bytes s ]) is in
-    let texts = every asked.0 asked.1 (asked_digits (string_bytes x) asked.0 _ v asked.1 asked.2) in
-    one_asked (string_bytes s) t v w (subst (λ c. Asks c t v) (sym same) (subst (λ u. Asks (string_bytes x) u v) (sym texts) asked.2)) asks
+-- the lines of words give the same
+same_lines : (words : List Text) (l m : Line) → IsLineOf l (drop 1 words) → IsLineOf m (drop 1 words) → AreNumerals l.pieces → AreNumerals m.pieces → Same (said l) (said m)
+same_lines words l m line other digits others =
+    let rows = matches_of reader_app words in
+    same_pieces rows (said l) (said m) (known_said l line.known) (known_said m other.known)
+    (line_is_taken words l line.spelled line.known line.once (all_plain l.pieces digits)).1
+    (line_is_taken words m other.spelled other.known other.once (all_plain m.pieces others)).1
 
-pub as_run : (c : Text) (t : Texts) (w : Wanted) → c ≡ codes "run" → Asks (codes "run") t w → Asks c t w
-as_run c t w is h = subst (λ x. Asks x t w) (sym is) h
+pub asked_law : AskedLaw
+asked_law [] v w h k = absurd h
+asked_law (command ∷ rest) v w h k =
+    let digits = asked_digits command h.0 rest v h.1 h.2 in
+    let others = asked_digits command k.0 rest w k.1 k.2 in
+    one_asked command (said h.0) (said k.0) v w (same_lines (command ∷ rest) h.0 k.0 h.1 k.1 digits others) h.2 k.2

@@ -5,12 +5,11 @@ use Rattle.std.specs.Str.{bytes_eq}
 use Rattle.clap.specs.Lexer.{long_of}
 use Rattle.clap.specs.Walk.{Held, Rule, Row, Waiting, Walk, arg_by_id, idle, positional, option as awaiting, value, plain_word, reacted, settled, used, used_by_id}
 use Rattle.clap.specs.Faults.{settle_fault, use_fault, walk_fault}
-use Rattle.ocr_run_command.specs.Form.{Text, Piece, number, option, joined, flag, long, spelling, tail_words, tail_pieces, AreKnown, IsKnown, is_in, option_names, flag_names}
-use Rattle.ocr_run_command.proofs.Names.{IsOnce, numbers}
+use Rattle.ocr_run_command.specs.Form.{Text, Piece, number, option, joined, flag, long, spelling, tail_words, tail_pieces, AreKnown, IsKnown, is_in, option_names, flag_names, numbers}
 use Rattle.ocr_run_command.proofs.Rules.{each, Finds, shape, option_rule, flag_rule, number_rule}
 use Rattle.ocr_run_command.proofs.Rows.{equal}
 use Rattle.ocr_run_command.proofs.Lex.{IsPlain, dashes}
-use Rattle.ocr_run_command.proofs.Pieces.{Holds, rule_for, texts_for, nil_or, new_passes, once_new, use_holds}
+use Rattle.ocr_run_command.proofs.Pieces.{IsOnce, Holds, rule_for, texts_for, nil_or, new_passes, once_new, use_holds}
 use Rattle.ocr_run_command.proofs.Turns.{Turn, on, free, turn, by_step, with_pending, dash_turn, long_turn, flag_turn, joined_turn, option_turn, plain_turn, value_turn, tail_turn, awaited_turn}
 use Rattle.ocr_run_command.proofs.Sound.{Passes, end_rows}
 

@@ -1,4 +1,3 @@
-pub mod Names
 pub mod Rules
 pub mod Rows
 pub mod Lex

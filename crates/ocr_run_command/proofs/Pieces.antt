@@ -8,10 +8,13 @@ use Rattle.clap.specs.Kinds.{Kinds, or_else}
 use Rattle.clap.specs.declared.error.kind.ErrorKind.TheVariants as kind
 use Rattle.clap.specs.declared.parser.matches.ValueSource.TheVariants.{CommandLine}
 use Rattle.clap.specs.declared.builder.value_parser.Reading.TheVariants.{AsWritten}
-use Rattle.ocr_run_command.specs.Form.{Text, Piece, number, option, joined, flag, IsKnown}
-use Rattle.ocr_run_command.proofs.Names.{name_of, value_of, given, is_single, IsOnce, numbers}
+use Rattle.ocr_run_command.specs.Form.{Text, Piece, number, option, joined, flag, IsKnown, name_of, value_of, given, is_single, numbers}
 use Rattle.ocr_run_command.proofs.Rules.{option_rule, flag_rule, number_rule}
 use Rattle.ocr_run_command.proofs.Rows.{Seen, seen, more, same, equal, seen_with, unseen, without_none}
+
+-- each option and each flag stands at most once
+abbrev pub IsOnce : List Piece → Type 0
+IsOnce ps = (name : Text) → is_single name ≡ true → length (given name ps) ≤ 1
 
 abbrev pub some_of : List Text → Seen
 some_of [] = None

@@ -1,6 +1,7 @@
 -- From the rows of the matches to what the code reads of them.
-use Rattle.std.proofs.Common.{◌≤◌, ◌||◌, length, lt-ltb, ◌≡◌, ◌∙◌, ◌==◌, ◌<◌, ◌&&◌, Bool, cond, true, false, refl, sym, ap, subst, true≢false, codes, arith, List, [], ◌∷◌, ◌++◌, map, Option, Some, None}
+use Rattle.std.proofs.Common.{length, lt-ltb, ◌≡◌, ◌∙◌, ◌==◌, ◌<◌, ◌&&◌, Bool, cond, true, false, refl, sym, ap, subst, true≢false, codes, arith, List, [], ◌∷◌, ◌++◌, map, Option, Some, None}
 use Rattle.std.specs.Prelude.{nat_lt, find, slice_get, option_map, option_and_then}
+use Rattle.std.specs.Option.{option_map_or}
 use Rattle.std.specs.Str.{bytes_eq}
 use Rattle.std.specs.Str.Parse.{IsNumeral}
 use Rattle.std.specs.Char.{digit_value}
@@ -10,19 +11,17 @@ use Rattle.clap.specs.Values.{read_as}
 use Rattle.clap.specs.Lexer.{strip_byte, long_of_rest, short_of_rest}
 use Rattle.clap.specs.declared.parser.matches.Found.{Found}
 use Rattle.clap.proofs.WalkLemmas.{first_value-rows, one_text-rows, raw_values-rows}
-use Rattle.ocr_run_command.specs.Form.{line_words, numbers_in, values_of, Text, Piece, number, option, joined, flag, Line, tail_pieces, said, AreKnown, IsKnown, is_in, option_names, flag_names}
-use Rattle.ocr_run_command.proofs.Names.{IsOnce, given_flag, given_numbers, given_option, name_of, value_of, given, numbers}
-use Rattle.ocr_run_command.specs.Wanted.{first}
+use Rattle.ocr_run_command.specs.Form.{Text, Piece, number, option, joined, flag, Line, tail_pieces, said, AreKnown, IsKnown, is_in, option_names, flag_names, name_of, value_of, given, numbers}
+use Rattle.ocr_run_command.specs.Wanted.{is_given}
 use Rattle.ocr_run_command.specs.Given.{Reads, some_texts}
 use Rattle.ocr_run_command.specs.Numerals.{AreNumerals}
 use Rattle.ocr_run_command.proofs.Rules.{each}
-use Rattle.ocr_run_command.proofs.Rows.{seen, told, same}
+use Rattle.ocr_run_command.proofs.Rows.{Seen, seen, told, same}
 use Rattle.ocr_run_command.proofs.Lex.{IsPlain}
 use Rattle.ocr_run_command.proofs.Pieces.{some_of}
-use Rattle.ocr_run_command.proofs.Whole.{Shows, filled}
+use Rattle.ocr_run_command.proofs.Whole.{Shows, filled, filled_false}
 use Rattle.ocr_run_command.proofs.Complete.{ArePlain}
 use Rattle.std.proofs.Common.{drop, inl, inr}
-use Rattle.std.proofs.lemmas.Bool.{or_left, or_right}
 use Rattle.clap.specs.Simple.{App, is_simple, matches_of}
 use Rattle.clap.specs.Faults.{fault_of, is_simple_and_free}
 use Rattle.clap.specs.Kinds.{HasKind}
@@ -55,7 +54,7 @@ all_seen id rows = go (find (λ r. bytes_eq r.id id) rows)
     go None = refl
     go (Some r) = refl
 
-first_some : (xs : List Text) → option_and_then (λ p. slice_get p.0 0) (filled false (some_of xs)) ≡ first xs
+first_some : (xs : List Text) → option_and_then (λ p. slice_get p.0 0) (filled false (some_of xs)) ≡ slice_get xs 0
 first_some [] = refl
 first_some (x ∷ xs) = refl
 
@@ -66,11 +65,11 @@ all_some (x ∷ xs) = refl
 no_flag : (name : Text) → is_in name option_names ≡ true → is_in name flag_names ≡ false
 no_flag name e = each (λ n. is_in n flag_names ≡ false) option_names name (refl, (refl, (refl, tt))) e
 
-abbrev is_given : List Text → Bool
-is_given [] = false
-is_given (t ∷ ts) = true
+abbrev is_some_text : List Text → Bool
+is_some_text [] = false
+is_some_text (t ∷ ts) = true
 
-given_some : (xs : List Text) → is_given xs ≡ nat_lt 0 (length xs)
+given_some : (xs : List Text) → is_some_text xs ≡ nat_lt 0 (length xs)
 given_some [] = refl
 given_some (x ∷ xs) = sym (lt-ltb 0 (length (x ∷ xs)) (omega arith))
 
@@ -93,7 +92,7 @@ flag_true name (p ∷ ps) known e = go p known.0 (flag_true name ps known.1 e) (
     go (joined n u) known later true t = absurd (not_option n known t)
     go (flag n) known later true t = subst (λ b. AllTrue (cond b (value_of (flag n) ∷ given name ps) (given name ps))) (sym t) (refl, later)
 
-one_true : (xs : List Text) → AllTrue xs → option_and_then (λ p. option_map (read_as p.1) (slice_get p.0 0)) (filled true (some_of xs)) ≡ Some (cond (is_given xs) (codes "true") (codes "false"))
+one_true : (xs : List Text) → AllTrue xs → option_and_then (λ p. option_map (read_as p.1) (slice_get p.0 0)) (filled true (some_of xs)) ≡ Some (cond (is_some_text xs) (codes "true") (codes "false"))
 one_true [] h = refl
 one_true (x ∷ xs) h = ap Some h.0
 
@@ -115,41 +114,47 @@ known_said l h = known_append l.pieces (tail_pieces l.tail) h (go l.tail)
 pub reads : (f : Found) (l : Line) → AreKnown l.pieces → Shows (rows_of f) (said l) → Reads f l
 reads f l known shows = record {
   option = λ name e. first_value-rows f name ∙ first_seen name (rows_of f) ∙ ap (option_and_then (λ p. slice_get p.0 0)) (shows name)
-      ∙ ap (λ b. option_and_then (λ p. slice_get p.0 0) (filled b (some_of (given name (said l))))) (no_flag name e) ∙ first_some (given name (said l))
-      ∙ ap first (given_option no_flag name (said l) e (known_said l known));
+      ∙ ap (λ b. option_and_then (λ p. slice_get p.0 0) (filled b (some_of (given name (said l))))) (no_flag name e) ∙ first_some (given name (said l));
   flag = λ name e. one_text-rows f name ∙ one_seen name (rows_of f) ∙ ap (option_and_then (λ p. option_map (read_as p.1) (slice_get p.0 0))) (shows name)
       ∙ ap (λ b. option_and_then (λ p. option_map (read_as p.1) (slice_get p.0 0)) (filled b (some_of (given name (said l))))) e
       ∙ one_true (given name (said l)) (flag_true name (said l) (known_said l known) e)
-      ∙ ap (λ b. Some (cond b (codes "true") (codes "false"))) (given_some (given name (said l)) ∙ ap (nat_lt 0) (given_flag no_flag name (said l) e (known_said l known)));
-  numbers = raw_values-rows f numbers ∙ all_seen numbers (rows_of f) ∙ ap (option_map (λ p. p.0)) (shows numbers) ∙ all_some (given numbers (said l))
-      ∙ ap some_texts (given_numbers (said l) (known_said l known));
+      ∙ ap (λ b. Some (cond b (codes "true") (codes "false"))) (given_some (given name (said l)));
+  numbers_are = raw_values-rows f numbers ∙ all_seen numbers (rows_of f) ∙ ap (option_map (λ p. p.0)) (shows numbers) ∙ all_some (given numbers (said l));
 }
 
--- ---- at most once
+-- ---- rows give one thing
 
-pub line_of : (l : Line) (words : List Text) → words ≡ line_words l → AreKnown l.pieces → IsOnce (said l) → IsLineOf l words
-line_of l words spelled known once = record {
-  spelled = spelled;
-  known = known;
-  options_once = λ o e. subst (λ (xs : List Text). length xs ≤ 1) (given_option no_flag o (said l) e (known_said l known)) (once o (or_left _ _ e));
-  flags_once = λ f e. subst (λ n. n ≤ 1) (given_flag no_flag f (said l) e (known_said l known)) (once f (or_right _ _ e));
-}
+texts_of_seen : Seen → List Text
+texts_of_seen None = []
+texts_of_seen (Some p) = p.0
 
-pub once_in : (l : Line) (words : List Text) → IsLineOf l words → IsOnce (said l)
-once_in l words line name e = go (is_in name option_names) refl e
+seen_texts : (xs : List Text) → texts_of_seen (some_of xs) ≡ xs
+unfolding texts_of_seen
+seen_texts [] = refl
+seen_texts (x ∷ xs) = refl
+
+-- what no flag gives
+pub same_given : (rows : List Row) (ps qs : List Piece) → Shows rows ps → Shows rows qs → (id : Text) → is_in id flag_names ≡ false → given id ps ≡ given id qs
+same_given rows ps qs a b id unflagged = sym (one ps a) ∙ one qs b
   where
-    go : (b : Bool) → is_in name option_names ≡ b → (is_in name option_names || is_in name flag_names) ≡ true → length (given name (said l)) ≤ 1
-    go true t e = subst (λ (xs : List Text). length xs ≤ 1) (sym (given_option no_flag name (said l) t (known_said l line.known))) (line.options_once name t)
-    go false t e =
-        let flags : is_in name flag_names ≡ true = ap (λ b. b || is_in name flag_names) (sym t) ∙ e in
-        subst (λ n. n ≤ 1) (sym (given_flag no_flag name (said l) flags (known_said l line.known))) (line.flags_once name flags)
+    one : (xs : List Piece) → Shows rows xs → texts_of_seen (seen id rows) ≡ given id xs
+    one xs shows = ap texts_of_seen (shows id ∙ ap (λ b. filled b (some_of (given id xs))) unflagged ∙ filled_false (some_of (given id xs))) ∙ seen_texts (given id xs)
 
--- what an option gives, and the numbers, in the words of the proofs
-pub option_given : (l : Line) (o : Text) → AreKnown l.pieces → is_in o option_names ≡ true → given o (said l) ≡ values_of o (said l)
-option_given l o known e = given_option no_flag o (said l) e (known_said l known)
+is_true : Seen → Bool
+is_true None = false
+is_true (Some p) = option_map_or (λ t. bytes_eq t (codes "true")) (slice_get p.0 0) false
 
-pub numbers_given : (l : Line) → AreKnown l.pieces → given numbers (said l) ≡ numbers_in (said l)
-numbers_given l known = given_numbers (said l) (known_said l known)
+true_seen : (xs : List Text) → AllTrue xs → is_true (filled true (some_of xs)) ≡ nat_lt 0 (length xs)
+unfolding is_true
+true_seen [] h = refl
+true_seen (x ∷ xs) h = ap (λ t. bytes_eq t (codes "true")) h.0 ∙ given_some (x ∷ xs)
+
+-- whether a flag is given
+pub same_flag : (rows : List Row) (ps qs : List Piece) → AreKnown ps → AreKnown qs → Shows rows ps → Shows rows qs → (id : Text) → is_in id flag_names ≡ true → is_given id ps ≡ is_given id qs
+same_flag rows ps qs known_p known_q a b id e = sym (one ps known_p a) ∙ one qs known_q b
+  where
+    one : (xs : List Piece) → AreKnown xs → Shows rows xs → is_true (seen id rows) ≡ is_given id xs
+    one xs known shows = ap is_true (shows id ∙ ap (λ b. filled b (some_of (given id xs))) e) ∙ true_seen (given id xs) (flag_true id xs known e)
 
 -- ---- digits are no more than a word
 
@@ -186,19 +191,19 @@ line_read a ts f is passes rows =
     let own = rows (ap is_simple is ∙ is_plain) ∙ ap (λ (b : App). matches_of b ts) is in
     let line = taken_is_line ts none in
     let shows = subst (λ (rs : List Row). Shows rs (said line.0)) (sym own) line.1.3 in
-    (line.0, line_of line.0 (drop 1 ts) line.1.0 line.1.1 line.1.2, reads f line.0 line.1.1 shows)
+    (line.0, record { spelled = line.1.0; known = line.1.1; once = line.1.2 }, reads f line.0 line.1.1 shows)
 
 pub every_read : (a : App) (ts : List Text) (f : Found) → a ≡ reader_app → (is_simple a ≡ true → rows_of f ≡ matches_of a ts)
     → (l : Line) → IsLineOf l (drop 1 ts) → AreNumerals l.pieces → Reads f l
 every_read a ts f is rows l line digits =
     let own = rows (ap is_simple is ∙ is_plain) ∙ ap (λ (b : App). matches_of b ts) is in
-    let taken = line_is_taken ts l line.spelled line.known (once_in l (drop 1 ts) line) (all_plain l.pieces digits) in
+    let taken = line_is_taken ts l line.spelled line.known line.once (all_plain l.pieces digits) in
     reads f l line.known (subst (λ (rs : List Row). Shows rs (said l)) (sym own) taken.1)
 
 pub none_read : (a : App) (ts : List Text) (e : Error) → a ≡ reader_app → (is_simple_and_free a ≡ true → HasKind (fault_of a ts) e) → (kind_of e ≡ kind.OutOfMemory → ⊥)
     → (l : Line) → IsLineOf l (drop 1 ts) → AreNumerals l.pieces → ⊥
 none_read a ts e is fails known l line digits =
-    let taken = line_is_taken ts l line.spelled line.known (once_in l (drop 1 ts) line) (all_plain l.pieces digits) in
+    let taken = line_is_taken ts l line.spelled line.known line.once (all_plain l.pieces digits) in
     let none = ap (λ (b : App). fault_of b ts) is ∙ taken.0 in
     let has = subst (λ ks. HasKind ks e) none (fails (ap is_simple_and_free is ∙ is_free)) in
     elim has [ inl memory ↦ known memory | inr among ↦ absurd among ]

@@ -9,8 +9,7 @@ use Rattle.clap.specs.Faults.{is_simple_and_free}
 use Rattle.clap.specs.declared.builder.action.ArgAction.TheVariants.{Set, SetTrue, Append}
 use Rattle.clap.specs.declared.builder.value_parser.ValueParser.TheVariants as vp
 use Rattle.clap.specs.declared.builder.range.ValueRange.{ValueRange}
-use Rattle.ocr_run_command.specs.Form.{Text, option_names, flag_names, is_in}
-use Rattle.ocr_run_command.proofs.Names.{numbers}
+use Rattle.ocr_run_command.specs.Form.{Text, option_names, flag_names, is_in, numbers}
 use Rattle.ocr_run_command.specs.Reader.{reader_app}
 use Rattle.ocr_run_command.proofs.Rows.{same}
 

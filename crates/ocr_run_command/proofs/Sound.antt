@@ -6,12 +6,11 @@ use Rattle.clap.specs.Lexer.{long_of, short_of}
 use Rattle.clap.specs.Walk.{Held, Outcome, Rule, Row, Waiting, Walk, idle, positional, option as awaiting, value, plain, bundle_met, arg_by_id, arg_by_long, arg_by_short, plain_word, settled, used, walked}
 use Rattle.clap.specs.Faults.{bundle_step_fault, flags_fault, settle_fault, turn_fault, use_fault, walk_fault}
 use Rattle.clap.specs.Kinds.{Kinds, or_else}
-use Rattle.ocr_run_command.specs.Form.{Text, Piece, number, option, joined, flag, Line, line_words, said, AreKnown, IsKnown, is_in, option_names, flag_names}
-use Rattle.ocr_run_command.proofs.Names.{IsOnce, numbers}
+use Rattle.ocr_run_command.specs.Form.{Text, Piece, number, option, joined, flag, Line, line_words, said, AreKnown, IsKnown, is_in, option_names, flag_names, numbers}
 use Rattle.ocr_run_command.proofs.Rules.{Finds, shape, option_rule, flag_rule, number_rule}
 use Rattle.ocr_run_command.proofs.Rows.{equal}
 use Rattle.ocr_run_command.proofs.Lex.{Spells, spells, dashes}
-use Rattle.ocr_run_command.proofs.Pieces.{Holds, rule_for, texts_for, or_nil, is_new, use_holds, given_once}
+use Rattle.ocr_run_command.proofs.Pieces.{IsOnce, Holds, rule_for, texts_for, or_nil, is_new, use_holds, given_once}
 use Rattle.ocr_run_command.proofs.Turns.{Turn, on, free, turn, by_found, with_pending, dash_turn, long_turn, by_step, by_word, flag_turn, joined_turn, option_turn, value_turn, tail_turn, awaited_turn, turn_is}
 
 abbrev is_cons : Kinds → Bool

@@ -8,8 +8,7 @@ use Rattle.clap.specs.Walk.{after_flag, after_step, arg_by_id, arg_by_index, arg
 use Rattle.clap.specs.Simple.{Shape}
 use Rattle.clap.specs.Faults.{flag_word_fault, flags_fault, long_fault, option_fault, positional_fault, react_fault, settle_fault, step_fault, stray_fault, turn_fault, use_fault, walk_fault}
 use Rattle.clap.specs.Kinds.{Kinds, or_else}
-use Rattle.ocr_run_command.specs.Form.{Text}
-use Rattle.ocr_run_command.proofs.Names.{numbers}
+use Rattle.ocr_run_command.specs.Form.{Text, numbers}
 use Rattle.ocr_run_command.proofs.Rules.{shape, option_rule, flag_rule, number_rule}
 use Rattle.ocr_run_command.proofs.Lex.{IsPlain, dashes}
 

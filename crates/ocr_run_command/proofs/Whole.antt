@@ -9,12 +9,11 @@ use Rattle.clap.specs.Kinds.{Kinds, or_else}
 use Rattle.clap.specs.declared.parser.matches.ValueSource.TheVariants.{DefaultValue}
 use Rattle.clap.specs.declared.builder.value_parser.Reading.TheVariants.{AsWritten}
 use Rattle.clap.proofs.FaultLemmas.{leaf_fault}
-use Rattle.ocr_run_command.specs.Form.{Text, Piece, Line, line_words, said, AreKnown, is_in, option_names, flag_names}
-use Rattle.ocr_run_command.proofs.Names.{IsOnce, given}
+use Rattle.ocr_run_command.specs.Form.{Text, Piece, Line, line_words, said, AreKnown, is_in, option_names, flag_names, given}
 use Rattle.ocr_run_command.specs.Reader.{reader_app}
 use Rattle.ocr_run_command.proofs.Rules.{finds, rules, shape, option_rule, flag_rule, number_rule}
 use Rattle.ocr_run_command.proofs.Rows.{Seen, seen, same, equal, seen_with, unseen}
-use Rattle.ocr_run_command.proofs.Pieces.{Holds, some_of, or_nil, nil_or}
+use Rattle.ocr_run_command.proofs.Pieces.{IsOnce, Holds, some_of, or_nil, nil_or}
 use Rattle.ocr_run_command.proofs.Turns.{on}
 use Rattle.ocr_run_command.proofs.Sound.{Passes, end_rows, sound}
 use Rattle.ocr_run_command.proofs.Complete.{ArePlain, complete}
@@ -37,7 +36,7 @@ some_filled : (b : Bool) (x : Seen) → is_some x ≡ true → filled b x ≡ x
 some_filled b None e = absurd (true≢false (sym e))
 some_filled b (Some p) e = refl
 
-filled_false : (x : Seen) → filled false x ≡ x
+pub filled_false : (x : Seen) → filled false x ≡ x
 filled_false None = refl
 filled_false (Some p) = refl
 

@@ -1,5 +1,5 @@
 -- The form of the words after the command.
-use Rattle.std.specs.Prelude.{◌≡◌, ◌≤◌, ℕ, suc, Bool, true, List, [], ◌∷◌, ◌++◌, length, codes, map}
+use Rattle.std.specs.Prelude.{◌≡◌, ◌≤◌, ◌||◌, ℕ, Bool, true, List, [], ◌∷◌, ◌++◌, length, codes, map}
 use Rattle.std.specs.Prelude.{Option, Some, None, if◌then◌else◌, String, string_bytes}
 use Rattle.std.specs.Global.{Global}
 use Rattle.std.specs.List.{list_any}
@@ -84,35 +84,36 @@ said l = l.pieces ++ tail_pieces l.tail
 
 -- ---- what is given
 
--- the numbers
-abbrev pub numbers_in : List Piece → List Text
-numbers_in [] = []
-numbers_in (number t ∷ ps) = t ∷ numbers_in ps
-numbers_in (option name t ∷ ps) = numbers_in ps
-numbers_in (joined name t ∷ ps) = numbers_in ps
-numbers_in (flag name ∷ ps) = numbers_in ps
+-- an option or a flag
+abbrev pub is_single : Text → Bool
+is_single name = is_in name option_names || is_in name flag_names
 
--- the values of an option
-abbrev pub values_of : Text → List Piece → List Text
-values_of o [] = []
-values_of o (number t ∷ ps) = values_of o ps
-values_of o (option name t ∷ ps) =
-    if bytes_eq name o then t ∷ values_of o ps else values_of o ps
-values_of o (joined name t ∷ ps) =
-    if bytes_eq name o then t ∷ values_of o ps else values_of o ps
-values_of o (flag name ∷ ps) = values_of o ps
+-- the name that the numbers have; no option and no flag has it
+abbrev pub numbers : Text
+numbers = codes "numbers"
 
--- how often a flag stands
-abbrev pub times : Text → List Piece → ℕ
-times f [] = 0
-times f (number t ∷ ps) = times f ps
-times f (option name t ∷ ps) = times f ps
-times f (joined name t ∷ ps) = times f ps
-times f (flag name ∷ ps) = if bytes_eq name f then suc (times f ps) else times f ps
+-- the name under which a piece gives its text
+abbrev pub name_of : Piece → Text
+name_of (number t) = numbers
+name_of (option name t) = name
+name_of (joined name t) = name
+name_of (flag name) = name
+
+-- the text that it gives; a flag gives `true`
+abbrev pub value_of : Piece → Text
+value_of (number t) = t
+value_of (option name t) = t
+value_of (joined name t) = t
+value_of (flag name) = codes "true"
+
+-- the texts that are given under a name
+abbrev pub given : Text → List Piece → List Text
+given name [] = []
+given name (p ∷ ps) =
+    if bytes_eq (name_of p) name then value_of p ∷ given name ps else given name ps
 
 -- the words are those of the line, each name is known, and each option and flag stands at most once
 pub record IsLineOf (l : Line) (words : List Text) : Type 0 where
   pub spelled : words ≡ line_words l
   pub known : AreKnown l.pieces
-  pub options_once : (o : Text) → is_in o option_names ≡ true → length (values_of o (said l)) ≤ 1
-  pub flags_once : (f : Text) → is_in f flag_names ≡ true → times f (said l) ≤ 1
+  pub once : (name : Text) → is_single name ≡ true → length (given name (said l)) ≤ 1

@@ -1,9 +1,9 @@
 -- What the words ask for.
-use Rattle.std.specs.Prelude.{nat_lt, ◌≡◌, ◌⊎◌, ◌≤◌, ◌<◌, ◌*◌, ◌^◌, ℕ, false, List, [], ◌∷◌, length, map}
-use Rattle.std.specs.Prelude.{codes, Option, Some, None}
+use Rattle.std.specs.Prelude.{nat_lt, ◌≡◌, ◌⊎◌, ◌≤◌, ◌<◌, ◌*◌, ◌^◌, ℕ, Bool, true, List, [], ◌∷◌, length, map}
+use Rattle.std.specs.Prelude.{codes, Option, Some, None, slice_get}
 use Rattle.std.specs.List.{All}
 use Rattle.std.specs.Str.Parse.{IsNumeral, digits_value}
-use Rattle.ocr_run_command.specs.Form.{IsLineOf, Line, Text, numbers_in, said, times, values_of}
+use Rattle.ocr_run_command.specs.Form.{IsLineOf, Line, Piece, Text, given, numbers, said}
 use Rattle.ocr_run_command.specs.declared.wanted.Options.{Options}
 use Rattle.ocr_run_command.specs.declared.wanted.Reports.{Reports}
 use Rattle.ocr_run_command.specs.declared.wanted.Wanted.{Wanted}
@@ -23,125 +23,89 @@ value t = digits_value 10 t
 abbrev pub AreNumbers : List Text → Type 0
 AreNumbers ts = All IsNumber ts
 
--- n is the number that is given, or this one where none is
-abbrev pub IsOr : ℕ → Option Text → ℕ → Type 0
-IsOr default None n = n ≡ default
-IsOr default (Some t) n = IsNumber t × (n ≡ value t)
+-- the text writes n, which is from the first bound to the second
+pub record IsWithin (least most : ℕ) (t : Text) (n : ℕ) : Type 0 where
+  pub is_number : IsNumber t
+  pub is : n ≡ value t
+  pub from : least ≤ n
+  pub to : n ≤ most
 
-abbrev pub IsNone : Option Text → Type 0
-IsNone None = Unit {0}
-IsNone (Some t) = ⊥
+-- n is the number within its bounds that is given, or this one where none is
+abbrev pub IsOr : (default least most : ℕ) → Option Text → ℕ → Type 0
+IsOr default least most None n = n ≡ default
+IsOr default least most (Some t) n = IsWithin least most t n
 
--- ---- what a line gives
+-- ---- what the pieces give
 
-pub record Texts : Type 0 where
-  pub workers : Option Text
-  pub objects : Option Text
-  pub events : Option Text
-  pub reports : Reports
-  pub numbers : List Text
+-- the value of an option, where it is given
+abbrev pub option_in : Text → List Piece → Option Text
+option_in name ps = slice_get (given name ps) 0
 
-abbrev pub first : List Text → Option Text
-first [] = None
-first (t ∷ ts) = Some t
+abbrev pub is_given : Text → List Piece → Bool
+is_given name ps = nat_lt 0 (length (given name ps))
 
-abbrev pub reports_in : Line → Reports
-reports_in l = record {
-  summary = nat_lt 0 (times (codes "summary") (said l));
-  left = nat_lt 0 (times (codes "left") (said l));
-  stale = nat_lt 0 (times (codes "stale") (said l));
-  refused = nat_lt 0 (times (codes "refused") (said l));
-  races = nat_lt 0 (times (codes "races") (said l));
-  blocks = nat_lt 0 (times (codes "blocks") (said l));
-  journal = nat_lt 0 (times (codes "journal") (said l));
-}
-
-abbrev pub given_in : Line → Texts
-given_in l = record {
-  workers = first (values_of (codes "workers") (said l));
-  objects = first (values_of (codes "objects") (said l));
-  events = first (values_of (codes "events") (said l));
-  reports = reports_in l;
-  numbers = numbers_in (said l);
+abbrev pub reports_in : List Piece → Reports
+reports_in ps = record {
+  summary = is_given (codes "summary") ps;
+  left = is_given (codes "left") ps;
+  stale = is_given (codes "stale") ps;
+  refused = is_given (codes "refused") ps;
+  races = is_given (codes "races") ps;
+  blocks = is_given (codes "blocks") ps;
+  journal = is_given (codes "journal") ps;
 }
 
 -- ---- the commands
 
--- the first word is a command that is built
+-- the first word is a command
 abbrev pub NamesCommand : List Text → Type 0
 NamesCommand [] = ⊥
-NamesCommand (command ∷ words) = (command ≡ codes "run") ⊎ (command ≡ codes "check")
+NamesCommand (command ∷ words) =
+    (command ≡ codes "run") ⊎ (command ≡ codes "check") ⊎ (command ≡ codes "load")
 
--- the number of workers that is taken where none is given
-abbrev pub default_workers : ℕ
-default_workers = 4
+-- these are so many workers
+abbrev pub AreWorkers : List Piece → ℕ → Type 0
+AreWorkers ps n = IsOr 4 1 64 (option_in (codes "workers") ps) n
 
 -- the options of `run`
-pub record IsRunOptions (t : Texts) (options : Options) : Type 0 where
-  pub workers : IsOr default_workers t.workers options.workers
-  pub workers_from : 1 ≤ options.workers
-  pub workers_to : options.workers ≤ 64
-  pub objects : IsOr 4096 t.objects options.objects
-  pub objects_from : 2 ≤ options.objects
-  pub objects_to : options.objects ≤ 65536
-  pub events : IsOr 200000 t.events options.events
-  pub events_from : 1 ≤ options.events
-  pub events_to : options.events ≤ 16000000
+pub record IsRunOptions (ps : List Piece) (options : Options) : Type 0 where
+  pub workers : AreWorkers ps options.workers
+  pub objects : IsOr 4096 2 65536 (option_in (codes "objects") ps) options.objects
+  pub events : IsOr 200000 1 16000000 (option_in (codes "events") ps) options.events
   pub share : options.workers * options.events ≤ 16000000
-  pub reports : options.reports ≡ t.reports
+  pub reports : options.reports ≡ reports_in ps
 
 -- `run`
-pub record IsRun (t : Texts) (options : Options) (args : List ℕ) : Type 0 where
-  pub options_are : IsRunOptions t options
-  pub numbers : AreNumbers t.numbers
-  pub args_are : args ≡ map value t.numbers
-  pub few : length t.numbers ≤ 32
+pub record IsRun (ps : List Piece) (options : Options) (args : List ℕ) : Type 0 where
+  pub options_are : IsRunOptions ps options
+  pub numbers_are : AreNumbers (given numbers ps)
+  pub args_are : args ≡ map value (given numbers ps)
+  pub few : length args ≤ 32
 
-abbrev pub no_reports : Reports
-no_reports = record {
-  summary = false;
-  left = false;
-  stale = false;
-  refused = false;
-  races = false;
-  blocks = false;
-  journal = false;
-}
-
--- `check`
-pub record IsCheck (t : Texts) : Type 0 where
-  pub workers : IsNone t.workers
-  pub objects : IsNone t.objects
-  pub events : IsNone t.events
-  pub reports : t.reports ≡ no_reports
-  pub numbers : t.numbers ≡ []
-
--- `load`
-pub record IsLoad (t : Texts) (number : ℕ) (options : Options) : Type 0 where
+-- `load`; the summary is always among its reports
+pub record IsLoad (ps : List Piece) (number : ℕ) (options : Options) : Type 0 where
   pub text : Text
-  pub numbers : t.numbers ≡ text ∷ []
-  pub is_number : IsNumber text
-  pub number_is : number ≡ value text
-  pub number_from : 1 ≤ number
-  pub number_to : number ≤ 500
-  pub workers : IsOr default_workers t.workers options.workers
-  pub workers_from : 1 ≤ options.workers
-  pub workers_to : options.workers ≤ 64
-  pub no_objects : IsNone t.objects
+  pub one : given numbers ps ≡ text ∷ []
+  pub number_is : IsWithin 1 500 text number
+  pub workers : AreWorkers ps options.workers
+  pub no_objects : option_in (codes "objects") ps ≡ None
   pub objects : options.objects ≡ 65536
-  pub no_events : IsNone t.events
+  pub no_events : option_in (codes "events") ps ≡ None
   pub events : options.events ≡ 200000
-  pub reports : options.reports ≡ t.reports
-  -- until the command is built
-  pub not_built : ⊥
+  pub reports : options.reports ≡ record (reports_in ps) { summary = true }
 
-abbrev pub Asks : Text → Texts → Wanted → Type 0
-Asks command t (a.Run options args) = (command ≡ codes "run") × IsRun t options args
-Asks command t a.Check = (command ≡ codes "check") × IsCheck t
-Asks command t (a.Load number options) = (command ≡ codes "load") × IsLoad t number options
+-- the pieces after this command ask for w; nothing stands after `check`
+abbrev pub Asks : Text → List Piece → Wanted → Type 0
+Asks command ps (a.Run options args) = (command ≡ codes "run") × IsRun ps options args
+Asks command ps a.Check = (command ≡ codes "check") × (ps ≡ [])
+Asks command ps (a.Load number options) = (command ≡ codes "load") × IsLoad ps number options
 
 -- the words are in a form, and ask for w
 abbrev pub IsAsked : List Text → Wanted → Type 0
 IsAsked [] w = ⊥
-IsAsked (command ∷ words) w =
-    (l : Line) × IsLineOf l words × Asks command (given_in l) w
+IsAsked (command ∷ words) w = (l : Line) × IsLineOf l words × Asks command (said l) w
+
+-- words ask for one thing
+abbrev pub AskedLaw : Type 0
+AskedLaw = (words : List Text) (wanted other : Wanted) → IsAsked words wanted
+    → IsAsked words other → wanted ≡ other

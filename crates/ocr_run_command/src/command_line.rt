@@ -1,11 +1,11 @@
 // The commands, and what each takes of what is given.
-ghost use Rattle.std.specs.Prelude.{◌≡◌, ◌<◌, ℕ, List, length, IfOk, IfErr, IfSome, IfNone, IsTrue, ◌↔◌, codes};
-ghost use Rattle.ocr_run_command.specs.Form.{texts_of};
-ghost use Rattle.ocr_run_command.specs.Wanted.{Asks, IsRun, IsRunOptions, IsCheck, IsAsked, NamesCommand};
-ghost use Rattle.ocr_run_command.specs.Given.{given_of};
+ghost use Rattle.std.specs.Prelude.{◌≡◌, ◌≤◌, ◌<◌, [], ℕ, List, length, IfOk, IfErr, IfSome, IfNone, IsTrue, ◌↔◌, codes};
+ghost use Rattle.ocr_run_command.specs.Form.{AreKnown, Piece, given as given_as, numbers, texts_of};
+ghost use Rattle.ocr_run_command.specs.Wanted.{Asks, AskedLaw, AreWorkers, IsRunOptions, IsAsked, IsWithin, NamesCommand, option_in};
+ghost use Rattle.ocr_run_command.specs.Given.{Gives};
 
 use crate::given::{Arguments, read};
-use crate::number::{number_within, numbers_of};
+use crate::number::{number_or, number_within, numbers_of};
 use crate::wanted::{Options, Reports, Wanted, WordsStop};
 use ocr_base::{MOST_OBJECTS, MOST_WORKERS, Seq};
 use std::alloc::Global;
@@ -21,6 +21,8 @@ const DEFAULT_EVENTS: u64 = 200_000;
 
 const MAX_NUMBERS: usize = 32;
 
+const MAX_LOAD: u64 = 500;
+
 const NO_REPORTS: Reports = Reports {
     summary: false,
     left: false,
@@ -31,14 +33,25 @@ const NO_REPORTS: Reports = Reports {
     journal: false,
 };
 
-fn run_options(given: &Arguments<'_>) -> Option<Options>
-    ensures some { IfSome result (λ options. IsRunOptions (given_of given.now) options) }
+fn workers(given: &Arguments<'_>) -> Option<u64>
+    ensures some { IfSome result
+        (λ n. (ps : List Piece) → Gives given.now ps → AreWorkers ps n) }
+    ensures within { IfSome result (λ n. (1 ≤ n) × (n ≤ 64)) }
     ensures none { IfNone result
-        ((options : Options) → IsRunOptions (given_of given.now) options → ⊥) }
+        ((ps : List Piece) → Gives given.now ps → (n : ℕ) → AreWorkers ps n → ⊥) }
 {
-    let workers = number_within(given.workers, DEFAULT_WORKERS, 1, MOST_WORKERS)?;
-    let objects = number_within(given.objects, DEFAULT_OBJECTS, 2, MOST_OBJECTS)?;
-    let events = number_within(given.events, DEFAULT_EVENTS, 1, MAX_EVENTS)?;
+    number_or(given.workers, DEFAULT_WORKERS, 1, MOST_WORKERS)
+}
+
+fn run_options(given: &Arguments<'_>) -> Option<Options>
+    ensures some { IfSome result
+        (λ options. (ps : List Piece) → Gives given.now ps → IsRunOptions ps options) }
+    ensures none { IfNone result ((ps : List Piece) → Gives given.now ps
+        → (options : Options) → IsRunOptions ps options → ⊥) }
+{
+    let workers = workers(given)?;
+    let objects = number_or(given.objects, DEFAULT_OBJECTS, 2, MOST_OBJECTS)?;
+    let events = number_or(given.events, DEFAULT_EVENTS, 1, MAX_EVENTS)?;
     if workers * events > MAX_EVENTS {
         return None;
     }
@@ -51,12 +64,13 @@ fn run_options(given: &Arguments<'_>) -> Option<Options>
 }
 
 fn run(alloc: Global, given: &Arguments<'_>) -> Result<Wanted, WordsStop>
-    ensures ok { IfOk result (λ w. Asks (codes "run") (given_of given.now) w) }
-    ensures refused { IfErr result (λ stop. stop ≡ WordsStop.Refused
-        → (options : Options) → (args : List ℕ) → IsRun (given_of given.now) options args → ⊥) }
+    ensures ok { IfOk result
+        (λ w. (ps : List Piece) → Gives given.now ps → Asks (codes "run") ps w) }
+    ensures refused { IfErr result (λ stop. stop ≡ WordsStop.Refused → (ps : List Piece)
+        → Gives given.now ps → (w : Wanted) → Asks (codes "run") ps w → ⊥) }
     ensures memory { IfErr result (λ stop. stop ≡ WordsStop.NoMemory
-        → ((options : Options) × (args : List ℕ) × IsRun (given_of given.now) options args)
-        × (0 < length (given_of given.now).numbers)) }
+        → (ps : List Piece) → Gives given.now ps
+        → ((w : Wanted) × Asks (codes "run") ps w) × (0 < length (given_as numbers ps))) }
 {
     let Some(options) = run_options(given) else {
         return Err(WordsStop::Refused)
@@ -71,8 +85,9 @@ fn run(alloc: Global, given: &Arguments<'_>) -> Result<Wanted, WordsStop>
     })
 }
 
-fn is_check(given: &Arguments<'_>) -> bool
-    ensures { IsTrue result ↔ IsCheck (given_of given.now) }
+fn is_nothing(given: &Arguments<'_>) -> bool
+    ensures { (ps : List Piece) → AreKnown ps → Gives given.now ps
+        → (IsTrue result ↔ (ps ≡ [])) }
 {
     given.workers.is_none()
         && given.objects.is_none()
@@ -82,22 +97,52 @@ fn is_check(given: &Arguments<'_>) -> bool
 }
 
 fn check(given: &Arguments<'_>) -> Result<Wanted, WordsStop>
-    ensures ok { IfOk result (λ w. Asks (codes "check") (given_of given.now) w) }
-    ensures refused { IfErr result
-        (λ stop. (stop ≡ WordsStop.Refused) × (IsCheck (given_of given.now) → ⊥)) }
+    ensures ok { IfOk result (λ w. (ps : List Piece) → AreKnown ps → Gives given.now ps
+        → Asks (codes "check") ps w) }
+    ensures refused { IfErr result (λ stop. (stop ≡ WordsStop.Refused)
+        × ((ps : List Piece) → AreKnown ps → Gives given.now ps
+        → (w : Wanted) → Asks (codes "check") ps w → ⊥)) }
 {
-    if is_check(given) {
+    if is_nothing(given) {
         Ok(Wanted::Check)
     } else {
         Err(WordsStop::Refused)
     }
 }
 
-/// What the words after the program's name ask for. Two forms are taken,
-/// `run [--workers N] [--objects N] [--events N] [REPORT..] [NUMBER..]` and `check`; `Refused`
-/// comes only where the words are in neither, and `NoMemory` only after a first word that is one of
-/// these commands. The form `load NUMBER [--workers N] [REPORT..]` is not built yet, and is
-/// refused.
+fn load(given: &Arguments<'_>) -> Result<Wanted, WordsStop>
+    ensures ok { IfOk result
+        (λ w. (ps : List Piece) → Gives given.now ps → Asks (codes "load") ps w) }
+    ensures refused { IfErr result (λ stop. (stop ≡ WordsStop.Refused) × ((ps : List Piece)
+        → Gives given.now ps → (w : Wanted) → Asks (codes "load") ps w → ⊥)) }
+{
+    if given.numbers.len() != 1 || given.objects.is_some() || given.events.is_some() {
+        return Err(WordsStop::Refused);
+    }
+    let Some(number) = number_within(given.numbers[0], 1, MAX_LOAD) else {
+        return Err(WordsStop::Refused)
+    };
+    let Some(workers) = workers(given) else {
+        return Err(WordsStop::Refused)
+    };
+    Ok(Wanted::Load {
+        number,
+        options: Options {
+            workers: workers as u32,
+            objects: MOST_OBJECTS,
+            events: DEFAULT_EVENTS,
+            reports: Reports {
+                summary: true,
+                ..given.reports
+            },
+        },
+    })
+}
+
+/// What the words after the program's name ask for. Three forms are taken,
+/// `run [--workers N] [--objects N] [--events N] [REPORT..] [NUMBER..]`, `check`, and
+/// `load NUMBER [--workers N] [REPORT..]`; `Refused` comes only where the words are in none of
+/// them, and `NoMemory` only after a first word that is one of these commands.
 pub fn command(alloc: Global, words: &[String]) -> Result<Wanted, WordsStop>
     ensures ok { IfOk result (λ w. IsAsked (texts_of words.now) w) }
     ensures only { IfOk result
@@ -119,6 +164,16 @@ pub fn command(alloc: Global, words: &[String]) -> Result<Wanted, WordsStop>
             let given = read(alloc, words)?;
             check(&given)
         }
+        "load" => {
+            let given = read(alloc, words)?;
+            load(&given)
+        }
         _ => Err(WordsStop::Refused),
     }
 }
+
+/// The law of the words: they ask for one thing at most.
+#[tactic(auto, using(crate::proofs::Asked::asked_law))]
+pub fn words_law()
+    ensures { AskedLaw }
+{}

@@ -1,10 +1,10 @@
 // The texts that the words give, read by clap.
 ghost use Rattle.std.specs.Prelude.{◌≡◌, ◌≢◌, ◌↔◌, IfOk, IfErr, OnErr, IsErrAnd, IsSome, drop, map, codes, [], option_map, unwrap_or};
 ghost use Rattle.clap.specs.Words.{found_of, kind_of, matched_of, raw_values};
-ghost use Rattle.ocr_run_command.specs.Form.{Line, IsLineOf, texts_of};
-ghost use Rattle.ocr_run_command.specs.Wanted.{given_in, reports_in};
+ghost use Rattle.ocr_run_command.specs.Form.{Line, IsLineOf, said, texts_of};
+ghost use Rattle.ocr_run_command.specs.Wanted.{reports_in};
 ghost use Rattle.ocr_run_command.specs.Numerals.{AreNumerals};
-ghost use Rattle.ocr_run_command.specs.Given.{given_of, Reads};
+ghost use Rattle.ocr_run_command.specs.Given.{Gives, Reads};
 
 use crate::reader::reader;
 use crate::wanted::{Reports, WordsStop};
@@ -23,7 +23,7 @@ pub struct Arguments<'a> {
 }
 
 fn reports_by(matches: &ArgMatches<'_>) -> Reports
-    ensures { (l : Line) → Reads (found_of matches.now) l → result ≡ reports_in l }
+    ensures { (l : Line) → Reads (found_of matches.now) l → result ≡ reports_in (said l) }
 {
     Reports {
         summary: matches.get_flag("summary"),
@@ -50,7 +50,7 @@ fn numbers_by<'a>(alloc: Global, matches: &ArgMatches<'a>) -> Result<Vec<&'a str
 
 fn given_by<'a>(alloc: Global, matches: &ArgMatches<'a>) -> Result<Arguments<'a>, AllocError>
     ensures given { IfOk result
-        (λ g. (l : Line) → Reads (found_of matches.now) l → given_of g ≡ given_in l) }
+        (λ g. (l : Line) → Reads (found_of matches.now) l → Gives g (said l)) }
     ensures memory { OnErr result
         (IsSome (matched_of (found_of matches.now) (codes "numbers"))) }
 {
@@ -80,7 +80,7 @@ fn given_from<'a>(
     answer: Result<ArgMatches<'a>, Error>,
 ) -> Result<Arguments<'a>, WordsStop>
     ensures given { IfOk answer.entry (λ m. IfOk result
-        (λ g. (l : Line) → Reads (found_of m) l → given_of g ≡ given_in l)) }
+        (λ g. (l : Line) → Reads (found_of m) l → Gives g (said l))) }
     ensures memory { IfOk answer.entry (λ m. IfErr result (λ stop. (stop ≡ WordsStop.NoMemory)
         × IsSome (matched_of (found_of m) (codes "numbers")))) }
     ensures stopped { IfErr answer.entry (λ e. IsErrAnd result
@@ -114,9 +114,9 @@ fn matches_in<'a>(alloc: Global, words: &'a [String]) -> Result<ArgMatches<'a>, 
 /// before it looks at a word.
 pub fn read<'a>(alloc: Global, words: &'a [String]) -> Result<Arguments<'a>, WordsStop>
     ensures line { IfOk result (λ g. (l : Line) × IsLineOf l (drop 1 (texts_of words.entry.now))
-        × (given_of g ≡ given_in l)) }
+        × (Gives g (said l))) }
     ensures every { IfOk result (λ g. (l : Line) → IsLineOf l (drop 1 (texts_of words.entry.now))
-        → AreNumerals l.pieces → given_of g ≡ given_in l) }
+        → AreNumerals l.pieces → Gives g (said l)) }
     ensures refused { IfErr result (λ stop. stop ≡ WordsStop.Refused
         → (l : Line) → IsLineOf l (drop 1 (texts_of words.entry.now)) → AreNumerals l.pieces → ⊥) }
 {

@@ -7,5 +7,5 @@ mod number;
 mod reader;
 mod wanted;
 
-pub use command_line::command;
+pub use command_line::{command, words_law};
 pub use wanted::{Options, Reports, Wanted, WordsStop};

@@ -1,6 +1,6 @@
 // Numbers and the texts that write them.
 ghost use Rattle.std.specs.Prelude.{◌≡◌, ◌≤◌, ◌<◌, ◌↔◌, ℕ, IfOk, IfErr, IfSome, IfNone, IsTrue, length, map, option_map};
-ghost use Rattle.ocr_run_command.specs.Wanted.{IsNumber, IsOr, AreNumbers, value};
+ghost use Rattle.ocr_run_command.specs.Wanted.{IsNumber, IsOr, IsWithin, AreNumbers, value};
 
 use crate::wanted::WordsStop;
 use std::alloc::Global;
@@ -20,22 +20,32 @@ pub fn number_of(text: &str) -> Option<u64>
     }
 }
 
-/// The number that is given, or `default` where none is. `None` where that is no number from
-/// `least` to `most`.
-pub fn number_within(text: Option<&str>, default: u64, least: u64, most: u64) -> Option<u64>
-    ensures some { IfSome result
-        (λ n. IsOr default (option_map (λ t. t.now) text.entry) n × (least ≤ n) × (n ≤ most)) }
-    ensures none { IfNone result
-        ((n : ℕ) → IsOr default (option_map (λ t. t.now) text.entry) n → least ≤ n → n ≤ most → ⊥) }
+/// The number that a text writes, from `least` to `most`.
+pub fn number_within(text: &str, least: u64, most: u64) -> Option<u64>
+    ensures some { IfSome result (λ n. IsWithin least most text.now n) }
+    ensures none { IfNone result ((n : ℕ) → IsWithin least most text.now n → ⊥) }
 {
-    let number = match text {
-        None => default,
-        Some(text) => number_of(text)?,
-    };
+    let number = number_of(text)?;
     if least <= number && number <= most {
         Some(number)
     } else {
         None
+    }
+}
+
+/// The number that is given, or `default` where none is. `None` where what is given is no number
+/// from `least` to `most`.
+pub fn number_or(text: Option<&str>, default: u64, least: u64, most: u64) -> Option<u64>
+    ensures some { IfSome result
+        (λ n. IsOr default least most (option_map (λ t. t.now) text.entry) n) }
+    ensures within { least ≤ default → default ≤ most
+        → IfSome result (λ n. (least ≤ n) × (n ≤ most)) }
+    ensures none { IfNone result
+        ((n : ℕ) → IsOr default least most (option_map (λ t. t.now) text.entry) n → ⊥) }
+{
+    match text {
+        None => Some(default),
+        Some(text) => number_within(text, least, most),
     }
 }
 

@@ -6,13 +6,19 @@ use Rattle.ocr_machine_history.specs.History.{History}
 use Rattle.ocr_machine_history.specs.Output.{ending_of}
 use Rattle.ocr_run_execution.specs.declared.ending.Ending.{Ending}
 use Rattle.ocr_run_execution.specs.declared.ending.Ending.TheVariants as ending
-use Rattle.ocr_run_execution.specs.Ending.{IsMet, shut_down, stuck, aborted, faulted, out_of_memory, limited, end_of, end_status}
+use Rattle.ocr_run_execution.specs.Ending.{IsMet, shut_down, stuck, aborted, faulted, out_of_memory, limited, end_of, end_line, end_status}
+use Rattle.ocr_run_execution.specs.Lines.{ending_line}
 
--- the status of a run is that of its end
+-- the status and the line of a run are those of its end
 pub status_of_end : (past : History) → ending_of past ≡ end_status (end_of past)
 status_of_end [] = refl
 status_of_end (Stop why ∷ past) = refl
 status_of_end (other ∷ past) = refl
+
+pub line_of_end : (past : History) → ending_line past ≡ end_line (end_of past)
+line_of_end [] = refl
+line_of_end (Stop why ∷ past) = refl
+line_of_end (other ∷ past) = refl
 
 pub end_met : (e : Ending) → IsMet (end_status e)
 end_met (ending.Quiet left) = elim (left == 0) as (λ b. IsMet (if b then 0 else 4)) [ true ↦ shut_down | false ↦ stuck ]

@@ -1,5 +1,5 @@
 -- Bytes are at most one program, have at most one fault, and never both.
-use Rattle.std.proofs.Common.{◌≡◌, ℕ, List, sym, ap, subst}
+use Rattle.std.proofs.Common.{◌≡◌, ◌<◌, ◌^◌, ℕ, List, sym, ap, subst, arith}
 use Rattle.ocr_text.specs.Tokens.{AreTokens}
 use Rattle.ocr_text.proofs.Laws.{tokens_law}
 use Rattle.ocr_text.specs.declared.token.Token.{Token}
@@ -11,7 +11,9 @@ use Rattle.ocr_program_check.proofs.First.{breach_is_one}
 use Rattle.ocr_program_check.specs.declared.rules.CheckFault.{CheckFault}
 use Rattle.ocr_run_execution.specs.declared.text.TextFault.{TextFault}
 use Rattle.ocr_run_execution.specs.declared.text.TextFault.TheVariants as fault
-use Rattle.ocr_run_execution.specs.ProgramText.{IsNoProgram, no_tokens, no_tree, breaks_rule, TextLaw}
+use Rattle.ocr_run_execution.specs.ProgramText.{IsProgramText, IsNoProgram, no_tokens, no_tree, breaks_rule, TextLaw}
+use Rattle.ocr_program_load.specs.LoadText.{load_text}
+use Rattle.ocr_program_load.proofs.Loaded.{load_law}
 
 -- a tree of other tokens of the same bytes is a tree of these
 tree_here : (bytes : List ℕ) (tokens others : List Token) (program : List FunctionTree) → AreTokens bytes tokens → AreTokens bytes others
@@ -55,6 +57,20 @@ same_fault bytes found other (breaks_rule tokens program breach are tree is) (no
 same_fault bytes found other (breaks_rule tokens program breach are tree is) (breaks_rule others program2 breach2 those tree2 is2) =
     let same : program2 ≡ program = sym (same_program bytes tokens others program program2 are those tree tree2) in
     ap fault.Breach (same_breach breach breach2 (breach_is_one program breach.rule breach.function breach2.rule breach2.function is (subst (λ (p : List FunctionTree). IsBreach p breach2.rule breach2.function) same is2)))
+
+-- the text of `load` is a program
+pub loaded_program : (n : ℕ) → n < 2 ^ 64 → (program : List FunctionTree) × IsProgramText (load_text n) program
+loaded_program n low =
+    let is = load_law n low in (
+      is.program,
+      record {
+        size = omega (arith, is.short);
+        tokens = is.is_text.tokens;
+        are_tokens = is.is_text.are;
+        tree = is.is_text.tree;
+        sound = is.sound;
+      },
+    )
 
 pub text_law : TextLaw
 text_law = record {

@@ -1,14 +1,13 @@
 -- The lines on `err`.
-use Rattle.std.specs.Prelude.{◌==◌, ℕ, List, [], ◌∷◌, ◌++◌, codes, if◌then◌else◌}
+use Rattle.std.specs.Prelude.{◌==◌, ℕ, List, [], ◌∷◌, ◌++◌, length, codes, if◌then◌else◌}
 use Rattle.std.specs.Fmt.{decimal}
+use Rattle.ocr_machine_history.specs.declared.entry.Entry.TheVariants.{Stop}
 use Rattle.ocr_machine_history.specs.declared.entry.Fault as machine
 use Rattle.ocr_machine_history.specs.declared.entry.Fault.TheVariants as kind
 use Rattle.ocr_machine_history.specs.declared.entry.Stop as run
 use Rattle.ocr_machine_history.specs.declared.entry.Stop.TheVariants as by
 use Rattle.ocr_machine_history.specs.History.{History}
-use Rattle.ocr_run_execution.specs.Ending.{end_of}
-use Rattle.ocr_run_execution.specs.declared.ending.Ending.{Ending}
-use Rattle.ocr_run_execution.specs.declared.ending.Ending.TheVariants as ending
+use Rattle.ocr_machine_history.specs.Output.{left_edts}
 use Rattle.ocr_run_execution.specs.declared.text.TextFault.{TextFault}
 use Rattle.ocr_run_execution.specs.declared.text.TextFault.TheVariants as fault
 
@@ -32,14 +31,15 @@ stop_line by.Objects = codes "limit: objects\n"
 stop_line (by.Events worker weight) = numbered (codes "limit: events of worker ") worker
 stop_line by.Memory = codes "want of memory\n"
 
--- the line of such an end
-abbrev pub end_line : Ending → List ℕ
-end_line (ending.Quiet left) = if left == 0 then [] else numbered (codes "stuck: ") left
-end_line (ending.Stopped why) = stop_line why
+-- the line of a run without a stop, by how many EDTs are left
+abbrev pub quiet_line : ℕ → List ℕ
+quiet_line left = if left == 0 then [] else numbered (codes "stuck: ") left
 
 -- the line of a run
 abbrev pub ending_line : History → List ℕ
-ending_line past = end_line (end_of past)
+ending_line [] = quiet_line (length (left_edts []))
+ending_line (Stop why ∷ past) = stop_line why
+ending_line (e ∷ past) = quiet_line (length (left_edts (e ∷ past)))
 
 -- the line of bytes that are no program
 abbrev pub fault_line : TextFault → List ℕ

@@ -20,7 +20,7 @@ output_of s past reports races =
     printed past
     ++ asked_if reports.summary (summary_text past)
     ++ asked_if reports.left (left_text s past)
-    ++ asked_if reports.stale (stale_text past)
+    ++ asked_if reports.stale (stale_text s past)
     ++ asked_if reports.refused (refused_text past)
     ++ asked_if reports.races races
     ++ asked_if reports.blocks (blocks_text s past)

@@ -83,6 +83,7 @@ fn run_checked<R: Threads + Wait + Sync, G: Gate + Sync>(
 }
 
 // What is told of a run with this journal.
+#[tactic(auto, using(crate::proofs::Ends::line_of_end))]
 fn told(
     alloc: Global,
     reports: Reports,

@@ -10,5 +10,6 @@ mod text;
 
 pub use executed::{Executed, execute};
 pub use lines::line_of_fault;
+pub use ocr_program_load::{load_laws, load_text};
 pub use ocr_run_crew::{Gate, Merged, NoGate};
 pub use text::{TextFault, TextStop, canonical_of, text_laws};

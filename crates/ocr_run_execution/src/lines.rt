@@ -1,7 +1,8 @@
 // The lines on `err`.
 ghost use Rattle.std.specs.Prelude.{◌≡◌, ◌++◌, IfOk};
 ghost use Rattle.std.specs.Fmt.{decimal};
-ghost use Rattle.ocr_run_execution.specs.Lines.{numbered, fault_words, stop_line, end_line, fault_line};
+ghost use Rattle.ocr_run_execution.specs.Lines.{numbered, fault_words, stop_line, fault_line};
+ghost use Rattle.ocr_run_execution.specs.Ending.{end_line};
 
 use crate::ending::Ending;
 use crate::text::TextFault;

@@ -115,8 +115,9 @@ fn stale(
     journal: &Journal,
     is_asked: bool,
 ) -> Result<(), NoMemory>
-    ensures { OnOk result (text.new.items ≡ text.old.items
-        ++ asked_if is_asked (stales.stale_text (history_of journal.now))) }
+    ensures { OnOk result ((s : history.Setting) → IsRun s (history_of journal.now)
+        → text.new.items ≡ text.old.items
+        ++ asked_if is_asked (stales.stale_text s (history_of journal.now))) }
 {
     if is_asked {
         let report = stale_text(alloc, journal)?;

@@ -250,7 +250,48 @@ fn check_takes_nothing_more(rt: HostRuntime) -> Result<(), Fail> {
     Ok(())
 }
 
-static REFUSED: [&str; 33] = [
+// A line, its number, its workers and its reports.
+const LOADS: [(&str, u64, u32, [char; 7]); 6] = [
+    ("load 1", 1, 4, ['s', '-', '-', '-', '-', '-', '-']),
+    ("load 500 --", 500, 4, ['s', '-', '-', '-', '-', '-', '-']),
+    ("load -- 007", 7, 4, ['s', '-', '-', '-', '-', '-', '-']),
+    (
+        "load --workers 64 2",
+        2,
+        64,
+        ['s', '-', '-', '-', '-', '-', '-'],
+    ),
+    (
+        "load 2 --summary",
+        2,
+        4,
+        ['s', '-', '-', '-', '-', '-', '-'],
+    ),
+    (
+        "load --journal 2 --left --workers=1",
+        2,
+        1,
+        ['s', 'l', '-', '-', '-', '-', 'j'],
+    ),
+];
+
+#[test]
+fn words_of_a_load_give_its_number_and_options(rt: HostRuntime) -> Result<(), Fail> {
+    for (line, size, workers, reports) in LOADS {
+        let Ok(Wanted::Load { number, options }) = asked(rt.alloc(), line) else {
+            assert!(rt; false, "{line}");
+            return Ok(())
+        };
+        assert_eq!(rt; number, size);
+        assert_eq!(rt; options.workers, workers);
+        assert_eq!(rt; options.objects, 65_536);
+        assert_eq!(rt; options.events, 200_000);
+        assert_eq!(rt; letters(options.reports), reports);
+    }
+    Ok(())
+}
+
+static REFUSED: [&str; 40] = [
     // no command, or another one
     "",
     "walk",
@@ -288,8 +329,15 @@ static REFUSED: [&str; 33] = [
     // the other commands
     "check -- 5",
     "check --journal",
+    "load",
+    "load 0",
     "load 501",
-    "load 5",
+    "load 5 5",
+    "load --objects 4096 5",
+    "load 5 --events=200000",
+    "load --workers 65 5",
+    "load five",
+    "load --summary --summary 5",
 ];
 
 #[test]

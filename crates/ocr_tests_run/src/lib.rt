@@ -8,6 +8,8 @@ pub use examples::{EXAMPLES, Example, LAST_EXAMPLES, MORE_EXAMPLES};
 pub use outcomes::{CREWS, Faults, NO_FAULTS, Outcome, outcome_at, outcome_of, run, run_by};
 
 #[cfg(test)]
+mod loads;
+#[cfg(test)]
 mod races;
 #[cfg(test)]
 mod runs;

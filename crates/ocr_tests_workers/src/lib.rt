@@ -6,6 +6,8 @@ mod events;
 #[cfg(test)]
 mod gates;
 #[cfg(test)]
+mod loads;
+#[cfg(test)]
 mod races;
 #[cfg(test)]
 mod resumes;

@@ -35,3 +35,18 @@ pub returns-in-Check-clause-complete : goal.returns-in-Check-clause-complete
 returns-in-Check-clause-complete g c = λ program is sound.
     subst (λ (w : Wanted). (c.answer_check.result.status ≡ 9) ⊎ IsComplete w c.answer_check.result.journal c.answer_check.result.status) (sym c.in-Check.is)
     (c.answer_check.ensures.complete program is sound)
+
+pub returns-in-Load-clause-caused : goal.returns-in-Load-clause-caused
+returns-in-Load-clause-caused g c = weaker_caused (IsCheck c.args.wanted) c.answer_run-in-Load.result.journal c.answer_run-in-Load.result.status c.answer_run-in-Load.ensures.caused
+
+pub returns-in-Load-clause-unrun : goal.returns-in-Load-clause-unrun
+returns-in-Load-clause-unrun g c = λ run. none_first c.answer_run-in-Load.result.journal _ _ c.answer_run-in-Load.ensures.unrun
+
+pub returns-in-Load-clause-silent : goal.returns-in-Load-clause-silent
+returns-in-Load-clause-silent g c = λ is.
+    run_silent c.answer_run-in-Load.result.journal c.answer_run-in-Load.result.status _ _ _ c.answer_run-in-Load.ensures.accepted c.answer_run-in-Load.ensures.unrun c.answer_run-in-Load.ensures.memory c.answer_run-in-Load.ensures.no_program is
+
+pub returns-in-Load-clause-complete : goal.returns-in-Load-clause-complete
+returns-in-Load-clause-complete g c = λ program is sound.
+    subst (λ (w : Wanted). (c.answer_run-in-Load.result.status ≡ 9) ⊎ IsComplete w c.answer_run-in-Load.result.journal c.answer_run-in-Load.result.status) (sym c.in-Load.is)
+    (c.answer_run-in-Load.ensures.complete program is sound)

@@ -1,7 +1,6 @@
-use Rattle.std.proofs.Common.{◌<◌, ◌∙◌, subst, refl, ℕ, List, codes, length, take, Some}
+use Rattle.std.proofs.Common.{◌<◌, ◌∙◌, inr, arith, subst, refl, ℕ, List, codes, length, take, Some}
 use Rattle.std.specs.Io.KnownBytes.{Appends}
 use Rattle.ocr_run.specs.Headline.{write_fault, whole, front, nothing}
-use Rattle.ocr_run.specs.Headline.{write_failed, out_of_memory}
 use Rattle.ocr_run.proofs.Told.{run_line, met_status}
 use Rattle.ocr_run.proofs.top.finish.Goals as goal
 use Rattle.ocr_io.proofs.KnownBytes.{keeps_all}
@@ -15,7 +14,7 @@ returns-then-executed-eq9-clause-told g c =
     (c.deref.result.now, (c.tell.ensures, run_line entries (Some entries) c.deref.result.now 9 refl (c.deref.ensures.value ∙ c.requires.line) (c.requires.ending ∙ c.if-executed-eq9.true)))
 
 pub returns-then-executed-eq9-clause-status : goal.returns-then-executed-eq9-clause-status
-returns-then-executed-eq9-clause-status g c = out_of_memory
+returns-then-executed-eq9-clause-status g c = inr (omega arith, omega arith)
 
 pub returns-in-Ok-clause-written : goal.returns-in-Ok-clause-written
 returns-in-Ok-clause-written g c =
@@ -38,4 +37,4 @@ pub returns-clause-told : goal.returns-clause-told
 returns-clause-told g c = (codes "write fault\n", (c.tell-in-Err.ensures, write_fault))
 
 pub returns-clause-status : goal.returns-clause-status
-returns-clause-status g c = write_failed
+returns-clause-status g c = inr (omega arith, omega arith)

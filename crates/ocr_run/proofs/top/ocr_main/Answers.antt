@@ -1,7 +1,9 @@
 use Rattle.std.proofs.Common.{◌≡◌, ◌⊎◌, codes, subst, sym}
 use Rattle.ocr_run_command.specs.Form.{texts_of}
 use Rattle.ocr_run_command.specs.declared.wanted.Wanted.{Wanted}
-use Rattle.ocr_run.specs.Headline.{IsComplete, words_refused, want_of_memory}
+use Rattle.ocr_run_command.specs.declared.wanted.Wanted.TheVariants as want
+use Rattle.ocr_run.specs.Headline.{HasProgram, HasNoProgram, IsComplete, words_refused, want_of_memory}
+use Rattle.ocr_run.specs.Wants.{IsLoad}
 use Rattle.ocr_run.proofs.Told.{line_at, servable, headline_of, check_of, asked_of, caused_as, weaker_caused, given_of}
 use Rattle.ocr_run.proofs.top.ocr_main.Goals as goal
 
@@ -20,12 +22,17 @@ returns-in-Ok-clause-caused g c =
     caused_as _ _ c.serve.result.journal c.serve.result.status (asked_of (texts_of c.args.words.now) c.in-Ok.wanted c.in-Ok.ensures.ok) c.serve.ensures.caused
 
 pub returns-in-Ok-clause-complete : goal.returns-in-Ok-clause-complete
-returns-in-Ok-clause-complete g c = λ wanted bytes program asked told is reads writes.
-    subst (λ (w : Wanted). (c.serve.result.status ≡ 9) ⊎ IsComplete w c.serve.result.journal c.serve.result.status) (sym (c.in-Ok.ensures.only wanted asked))
-    (c.serve.ensures.complete bytes program told is reads writes)
+returns-in-Ok-clause-complete g c = λ wanted asked has reads writes.
+    let same : wanted ≡ c.in-Ok.wanted = c.in-Ok.ensures.only wanted asked in
+    subst (λ (w : Wanted). (c.serve.result.status ≡ 9) ⊎ IsComplete w c.serve.result.journal c.serve.result.status) (sym same)
+    (c.serve.ensures.complete (subst (λ (w : Wanted). HasProgram w (g.S.Source.left c.args.input.now)) same has) reads writes)
 
 pub returns-in-Ok-clause-refused : goal.returns-in-Ok-clause-refused
-returns-in-Ok-clause-refused g c = λ wanted bytes asked told is reads. c.serve.ensures.refused bytes told is reads
+returns-in-Ok-clause-refused g c = λ wanted asked has reads.
+    c.serve.ensures.refused (subst (λ (w : Wanted). HasNoProgram w (g.S.Source.left c.args.input.now)) (c.in-Ok.ensures.only wanted asked) has) reads
+
+pub returns-in-Ok-clause-loaded : goal.returns-in-Ok-clause-loaded
+returns-in-Ok-clause-loaded g c = λ number options asked. c.serve.ensures.loaded (subst IsLoad (c.in-Ok.ensures.only (want.Load number options) asked) tt)
 
 pub returns-in-Err-Refused-clause-told : goal.returns-in-Err-Refused-clause-told
 returns-in-Err-Refused-clause-told g c =

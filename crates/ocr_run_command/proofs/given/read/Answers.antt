@@ -4,17 +4,16 @@ use Rattle.clap.specs.Words.{found_of, kind_of, matched_of}
 use Rattle.clap.specs.declared.error.Error.{Error}
 use Rattle.clap.specs.declared.error.kind.ErrorKind.TheVariants as kind
 use Rattle.clap.specs.declared.parser.matches.ArgMatches.{ArgMatches}
-use Rattle.ocr_run_command.specs.Form.{Line, IsLineOf, Text, texts_of}
+use Rattle.ocr_run_command.specs.Form.{Line, IsLineOf, Text, said, texts_of}
 use Rattle.ocr_run_command.specs.Numerals.{AreNumerals}
-use Rattle.ocr_run_command.specs.Given.{given_of, Reads}
-use Rattle.ocr_run_command.specs.Wanted.{given_in}
+use Rattle.ocr_run_command.specs.Given.{Gives, Reads}
 use Rattle.ocr_run_command.specs.declared.given.Arguments.{Arguments}
 use Rattle.ocr_run_command.specs.declared.wanted.WordsStop.{WordsStop}
 use Rattle.ocr_run_command.specs.declared.wanted.WordsStop.TheVariants.{Refused, NoMemory}
 use Rattle.ocr_run_command.proofs.given.read.Goals as goal
 
-abbrev Gives : ArgMatches → Result Arguments WordsStop → Type 0
-Gives m r = IfOk r (λ g. (l : Line) → Reads (found_of m) l → given_of g ≡ given_in l)
+abbrev Keeps : ArgMatches → Result Arguments WordsStop → Type 0
+Keeps m r = IfOk r (λ g. (l : Line) → Reads (found_of m) l → Gives g (said l))
 
 abbrev Stops : Result ArgMatches Error → Result Arguments WordsStop → Type 0
 Stops a r = IfErr a (λ e. IsErrAnd r (λ stop. (stop ≡ NoMemory) ↔ (kind_of e ≡ kind.OutOfMemory)))
@@ -22,14 +21,14 @@ Stops a r = IfErr a (λ e. IsErrAnd r (λ stop. (stop ≡ NoMemory) ↔ (kind_of
 apart : Refused ≡ NoMemory → ⊥
 apart e = cc e
 
-one : (ts : List Text) (a : Result ArgMatches Error) (r : Result Arguments WordsStop) → IfOk a (λ m. (l : Line) × IsLineOf l (drop 1 ts) × Reads (found_of m) l) → IfOk a (λ m. Gives m r) → Stops a r
-    → IfOk r (λ g. (l : Line) × IsLineOf l (drop 1 ts) × (given_of g ≡ given_in l))
+one : (ts : List Text) (a : Result ArgMatches Error) (r : Result Arguments WordsStop) → IfOk a (λ m. (l : Line) × IsLineOf l (drop 1 ts) × Reads (found_of m) l) → IfOk a (λ m. Keeps m r) → Stops a r
+    → IfOk r (λ g. (l : Line) × IsLineOf l (drop 1 ts) × Gives g (said l))
 one ts (Ok m) (Ok g) line gives stops = (line.0, line.1, gives line.0 line.2)
 one ts a (Err stop) line gives stops = tt
 one ts (Err e) (Ok g) line gives stops = absurd stops
 
 every : (ts : List Text) (a : Result ArgMatches Error) (r : Result Arguments WordsStop) → IfOk a (λ m. (l : Line) → IsLineOf l (drop 1 ts) → AreNumerals l.pieces → Reads (found_of m) l)
-    → IfOk a (λ m. Gives m r) → Stops a r → IfOk r (λ g. (l : Line) → IsLineOf l (drop 1 ts) → AreNumerals l.pieces → given_of g ≡ given_in l)
+    → IfOk a (λ m. Keeps m r) → Stops a r → IfOk r (λ g. (l : Line) → IsLineOf l (drop 1 ts) → AreNumerals l.pieces → Gives g (said l))
 every ts (Ok m) (Ok g) reads gives stops = λ l line digits. gives l (reads l line digits)
 every ts a (Err stop) reads gives stops = tt
 every ts (Err e) (Ok g) reads gives stops = absurd stops

@@ -1,0 +1,3 @@
+pub mod Lexer
+pub mod Reader
+pub mod Loaded
