@@ -82,7 +82,7 @@ def templates_of_long_names():
 
 def calls_in_calls():
     """Calls whose arguments are calls."""
-    return texts.body("print " + "load(1," * 60 + "1" + ")" * 60 + ";")
+    return texts.body("print " + "load(1," * 50 + "1" + ")" * 50 + ";")
 
 
 def output_names():
