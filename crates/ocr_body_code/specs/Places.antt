@@ -15,5 +15,6 @@ place_in index name = get_by (λ key. slice_cmp nat_cmp name key.now) index
 -- an index has the place of each of these names, which are all different, and no other
 pub record ArePlaces (names : List (List ℕ)) (index : BTreeMap (Bor (List ℕ)) ℕ) : Type 0 where
   pub distinct : are_distinct names ≡ true
-  pub place : (name : List ℕ) (place : ℕ) → place_in index name ≡ Some place → IsPlace names place name
+  pub place : (name : List ℕ) (place : ℕ) → place_in index name ≡ Some place
+      → IsPlace names place name
   pub none : (name : List ℕ) → place_in index name ≡ None → list_any (bytes_eq name) names ≡ false

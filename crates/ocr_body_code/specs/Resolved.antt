@@ -17,7 +17,8 @@ use Rattle.ocr_body_code.specs.declared.code.StmtCode.{StmtCode}
 
 -- the number of a name by an index of functions
 abbrev pub numbers_of : Numbers → List ℕ → ℕ
-numbers_of index name = unwrap_or (get_by (λ key. slice_cmp nat_cmp name key.now) index.by_name) index.none
+numbers_of index name =
+    unwrap_or (get_by (λ key. slice_cmp nat_cmp name key.now) index.by_name) index.none
 
 -- names were added at the end
 abbrev pub Grew : List (List ℕ) → List (List ℕ) → Type 0

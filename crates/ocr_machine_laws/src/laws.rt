@@ -76,8 +76,9 @@ pub fn found_laws()
 /// The members of a finish scope are the EDTs whose home it is and that have not ended, the scopes
 /// in it that are not done, and one for each `Leave` that is to be delivered. So a `Leave` finds a
 /// scope with a member, the home of a running EDT can be joined by one that it makes, and once the
-/// scope is done all EDTs that were made in it, however deep, have ended. It is done exactly if each
-/// EDT whose home it is has ended, each scope in it is done, and no `Leave` of it is undelivered.
+/// scope is done all EDTs that were made in it, however deep, have ended. It is done exactly if
+/// each EDT whose home it is has ended, each scope in it is done, and no `Leave` of it is
+/// undelivered.
 pub fn scope_laws()
     ensures members { MembersLaw }
     ensures leaving { LeavingLaw }

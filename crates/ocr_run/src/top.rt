@@ -342,9 +342,9 @@ fn serve<R: Threads + Wait + Sync, S: Source, O: Sink, E: Sink, G: Gate + Sync>(
 ///
 /// The words may be any: docs/LANGUAGE.md tells in "The words" which forms are taken, and in
 /// "The program" the statuses, 2 where the words have no form; the line that goes with a status is
-/// written to `err`. For `run` and `load` the journal is given with each of the statuses 0, 4, 5, 6,
-/// 8 and 10, may be given with 9, and is not given with 2, 3 and 7. `check` gives none. Each worker
-/// of a run passes the gate before it enters an entry.
+/// written to `err`. For `run` and `load` the journal is given with each of the statuses 0, 4, 5,
+/// 6, 8 and 10, may be given with 9, and is not given with 2, 3 and 7. `check` gives none. Each
+/// worker of a run passes the gate before it enters an entry.
 pub fn ocr_main<R: Threads + Wait + Sync, S: Source, O: Sink, E: Sink, G: Gate + Sync>(
     rt: &R,
     alloc: Global,
@@ -355,8 +355,8 @@ pub fn ocr_main<R: Threads + Wait + Sync, S: Source, O: Sink, E: Sink, G: Gate +
     gate: &G,
 ) -> Ended
     // The headline, for any number of workers and whatever order their steps come in: the words ask
-    // for a run, all bytes of the source are a program, or `load` has it, the journal is a run of it
-    // that came to its end and kept the limits, and the bytes written are the journal's output.
+    // for a run, all bytes of the source are a program, or `load` has it, the journal is a run of
+    // it that came to its end and kept the limits, and the bytes written are its output.
     ensures headline { IfSome result.journal
         (IsHeadline (texts_of words.now) (S.left input.old) (S.left input.new) (O.taken out.old)
         (O.taken out.new) (Rose (O.failures out.old) (O.failures out.new)) result.status) }
