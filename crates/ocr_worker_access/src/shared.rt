@@ -23,6 +23,7 @@ use std::sync::Wait;
 
 /// Takes the face of a block of which the EDT shares the words, and lifts it behind the core. The
 /// block has each word that the EDT may load or store.
+#[inline(always)]
 pub(crate) fn lift_shared<R: Wait, G: Gate>(
     alloc: Global,
     job: &Job<R, G>,
@@ -53,6 +54,7 @@ pub(crate) fn lift_shared<R: Wait, G: Gate>(
 }
 
 /// Enters a load or a store with its value, and gives the block's face back.
+#[inline(always)]
 pub(crate) fn enter_access<R: Wait, G: Gate>(
     alloc: Global,
     job: &Job<R, G>,

@@ -8,6 +8,7 @@ use ocr_guid::Guid;
 use ocr_turns::{Clerk, Turns};
 
 /// Gives back the faces of these places, and keeps the core of the EDT alone.
+#[inline(always)]
 pub fn give_faces(
     turns: &Turns<Ocr>,
     program: &Checked,

@@ -47,6 +47,7 @@ pub fn lift_parts(
 
 /// Enters an entry that names all parts that the clerk keeps, and has them at hand after it. Gives
 /// the EDTs that it resumes.
+#[inline(always)]
 pub fn enter_kept<R: Wait, G: Gate>(
     alloc: Global,
     job: &Job<R, G>,

@@ -13,6 +13,7 @@ use ocr_turns::{Clerk, Taken};
 use std::sync::Wait;
 
 /// Takes the part of a place once its turn is free.
+#[inline(always)]
 pub fn take_part<R: Wait, G: Gate>(
     job: &Job<R, G>,
     worker: u32,
