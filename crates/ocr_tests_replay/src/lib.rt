@@ -7,6 +7,8 @@ mod edits;
 #[cfg(test)]
 mod journals;
 #[cfg(test)]
+mod limits;
+#[cfg(test)]
 mod outputs;
 #[cfg(test)]
 mod quiet;

@@ -109,9 +109,9 @@ fn mainEdt {
   }
 }";
 
-// Two EDTs count a latch down until it has fired, and events bring that on to an EDT; one of them
-// fires before another is linked to it, or after.
-const COUNTED: &[u8] = b"fn down {
+/// Two EDTs count a latch down until it has fired, and events bring that on to an EDT; one of them
+/// fires before another is linked to it, or after.
+pub const COUNTED: &[u8] = b"fn down {
   while ocrEventSatisfySlot(paramv[0], NULL_GUID, OCR_EVENT_LATCH_DECR_SLOT) == 0 { }
 }
 fn after { print depv[0]; }
@@ -129,8 +129,8 @@ fn mainEdt {
   ocrAddDependence(s, o, 0, 0);
 }";
 
-// Two stages write a digit each behind the numbers in four blocks, and a third one prints them.
-const PIPELINE: &[u8] = b"fn stage {
+/// Two stages write a digit each behind the numbers in four blocks, and a third one prints them.
+pub const PIPELINE: &[u8] = b"fn stage {
   let d = depv[0]; store(d, 0, load(d, 0) * 10 + paramv[4]);
   ocrDbRelease(d); ocrEventSatisfy(paramv[3], d);
   if paramv[0] > 1 {
@@ -156,35 +156,6 @@ fn mainEdt {
     let d = ocrDbCreate(8, 0); store(d, 0, i); ocrDbRelease(d); ocrEventSatisfy(a, d);
     i = i + 1;
   }
-}";
-
-// Each EDT above the leaves makes two events, an EDT that adds what they bring, and two EDTs that
-// satisfy them.
-const FIBONACCI: &[u8] = b"fn give {
-  let d = ocrDbCreate(8, 0); store(d, 0, load(depv[0], 0) + load(depv[1], 0));
-  ocrDbRelease(d); ocrEventSatisfy(paramv[0], d);
-}
-fn fib {
-  let n = paramv[0]; let f = paramv[2]; let g = paramv[3];
-  if n < 2 {
-    let d = ocrDbCreate(8, 0); store(d, 0, n);
-    ocrDbRelease(d); ocrEventSatisfy(paramv[1], d);
-    return NULL_GUID;
-  }
-  let a = ocrEventCreate(OCR_EVENT_STICKY_T, EVT_PROP_TAKES_ARG);
-  let b = ocrEventCreate(OCR_EVENT_STICKY_T, EVT_PROP_TAKES_ARG);
-  let s = ocrEdtCreate(g, EDT_PARAM_DEF, [paramv[1]], EDT_PARAM_DEF, [], 0);
-  ocrAddDependence(a, s, 0, DB_MODE_CONST); ocrAddDependence(b, s, 1, DB_MODE_CONST);
-  ocrEdtCreate(f, EDT_PARAM_DEF, [n - 1, a, f, g], EDT_PARAM_DEF, [], 0);
-  ocrEdtCreate(f, EDT_PARAM_DEF, [n - 2, b, f, g], EDT_PARAM_DEF, [], 0);
-}
-fn last { print load(depv[0], 0); ocrShutdown(); }
-fn mainEdt {
-  let e = ocrEventCreate(OCR_EVENT_STICKY_T, EVT_PROP_TAKES_ARG);
-  let w = ocrEdtCreate(ocrEdtTemplateCreate(last, 0, 1), EDT_PARAM_DEF, [], EDT_PARAM_DEF, [], 0);
-  ocrAddDependence(e, w, 0, DB_MODE_CONST);
-  let f = ocrEdtTemplateCreate(fib, 4, 0); let g = ocrEdtTemplateCreate(give, 1, 2);
-  ocrEdtCreate(f, EDT_PARAM_DEF, [10, e, f, g], EDT_PARAM_DEF, [], 0);
 }";
 
 // Two rounds over 64 by 64 cells in 16 tiles.
@@ -238,7 +209,7 @@ fn mainEdt {
 #[test]
 fn runs_with_events_are_replayed(rt: HostRuntime) -> Result<(), Fail> {
     let alloc = rt.alloc();
-    for text in [FED, COUNTED, PIPELINE, FIBONACCI, STENCIL] {
+    for text in [FED, COUNTED, PIPELINE, STENCIL] {
         for workers in CREWS {
             let recording = recording_by(&rt, alloc, workers, text)?;
             assert_eq!(rt; verdict(alloc, &recording, &recording.entries), Ok(()));

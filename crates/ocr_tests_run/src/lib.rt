@@ -3,9 +3,11 @@
 
 mod examples;
 mod outcomes;
+mod programs;
 
 pub use examples::{EXAMPLES, Example, LAST_EXAMPLES, MORE_EXAMPLES};
 pub use outcomes::{CREWS, Faults, NO_FAULTS, Outcome, outcome_at, outcome_of, run, run_by};
+pub use programs::{ADDERS, FIBONACCI};
 
 #[cfg(test)]
 mod loads;

@@ -1,27 +1,10 @@
 // The report on races, from the words in to the bytes out.
 use crate::outcomes::{CREWS, NO_FAULTS, outcome_of};
+use crate::programs::ADDERS;
 use std::alloc::Global;
 use std::sync::Wait;
 use std::test::Fail;
 use std::thread::Threads;
-
-// Eight EDTs, 7, 9 and so on to 21, add one to a word each; one more prints it after all of them.
-const ADDING_IN_EW: &[u8] = b"fn add { store(depv[0], 0, load(depv[0], 0) + 1); }
-fn show { print load(depv[8], 0); }
-fn mainEdt {
-  let d = ocrDbCreate(8, DB_PROP_NO_ACQUIRE);
-  let t = ocrEdtTemplateCreate(add, 0, 1);
-  let s = ocrEdtCreate(ocrEdtTemplateCreate(show, 0, 9), EDT_PARAM_DEF, [], EDT_PARAM_DEF, [], 0);
-  ocrAddDependence(d, s, 8, DB_MODE_RO);
-  let i = 0;
-  while i < 8 {
-    let o = 0;
-    let a = ocrEdtCreate(t, EDT_PARAM_DEF, [], EDT_PARAM_DEF, [], 0, &o);
-    ocrAddDependence(o, s, i, DB_MODE_NULL);
-    ocrAddDependence(d, a, 0, DB_MODE_EW);
-    i = i + 1;
-  }
-}";
 
 const ADDING_IN_RW: &[u8] = b"fn add { store(depv[0], 0, load(depv[0], 0) + 1); }
 fn show { print load(depv[8], 0); }
@@ -74,7 +57,7 @@ fn told<R: Threads + Wait + Sync>(
 #[test]
 fn stores_in_ew_do_not_race(rt: HostRuntime) -> Result<(), Fail> {
     for workers in CREWS {
-        let out = told(&rt, rt.alloc(), workers, ADDING_IN_EW)?;
+        let out = told(&rt, rt.alloc(), workers, ADDERS)?;
         assert_eq!(rt; out.as_slice(), b"8\nraces 0\n".as_slice());
     }
     Ok(())

@@ -1,5 +1,6 @@
 // Events, latches and channels, by one, two and four workers.
 use crate::workers::{Row, first_wrong};
+use ocr_tests_run::FIBONACCI;
 use std::test::Fail;
 
 // An event sets the last of 32 slots; the EDT that satisfies it has none.
@@ -12,40 +13,6 @@ fn mainEdt {
   while i < 31 { ocrAddDependence(NULL_GUID, w, i, DB_MODE_NULL); i = i + 1; }
   ocrAddDependence(e, w, 31, DB_MODE_NULL);
   ocrEdtCreate(ocrEdtTemplateCreate(zero, 1, 0), EDT_PARAM_DEF, [e], EDT_PARAM_DEF, [], 0);
-}";
-
-// Each EDT above the leaves makes two events, an EDT that adds what they bring, and two EDTs that
-// satisfy them.
-const FIBONACCI: &[u8] = b"fn give {
-  let d = ocrDbCreate(8, 0); store(d, 0, load(depv[0], 0) + load(depv[1], 0));
-  ocrDbRelease(d); ocrEventSatisfy(paramv[0], d);
-}
-fn fib {
-  if paramv[0] < 2 {
-    let d = ocrDbCreate(8, 0);
-    store(d, 0, paramv[0]);
-    ocrDbRelease(d);
-    ocrEventSatisfy(paramv[1], d);
-    return NULL_GUID;
-  }
-  let a = ocrEventCreate(OCR_EVENT_STICKY_T, EVT_PROP_TAKES_ARG);
-  let b = ocrEventCreate(OCR_EVENT_STICKY_T, EVT_PROP_TAKES_ARG);
-  let s = ocrEdtCreate(paramv[3], EDT_PARAM_DEF, [paramv[1]], EDT_PARAM_DEF, [], 0);
-  ocrAddDependence(a, s, 0, DB_MODE_CONST);
-  ocrAddDependence(b, s, 1, DB_MODE_CONST);
-  ocrEdtCreate(paramv[2], EDT_PARAM_DEF, [paramv[0] - 1, a, paramv[2], paramv[3]],
-    EDT_PARAM_DEF, [], 0);
-  ocrEdtCreate(paramv[2], EDT_PARAM_DEF, [paramv[0] - 2, b, paramv[2], paramv[3]],
-    EDT_PARAM_DEF, [], 0);
-}
-fn last { print load(depv[0], 0); ocrShutdown(); }
-fn mainEdt {
-  let e = ocrEventCreate(OCR_EVENT_STICKY_T, EVT_PROP_TAKES_ARG);
-  let w = ocrEdtCreate(ocrEdtTemplateCreate(last, 0, 1), EDT_PARAM_DEF, [], EDT_PARAM_DEF, [], 0);
-  ocrAddDependence(e, w, 0, DB_MODE_CONST);
-  let f = ocrEdtTemplateCreate(fib, 4, 0);
-  ocrEdtCreate(f, EDT_PARAM_DEF, [load(depv[0], 1), e, f, ocrEdtTemplateCreate(give, 1, 2)],
-    EDT_PARAM_DEF, [], 0);
 }";
 
 // A second satisfaction: a STICKY event refuses it, and an IDEM event passes it over.

@@ -1,24 +1,7 @@
 // Output events and finish scopes, by one, two and four workers.
 use crate::workers::{Row, first_wrong};
+use ocr_tests_run::ADDERS;
 use std::test::Fail;
-
-// Eight EDTs count in a block that each of them holds alone; their output events let one show it.
-const ADDERS: &[u8] = b"fn add { store(depv[0], 0, load(depv[0], 0) + 1); }
-fn show { print load(depv[8], 0); }
-fn mainEdt {
-  let d = ocrDbCreate(8, DB_PROP_NO_ACQUIRE);
-  let t = ocrEdtTemplateCreate(add, 0, 1);
-  let s = ocrEdtCreate(ocrEdtTemplateCreate(show, 0, 9), EDT_PARAM_DEF, [], EDT_PARAM_DEF, [], 0);
-  ocrAddDependence(d, s, 8, DB_MODE_RO);
-  let i = 0;
-  while i < 8 {
-    let o = 0;
-    let a = ocrEdtCreate(t, EDT_PARAM_DEF, [], EDT_PARAM_DEF, [], 0, &o);
-    ocrAddDependence(o, s, i, DB_MODE_NULL);
-    ocrAddDependence(d, a, 0, DB_MODE_EW);
-    i = i + 1;
-  }
-}";
 
 // What the EDT of `make` returns is given to that of `show`, in the slot's mode.
 const GIVEN: &[u8] = b"fn make { let d = ocrDbCreate(8, 0); store(d, 0, 7); return d; }
