@@ -5,5 +5,5 @@
 here=$(dirname "$0")
 python3 "$here/examples.py" --check || exit 1
 python3 "$here/editors.py" --check || exit 1
-python3 "$here/crates.py" --check 215000 || exit 1
+python3 "$here/crates.py" --check 196000 || exit 1
 exec python3 "$here/gate.py" "$@"

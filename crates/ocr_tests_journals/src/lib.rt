@@ -7,6 +7,7 @@ mod programs;
 mod tables;
 
 pub use lines::{BOTH, FINISH, Form, Line, Made, OUTPUT, PLAIN, Words, entries_of};
+pub use ocr_replay::{ReplayStop, replay};
 pub use programs::program_of;
 pub use tables::{Change, Row, Table, Wrong, wrong_in, wrong_of};
 

@@ -5,9 +5,8 @@ use Line::{
 };
 use ocr_guid::Code::Done;
 use ocr_machine_history::Journal;
-use ocr_replay::replay;
 use ocr_report::blocks_text;
-use ocr_tests_journals::{Line, Words, entries_of, program_of};
+use ocr_tests_journals::{Line, Words, entries_of, program_of, replay};
 use ocr_worker_machine::Setting;
 use std::alloc::Global;
 use std::test::Fail;

@@ -1,4 +1,7 @@
-// Programs that the tests of several crates run.
+// Programs that many tests run.
+
+/// It prints, and shuts down.
+pub const FIRST: &[u8] = b"fn mainEdt { print 42; ocrShutdown(); }";
 
 /// Fibonacci's number of the argument: each EDT above the leaves makes two events, an EDT that adds
 /// what they bring, and two EDTs that satisfy them.

@@ -1,6 +1,7 @@
 // The report on races, from the words in to the bytes out.
-use crate::outcomes::{CREWS, NO_FAULTS, outcome_of};
+use crate::outcomes::{CREWS, outcome_of};
 use crate::programs::ADDERS;
+use crate::streams::WHOLE;
 use std::alloc::Global;
 use std::sync::Wait;
 use std::test::Fail;
@@ -47,7 +48,7 @@ fn told<R: Threads + Wait + Sync>(
     text: &[u8],
 ) -> Result<Vec<u8>, Fail> {
     let words = ["run", "--workers", workers, "--races"];
-    let done = outcome_of(rt, alloc, &words, text.to_vec(alloc)?, 60_000, NO_FAULTS)?;
+    let done = outcome_of(rt, alloc, &words, text.to_vec(alloc)?, 60_000, WHOLE)?;
     if done.ended.status != 0 {
         return Err(Fail::new("the run did not end well"));
     }

@@ -2,13 +2,14 @@
 ghost use Rattle.std.specs.Prelude.{◌<◌};
 
 use crate::examples::{EXAMPLES, LAST_EXAMPLES, MORE_EXAMPLES};
-use crate::outcomes::{CREWS, Faults, NO_FAULTS, outcome_of, run, run_by};
+use crate::outcomes::{CREWS, outcome_of, run, run_by};
+use crate::programs::FIRST;
+use crate::rows::Row;
+use crate::streams::WHOLE;
 use std::alloc::Global;
 use std::sync::Wait;
 use std::test::Fail;
 use std::thread::Threads;
-
-const FIRST: &[u8] = b"fn mainEdt { print 42; ocrShutdown(); }";
 
 // It holds twelve blocks, and all but the first to its end.
 const TWELVE_BLOCKS: &[u8] = b"fn mainEdt {
@@ -23,7 +24,7 @@ const TWELVE_BLOCKS: &[u8] = b"fn mainEdt {
 
 #[test]
 fn first_program_prints_42(rt: HostRuntime) -> Result<(), Fail> {
-    let done = run(&rt, rt.alloc(), FIRST, NO_FAULTS)?;
+    let done = run(&rt, rt.alloc(), FIRST, WHOLE)?;
     assert_eq!(rt; done.ended.status, 0);
     assert_eq!(rt; done.out.bytes(), b"42\n".as_slice());
     assert_eq!(rt; done.err.bytes(), b"".as_slice());
@@ -111,7 +112,7 @@ fn examples_write_what_stands_beside_them(rt: HostRuntime) -> Result<(), Fail> {
         .chain(MORE_EXAMPLES)
         .chain(LAST_EXAMPLES)
     {
-        let done = run(&rt, rt.alloc(), text, NO_FAULTS)?;
+        let done = run(&rt, rt.alloc(), text, WHOLE)?;
         assert_eq!(rt; done.ended.status, status);
         assert_eq!(rt; done.out.bytes(), out);
     }
@@ -179,7 +180,7 @@ const TESTS_OUT: &[u8] = b"1
 #[test]
 fn operators_have_their_values_at_the_edges(rt: HostRuntime) -> Result<(), Fail> {
     for (text, out) in [(SUMS, SUMS_OUT), (TESTS, TESTS_OUT)] {
-        let done = run(&rt, rt.alloc(), text, NO_FAULTS)?;
+        let done = run(&rt, rt.alloc(), text, WHOLE)?;
         assert_eq!(rt; done.ended.status, 0);
         assert_eq!(rt; done.out.bytes(), out);
     }
@@ -222,7 +223,7 @@ fn mainEdt {
             &words,
             text.to_vec(rt.alloc())?,
             1000,
-            NO_FAULTS,
+            WHOLE,
         )?;
         assert_eq!(rt; done.ended.status, 0);
         assert_eq!(rt; done.out.bytes(), out);
@@ -293,7 +294,7 @@ const CREATIONS_OUT: &[u8] = b"0
 
 #[test]
 fn creations_are_refused_in_their_order(rt: HostRuntime) -> Result<(), Fail> {
-    let done = run(&rt, rt.alloc(), CREATIONS, NO_FAULTS)?;
+    let done = run(&rt, rt.alloc(), CREATIONS, WHOLE)?;
     // The two EDTs with a slot never start.
     assert_eq!(rt; done.ended.status, 4);
     assert_eq!(rt; done.err.bytes(), b"stuck: 2\n".as_slice());
@@ -308,14 +309,7 @@ fn limits_stop_a_run_of_one_worker(rt: HostRuntime) -> Result<(), Fail> {
         b"fn a { ocrEdtCreate(ocrEdtTemplateCreate(a, 0, 0), EDT_PARAM_DEF, [], EDT_PARAM_DEF, [], 0); }
 fn mainEdt { ocrEdtCreate(ocrEdtTemplateCreate(a, 0, 0), EDT_PARAM_DEF, [], EDT_PARAM_DEF, [], 0); }";
     let words = ["run", "--workers", "1"];
-    let done = outcome_of(
-        &rt,
-        rt.alloc(),
-        &words,
-        objects.to_vec(alloc)?,
-        1000,
-        NO_FAULTS,
-    )?;
+    let done = outcome_of(&rt, rt.alloc(), &words, objects.to_vec(alloc)?, 1000, WHOLE)?;
     assert_eq!(rt; done.ended.status, 10);
     assert_eq!(rt; done.err.bytes(), b"limit: objects\n".as_slice());
     // The first EDT's 6 entries, 4 of each of the 2,046 others that end, the start of the last, and
@@ -332,22 +326,13 @@ fn mainEdt { let t = ocrEdtTemplateCreate(a, 1, 0); ocrEdtCreate(t, 1, [t], 0, [
         &words,
         events.to_vec(alloc)?,
         500_000,
-        NO_FAULTS,
+        WHOLE,
     )?;
     assert_eq!(rt; done.ended.status, 10);
     assert_eq!(rt; done.err.bytes(), b"limit: events of worker 1\n".as_slice());
     // Of 200,000 entries 13 are no prints.
     assert_eq!(rt; done.out.bytes().len(), 2 * 199_987);
     Ok(())
-}
-
-// Words and a text, and what comes of them: the status, the output, and the line on `err`.
-struct Row {
-    words: &'static [&'static str],
-    text: &'static [u8],
-    status: u8,
-    out: &'static [u8],
-    err: &'static [u8],
 }
 
 const TEMPLATES: &[u8] = b"fn mainEdt { while 1 { print ocrEdtTemplateCreate(mainEdt, 0, 0); } }";
@@ -467,14 +452,7 @@ static ROWS: [Row; 13] = [
 fn words_say_what_comes_of_a_text(rt: HostRuntime) -> Result<(), Fail> {
     let alloc = rt.alloc();
     for row in &ROWS {
-        let done = outcome_of(
-            &rt,
-            alloc,
-            row.words,
-            row.text.to_vec(alloc)?,
-            1000,
-            NO_FAULTS,
-        )?;
+        let done = outcome_of(&rt, alloc, row.words, row.text.to_vec(alloc)?, 1000, WHOLE)?;
         assert_eq!(rt; done.ended.status, row.status);
         assert_eq!(rt; done.out.bytes(), row.out);
         assert_eq!(rt; done.err.bytes(), row.err);
@@ -489,7 +467,7 @@ fn status_with<R: Threads + Wait + Sync>(rt: &R, alloc: Global, count: usize) ->
     for _ in 0..count {
         texts.push("7")?;
     }
-    let done = outcome_of(rt, alloc, &texts, FIRST.to_vec(alloc)?, 1000, NO_FAULTS)?;
+    let done = outcome_of(rt, alloc, &texts, FIRST.to_vec(alloc)?, 1000, WHOLE)?;
     Ok(done.ended.status)
 }
 
@@ -508,37 +486,13 @@ fn canonical_text_of_an_example_is_its_own(rt: HostRuntime) -> Result<(), Fail> 
         .chain(MORE_EXAMPLES)
         .chain(LAST_EXAMPLES)
     {
-        let first = outcome_of(&rt, alloc, &["check"], text.to_vec(alloc)?, 4000, NO_FAULTS)?;
+        let first = outcome_of(&rt, alloc, &["check"], text.to_vec(alloc)?, 4000, WHOLE)?;
         assert_eq!(rt; first.ended.status, 0);
         let copy = first.out.bytes().to_vec(alloc)?;
-        let second = outcome_of(&rt, alloc, &["check"], copy, 4000, NO_FAULTS)?;
+        let second = outcome_of(&rt, alloc, &["check"], copy, 4000, WHOLE)?;
         assert_eq!(rt; second.ended.status, 0);
         assert_eq!(rt; second.out.bytes(), first.out.bytes());
     }
-    Ok(())
-}
-
-#[test]
-fn check_tells_faults_of_reading_and_writing(rt: HostRuntime) -> Result<(), Fail> {
-    let alloc = rt.alloc();
-    let read = Faults {
-        reads: &[0],
-        ..NO_FAULTS
-    };
-    let done = outcome_of(&rt, alloc, &["check"], FIRST.to_vec(alloc)?, 1000, read)?;
-    assert_eq!(rt; done.ended.status, 7);
-    assert_eq!(rt; done.out.bytes(), b"".as_slice());
-    assert_eq!(rt; done.err.bytes(), b"read fault\n".as_slice());
-
-    let write = Faults {
-        writes: &[1],
-        write_most: 4,
-        ..NO_FAULTS
-    };
-    let done = outcome_of(&rt, alloc, &["check"], FIRST.to_vec(alloc)?, 1000, write)?;
-    assert_eq!(rt; done.ended.status, 8);
-    assert_eq!(rt; done.out.bytes(), b"fn m".as_slice());
-    assert_eq!(rt; done.err.bytes(), b"write fault\n".as_slice());
     Ok(())
 }
 
@@ -558,88 +512,10 @@ fn other_words_are_refused(rt: HostRuntime) -> Result<(), Fail> {
         &["check", "5"],
     ];
     for texts in rows {
-        let done = outcome_of(&rt, alloc, texts, FIRST.to_vec(alloc)?, 1000, NO_FAULTS)?;
+        let done = outcome_of(&rt, alloc, texts, FIRST.to_vec(alloc)?, 1000, WHOLE)?;
         assert_eq!(rt; done.ended.status, 2);
         assert_eq!(rt; done.out.bytes(), b"".as_slice());
         assert_eq!(rt; done.err.bytes(), b"words refused\n".as_slice());
-    }
-    Ok(())
-}
-
-#[test]
-fn one_byte_too_many_is_told(rt: HostRuntime) -> Result<(), Fail> {
-    let alloc = rt.alloc();
-    let blanks = vec![in alloc; b' '; 1_048_577]?;
-    let done = outcome_of(&rt, alloc, &["run"], blanks, 1000, NO_FAULTS)?;
-    assert_eq!(rt; done.ended.status, 3);
-    assert_eq!(rt; done.err.bytes(), b"text too big\n".as_slice());
-    Ok(())
-}
-
-#[test]
-fn texts_that_are_no_program_are_told(rt: HostRuntime) -> Result<(), Fail> {
-    let rows: [(&[u8], &[u8]); 7] = [
-        (b"", b"check fault: rule 2 in function 0\n"),
-        (b"fn mainEdt { $ }", b"lex fault at 13\n"),
-        (
-            b"fn mainEdt { print 18446744073709551616; }",
-            b"lex fault at 19\n",
-        ),
-        (b"fn mainEdt { print ; }", b"syntax fault at 19\n"),
-        (b"fn mainEdt { print 1", b"syntax fault at 20\n"),
-        (
-            b"fn mainEdt { } fn mainEdt { }",
-            b"check fault: rule 1 in function 2\n",
-        ),
-        (
-            b"fn mainEdt { print x; }",
-            b"check fault: rule 4 in function 1\n",
-        ),
-    ];
-    for (text, err) in rows {
-        for workers in CREWS {
-            let done = run_by(&rt, rt.alloc(), workers, text)?;
-            assert_eq!(rt; done.ended.status, 3);
-            assert_eq!(rt; done.out.bytes(), b"".as_slice());
-            assert_eq!(rt; done.err.bytes(), err);
-            assert!(rt; done.ended.journal.is_none());
-        }
-    }
-    Ok(())
-}
-
-#[test]
-fn read_that_fails_is_told(rt: HostRuntime) -> Result<(), Fail> {
-    for call in 0..41u64 {
-        let faults = Faults {
-            reads: &[call],
-            read_most: 1,
-            ..NO_FAULTS
-        };
-        let done = run(&rt, rt.alloc(), FIRST, faults)?;
-        if call < 40 {
-            assert_eq!(rt; done.ended.status, 7);
-            assert_eq!(rt; done.out.bytes(), b"".as_slice());
-            assert_eq!(rt; done.err.bytes(), b"read fault\n".as_slice());
-        } else {
-            assert_eq!(rt; done.ended.status, 0);
-        }
-    }
-    Ok(())
-}
-
-#[test]
-fn failed_write_leaves_a_front_of_the_output(rt: HostRuntime) -> Result<(), Fail> {
-    for count in 0..3usize {
-        let faults = Faults {
-            write_most: 1,
-            writes: &[count as u64],
-            ..NO_FAULTS
-        };
-        let done = run(&rt, rt.alloc(), FIRST, faults)?;
-        assert_eq!(rt; done.ended.status, 8);
-        assert_eq!(rt; done.out.bytes(), &b"42\n"[..count]);
-        assert_eq!(rt; done.err.bytes(), b"write fault\n".as_slice());
     }
     Ok(())
 }
@@ -652,7 +528,7 @@ fn largest_body_runs_to_its_end(rt: HostRuntime) -> Result<(), Fail> {
         text.extend_from_slice(b"print 1;")?;
     }
     text.push(b'}')?;
-    let done = outcome_of(&rt, alloc, &["run"], text, 300_000, NO_FAULTS)?;
+    let done = outcome_of(&rt, alloc, &["run"], text, 300_000, WHOLE)?;
     assert_eq!(rt; done.ended.status, 0);
     assert_eq!(rt; done.out.bytes().len(), 262_140);
     let journal = done.ended.journal.ok_or("a journal")?;

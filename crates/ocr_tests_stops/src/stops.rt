@@ -2,8 +2,7 @@
 use crate::{Plan, Played, play};
 use ocr_body_code::Checked;
 use ocr_machine_history::{Entry, Stop};
-use ocr_replay::replay;
-use ocr_tests_journals::program_of;
+use ocr_tests_journals::{program_of, replay};
 use ocr_worker_machine::Setting;
 use std::alloc::Global;
 use std::sync::Wait;

@@ -1,6 +1,6 @@
 // Events, latches and channels, by one, two and four workers.
-use crate::workers::{Row, first_wrong};
-use ocr_tests_run::FIBONACCI;
+use crate::workers::first_wrong;
+use ocr_tests_run::{FIBONACCI, Row};
 use std::test::Fail;
 
 // An event sets the last of 32 slots; the EDT that satisfies it has none.
@@ -168,9 +168,9 @@ fn mainEdt {
   ocrEventSatisfy(first, d);
 }";
 
-// Eight EDTs send a block each through one channel, some before its links and some after; an EDT
-// adds up what came out.
-const FED: &[u8] = b"fn send {
+/// Eight EDTs send a block each through one channel, some before its links and some after; an EDT
+/// adds up what came out.
+pub const FED: &[u8] = b"fn send {
   let d = ocrDbCreate(8, 0); store(d, 0, paramv[1]); ocrDbRelease(d);
   ocrEventSatisfy(paramv[0], d);
 }

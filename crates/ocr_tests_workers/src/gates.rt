@@ -1,6 +1,6 @@
 // A run that no one worker can do alone: a gate holds whoever is ahead.
 use ocr_machine_codes::weight;
-use ocr_tests_run::{NO_FAULTS, outcome_at};
+use ocr_tests_run::{WHOLE, outcome_at};
 use ocr_turns::Clerk;
 use ocr_worker_clerk::{Gate, Ocr};
 use std::alloc::Global;
@@ -9,14 +9,15 @@ use std::sync::atomic::{AtomicU64, Ordering};
 use std::test::Fail;
 use std::thread;
 
-const THREE: &[u8] = b"fn one { print 1; }
+/// Three EDTs without slots.
+pub const THREE: &[u8] = b"fn one { print 1; }
 fn mainEdt {
   let t = ocrEdtTemplateCreate(one, 0, 0); let i = 0;
   while i < 3 { ocrEdtCreate(t, EDT_PARAM_DEF, [], EDT_PARAM_DEF, [], 0); i = i + 1; }
 }";
 
 /// The Acquire, the Start and the four calls of `mainEdt`.
-const MADE: usize = 6;
+pub const MADE: usize = 6;
 
 /// With them a Free and an End, and of each EDT a Start, a print and an End.
 const ENTRIES: usize = 17;
@@ -133,7 +134,7 @@ fn two_workers_share_a_run(rt: HostRuntime) -> Result<(), Fail> {
     let relay = Relay::new(alloc)?;
     let words = ["run", "--workers", "2"];
     let text = THREE.to_vec(alloc)?;
-    let done = outcome_at(&rt, alloc, &words, text, 1000, NO_FAULTS, &relay)?;
+    let done = outcome_at(&rt, alloc, &words, text, 1000, WHOLE, &relay)?;
     assert_eq!(rt; done.ended.status, 0);
     assert_eq!(rt; done.out.bytes(), b"1\n1\n1\n".as_slice());
     assert_eq!(rt; relay.failed.load(Ordering::SeqCst), 0);

@@ -1,7 +1,7 @@
 // Races, told from the journals of runs. In each of these programs an argument says whether what
 // orders two accesses stands between them.
-use crate::workers::{Row, first_wrong_by};
-use ocr_tests_run::CREWS;
+use crate::workers::first_wrong_by;
+use ocr_tests_run::{CREWS, Row};
 use std::alloc::Global;
 use std::sync::Wait;
 use std::test::Fail;

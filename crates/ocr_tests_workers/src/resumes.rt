@@ -1,7 +1,7 @@
 // An EDT that a release lets go on, run by the worker that did not release.
 use ocr_body_meaning::Call;
 use ocr_machine_history::Entry;
-use ocr_tests_run::{NO_FAULTS, outcome_at};
+use ocr_tests_run::{WHOLE, outcome_at};
 use ocr_turns::Clerk;
 use ocr_worker_clerk::{Gate, Ocr};
 use std::alloc::Global;
@@ -103,7 +103,7 @@ fn a_resumed_edt_is_run_by_another_worker(rt: HostRuntime) -> Result<(), Fail> {
     let handover = Handover::new();
     let words = ["run", "--workers", "2", "--summary"];
     let text = TWO.to_vec(alloc)?;
-    let done = outcome_at(&rt, alloc, &words, text, 1000, NO_FAULTS, &handover)?;
+    let done = outcome_at(&rt, alloc, &words, text, 1000, WHOLE, &handover)?;
     assert_eq!(rt; done.ended.status, 0);
     assert_eq!(rt;
         done.out.bytes(),

@@ -1,6 +1,6 @@
 // Output events and finish scopes, by one, two and four workers.
-use crate::workers::{Row, first_wrong};
-use ocr_tests_run::ADDERS;
+use crate::workers::first_wrong;
+use ocr_tests_run::{ADDERS, Row};
 use std::test::Fail;
 
 // What the EDT of `make` returns is given to that of `show`, in the slot's mode.
@@ -131,8 +131,8 @@ const ANSWERS_OUT: &[u8] = b"journal 8
 7 stop shutdown 2
 ";
 
-// What one body prints, and what an output event brings.
-static OUTPUT_ROWS: [Row; 9] = [
+/// What one body prints, and what an output event brings.
+pub static OUTPUT_ROWS: [Row; 9] = [
     Row {
         words: &["--summary", "--left", "--stale", "--refused"],
         text: ADDERS,
@@ -206,8 +206,8 @@ fn output_events_are_the_same_by_any_number_of_workers(rt: HostRuntime) -> Resul
     Ok(())
 }
 
-// A finish EDT with a child and a grandchild; its output event sets off the last one.
-const FAMILY: &[u8] = b"fn leaf { print 3; }
+/// A finish EDT with a child and a grandchild; its output event sets off the last one.
+pub const FAMILY: &[u8] = b"fn leaf { print 3; }
 fn child {
   print 2; ocrEdtCreate(ocrEdtTemplateCreate(leaf, 0, 0), EDT_PARAM_DEF, [], EDT_PARAM_DEF, [], 0);
 }
@@ -402,7 +402,8 @@ fn mainEdt {
   print ocrEdtCreate(t, 0, [], 1, [], EDT_PROP_FINISH, &o); print o; ocrShutdown();
 }";
 
-static SCOPE_ROWS: [Row; 15] = [
+/// What comes of scopes.
+pub static SCOPE_ROWS: [Row; 15] = [
     Row {
         words: &["--summary"],
         text: FAMILY,

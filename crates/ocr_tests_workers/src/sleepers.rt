@@ -1,21 +1,13 @@
 // A worker that slept is there once somebody has an EDT to spare.
+use crate::gates::{MADE, THREE};
 use ocr_machine_history::Entry;
-use ocr_tests_run::{NO_FAULTS, outcome_at};
+use ocr_tests_run::{WHOLE, outcome_at};
 use ocr_turns::Clerk;
 use ocr_worker_clerk::{Gate, Ocr};
 use std::sync::Wait;
 use std::sync::atomic::{AtomicU64, Ordering};
 use std::test::Fail;
 use std::thread;
-
-const THREE: &[u8] = b"fn one { print 1; }
-fn mainEdt {
-  let t = ocrEdtTemplateCreate(one, 0, 0); let i = 0;
-  while i < 3 { ocrEdtCreate(t, EDT_PARAM_DEF, [], EDT_PARAM_DEF, [], 0); i = i + 1; }
-}";
-
-/// The Acquire, the Start and the four calls of `mainEdt`.
-const MADE: usize = 6;
 
 /// So many idle rounds a worker has only after it slept: it spins in the first few of them.
 const IDLE_ROUNDS: u64 = 12;
@@ -84,7 +76,7 @@ fn a_worker_that_slept_takes_what_comes_late(rt: HostRuntime) -> Result<(), Fail
     let late = Late::new();
     let words = ["run", "--workers", "2"];
     let text = THREE.to_vec(alloc)?;
-    let done = outcome_at(&rt, alloc, &words, text, 1000, NO_FAULTS, &late)?;
+    let done = outcome_at(&rt, alloc, &words, text, 1000, WHOLE, &late)?;
     assert_eq!(rt; done.ended.status, 0);
     assert_eq!(rt; done.out.bytes(), b"1\n1\n1\n".as_slice());
     assert_eq!(rt; late.failed.load(Ordering::SeqCst), 0);

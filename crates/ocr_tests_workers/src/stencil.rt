@@ -1,7 +1,7 @@
 // A stencil of 64 by 64 cells in 16 tiles: tile i is row i / 4 and column i % 4, and both borders
 // wrap. In each of 10 rounds a cell becomes the sum of itself and its four neighbours.
-use crate::workers::{Row, first_wrong};
-use ocr_tests_run::{CREWS, Faults, NO_FAULTS, outcome_of};
+use crate::workers::first_wrong;
+use ocr_tests_run::{CREWS, Row, Stream, Streams, WHOLE, outcome_of};
 use std::test::Fail;
 
 const STENCIL: &[u8] = b"fn tile {
@@ -72,14 +72,14 @@ fn stencil_is_the_same_by_any_number_of_workers(rt: HostRuntime) -> Result<(), F
 #[test]
 fn second_write_of_the_stencil_fails(rt: HostRuntime) -> Result<(), Fail> {
     let alloc = rt.alloc();
-    let faults = Faults {
-        writes: &[1],
-        write_most: 4,
-        ..NO_FAULTS
+    let out = Stream {
+        most: 4,
+        fails: Some(1),
     };
+    let streams = Streams { out, ..WHOLE };
     for workers in CREWS {
         let words = ["run", "--workers", workers];
-        let done = outcome_of(&rt, alloc, &words, STENCIL.to_vec(alloc)?, 1000, faults)?;
+        let done = outcome_of(&rt, alloc, &words, STENCIL.to_vec(alloc)?, 1000, streams)?;
         assert_eq!(rt; done.ended.status, 8);
         assert_eq!(rt; done.out.bytes(), b"8190".as_slice());
         assert_eq!(rt; done.err.bytes(), b"write fault\n".as_slice());

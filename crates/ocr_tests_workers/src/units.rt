@@ -1,5 +1,5 @@
 // How often one worker touches the word that counts all that can still come.
-use ocr_tests_run::{NO_FAULTS, outcome_at};
+use ocr_tests_run::{WHOLE, outcome_at};
 use ocr_turns::Clerk;
 use ocr_worker_clerk::{Gate, Ocr};
 use std::alloc::Global;
@@ -105,7 +105,7 @@ fn touches_and_entries<R: Threads + Wait + Sync>(
     let touches = Touches::new();
     let words = ["run", "--workers", "1", "--objects", "2048"];
     let input = text.to_vec(alloc)?;
-    let done = outcome_at(rt, alloc, &words, input, 4000, NO_FAULTS, &touches)?;
+    let done = outcome_at(rt, alloc, &words, input, 4000, WHOLE, &touches)?;
     let journal = done.ended.journal.ok_or("a journal")?;
     let entries = journal.journal().entries().len() as u64;
     Ok((touches.count(), entries))

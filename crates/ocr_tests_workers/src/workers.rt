@@ -1,21 +1,12 @@
 // Runs by one, two and four workers.
-use ocr_tests_run::{CREWS, NO_FAULTS, Outcome, outcome_of};
+use ocr_tests_run::{CREWS, Outcome, Row, WHOLE, outcome_of};
 use std::alloc::Global;
 use std::str;
 use std::sync::Wait;
 use std::test::Fail;
 use std::thread::Threads;
 
-/// Words after `run --workers N`, and a text, and what comes of them.
-#[derive(Clone, Copy)]
-pub struct Row {
-    pub words: &'static [&'static str],
-    pub text: &'static [u8],
-    pub status: u8,
-    pub out: &'static [u8],
-    pub err: &'static [u8],
-}
-
+// The run of a text, with these words after `run --workers N`.
 fn run_by<R: Threads + Wait + Sync>(
     rt: &R,
     alloc: Global,
@@ -30,10 +21,10 @@ fn run_by<R: Threads + Wait + Sync>(
     for word in rest {
         words.push(*word)?;
     }
-    outcome_of(rt, alloc, &words, text.to_vec(alloc)?, 4000, NO_FAULTS)
+    outcome_of(rt, alloc, &words, text.to_vec(alloc)?, 4000, WHOLE)
 }
 
-// Whether this comes of a row by so many workers.
+// Whether this comes of a row by so many workers, whose words stand after theirs.
 fn is_told<R: Threads + Wait + Sync>(
     rt: &R,
     alloc: Global,

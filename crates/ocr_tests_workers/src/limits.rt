@@ -1,13 +1,12 @@
 // Runs that a limit stops, at each number of events and of objects.
+use crate::replays::{COUNTED, PIPELINE};
 use crate::scopes::FAMILY;
-use crate::workers::{COUNTED, PIPELINE};
 use ocr_body_code::Checked;
 use ocr_guid::{Code, Guid};
 use ocr_machine_codes::weight;
 use ocr_machine_history::{Entry, Stop};
-use ocr_replay::replay;
-use ocr_tests_journals::program_of;
-use ocr_tests_run::{ADDERS, FIBONACCI, NO_FAULTS, Outcome, outcome_of};
+use ocr_tests_journals::{program_of, replay};
+use ocr_tests_run::{ADDERS, FIBONACCI, Outcome, WHOLE, outcome_of};
 use std::alloc::Global;
 use std::sync::Wait;
 use std::test::Fail;
@@ -34,7 +33,7 @@ fn cases() -> [Case; 5] {
             out: b"8\n",
         },
         Case {
-            text: FAMILY.text,
+            text: FAMILY,
             argument: 0,
             out: b"1\n2\n3\n4\n",
         },
@@ -115,7 +114,7 @@ fn run_within<R: Threads + Wait + Sync>(
         events.as_str(),
         argument.as_str(),
     ];
-    outcome_of(rt, alloc, &words, case.text.to_vec(alloc)?, 1000, NO_FAULTS)
+    outcome_of(rt, alloc, &words, case.text.to_vec(alloc)?, 1000, WHOLE)
 }
 
 fn stop_of(entries: &[Entry]) -> Option<Stop> {

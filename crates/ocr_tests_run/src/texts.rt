@@ -1,5 +1,7 @@
 // Texts that are no programs, and limits at their edges.
-use crate::calls::{Row, WHOLE, is_told};
+use crate::outcomes::{CREWS, run_by};
+use crate::rows::{Row, is_told};
+use crate::streams::WHOLE;
 use std::alloc::Global;
 use std::test::Fail;
 
@@ -19,14 +21,20 @@ fn refused<'a>(text: &'a [u8], err: &'a [u8]) -> Row<'a> {
 }
 
 // Texts with the lines by which they are refused.
-static TEXTS: [(&[u8], &[u8]); 11] = [
+static TEXTS: [(&[u8], &[u8]); 16] = [
+    (b"", b"check fault: rule 2 in function 0\n"),
+    (b"#", b"check fault: rule 2 in function 0\n"),
+    (b"fn mainEdt { $ }", b"lex fault at 13\n"),
     (
         b"fn mainEdt { print 18446744073709551616; }",
         b"lex fault at 19\n",
     ),
     (b"\0", b"lex fault at 0\n"),
     (b"\xff\xfe", b"lex fault at 0\n"),
+    (b"}", b"syntax fault at 0\n"),
     (b"fn if { }", b"syntax fault at 3\n"),
+    (b"fn mainEdt { print ; }", b"syntax fault at 19\n"),
+    (b"fn mainEdt { print 1", b"syntax fault at 20\n"),
     (b"fn mainEdt { print 1 }", b"syntax fault at 21\n"),
     (
         b"fn mainEdt { } fn mainEdt { }",
@@ -44,8 +52,10 @@ static TEXTS: [(&[u8], &[u8]); 11] = [
         b"fn mainEdt { ocrEdtTemplateCreate(no, 0, 0); }",
         b"check fault: rule 5 in function 1\n",
     ),
-    (b"#", b"check fault: rule 2 in function 0\n"),
-    (b"}", b"syntax fault at 0\n"),
+    (
+        b"fn mainEdt { print x; }",
+        b"check fault: rule 4 in function 1\n",
+    ),
 ];
 
 static LIMITS: [Row; 4] = [
@@ -82,8 +92,21 @@ static LIMITS: [Row; 4] = [
 #[test]
 fn texts_that_are_no_programs_are_told(rt: HostRuntime) -> Result<(), Fail> {
     for (text, err) in TEXTS {
-        assert!(rt; is_told(&rt, rt.alloc(), refused(text, err), WHOLE)?);
+        for workers in CREWS {
+            let done = run_by(&rt, rt.alloc(), workers, text)?;
+            assert_eq!(rt; done.ended.status, 3);
+            assert_eq!(rt; done.out.bytes(), b"".as_slice());
+            assert_eq!(rt; done.err.bytes(), err);
+            assert!(rt; done.ended.journal.is_none());
+        }
     }
+    Ok(())
+}
+
+#[test]
+fn one_byte_too_many_is_told(rt: HostRuntime) -> Result<(), Fail> {
+    let blanks = vec![in rt.alloc(); b' '; 1_048_577]?;
+    assert!(rt; is_told(&rt, rt.alloc(), refused(&blanks, b"text too big\n"), WHOLE)?);
     Ok(())
 }
 

@@ -1,8 +1,8 @@
 // Journals of runs by one, two and four workers.
+use crate::events::FED;
 use crate::journals::TREE;
-use crate::outputs::{ADDERS, DESTROYED as FORGOTTEN, GIVEN, TAKEN};
 use crate::runs::{recording_by, verdict};
-use crate::scopes::{FAMILY, INNER, MEMBER, NESTED, SILENT};
+use crate::scopes::{OUTPUT_ROWS, SCOPE_ROWS};
 use ocr_tests_run::{CREWS, EXAMPLES, LAST_EXAMPLES, MORE_EXAMPLES};
 use std::alloc::Global;
 use std::sync::Wait;
@@ -87,27 +87,6 @@ fn runs_by_several_workers_are_replayed(rt: HostRuntime) -> Result<(), Fail> {
     }
     Ok(())
 }
-
-// Eight EDTs send a block each through one channel, and one EDT adds up what came out.
-const FED: &[u8] = b"fn send {
-  let d = ocrDbCreate(8, 0); store(d, 0, paramv[1]); ocrDbRelease(d);
-  ocrEventSatisfy(paramv[0], d);
-}
-fn add {
-  let sum = 0; let i = 0;
-  while i < depc { sum = sum + load(depv[i], 0); i = i + 1; }
-  print sum;
-}
-fn mainEdt {
-  let c = ocrEventCreateParams(OCR_EVENT_CHANNEL_T, EVT_PROP_TAKES_ARG, 8, 1, 1);
-  let t = ocrEdtTemplateCreate(send, 2, 0); let i = 1;
-  let w = ocrEdtCreate(ocrEdtTemplateCreate(add, 0, 8), EDT_PARAM_DEF, [], EDT_PARAM_DEF, [], 0);
-  while i <= 8 {
-    ocrEdtCreate(t, EDT_PARAM_DEF, [c, i], EDT_PARAM_DEF, [], 0);
-    ocrAddDependence(c, w, i - 1, DB_MODE_RO);
-    i = i + 1;
-  }
-}";
 
 /// Two EDTs count a latch down until it has fired, and events bring that on to an EDT; one of them
 /// fires before another is linked to it, or after.
@@ -237,9 +216,9 @@ fn mainEdt {
 #[test]
 fn runs_with_output_events_are_replayed(rt: HostRuntime) -> Result<(), Fail> {
     let alloc = rt.alloc();
-    for table in [ADDERS, GIVEN, FORGOTTEN, TAKEN] {
+    for row in &OUTPUT_ROWS {
         for workers in CREWS {
-            let recording = recording_by(&rt, alloc, workers, table.text)?;
+            let recording = recording_by(&rt, alloc, workers, row.text)?;
             assert_eq!(rt; verdict(alloc, &recording, &recording.entries), Ok(()));
         }
     }
@@ -249,15 +228,7 @@ fn runs_with_output_events_are_replayed(rt: HostRuntime) -> Result<(), Fail> {
 #[test]
 fn runs_with_scopes_are_replayed(rt: HostRuntime) -> Result<(), Fail> {
     let alloc = rt.alloc();
-    let texts = [
-        FAMILY.text,
-        NESTED.text,
-        INNER.text,
-        SILENT.text,
-        MEMBER.text,
-        FOREST,
-    ];
-    for text in texts {
+    for text in SCOPE_ROWS.iter().map(|row| row.text).chain([FOREST]) {
         for workers in CREWS {
             let recording = recording_by(&rt, alloc, workers, text)?;
             assert_eq!(rt; verdict(alloc, &recording, &recording.entries), Ok(()));

@@ -1,6 +1,7 @@
 // A program that is cut at each place before its end.
-use crate::calls::{WHOLE, outcome_of};
 use crate::programs::FIBONACCI;
+use crate::rows::{Row, is_told};
+use crate::streams::WHOLE;
 use std::alloc::Global;
 use std::sync::Wait;
 use std::test::Fail;
@@ -44,9 +45,15 @@ fn line_of(alloc: Global, text: &[u8]) -> Result<String, Fail> {
 
 // Whether a front of the program is refused at its place.
 fn is_refused<R: Threads + Wait + Sync>(rt: &R, alloc: Global, text: &[u8]) -> Result<bool, Fail> {
-    let done = outcome_of(rt, alloc, &["run", "10"], text, WHOLE)?;
     let line = line_of(alloc, text)?;
-    Ok(done.status == 3 && done.out.is_empty() && done.err.as_slice() == line.as_bytes())
+    let wanted = Row {
+        words: &["run", "10"],
+        text,
+        status: 3,
+        out: b"",
+        err: line.as_bytes(),
+    };
+    is_told(rt, alloc, wanted, WHOLE)
 }
 
 // The first of `count` fronts, from one of so many bytes on, that is told otherwise.

@@ -1,10 +1,94 @@
 // Each call of each stream fails in turn: what was written before stays, and nothing else changes.
-use crate::calls::{CALM, Row, Stream, Streams, WHOLE, is_told};
-use crate::programs::ROWS;
+use crate::programs::{FIBONACCI, FIRST};
+use crate::rows::{Row, is_told};
+use crate::streams::{CALM, Stream, Streams, WHOLE};
 use std::alloc::Global;
 use std::sync::Wait;
 use std::test::Fail;
 use std::thread::Threads;
+
+// A block is destroyed while an EDT waits for it, or will ask for it.
+const DESTROYED: &[u8] = b"fn late { print depv[0]; }
+fn mainEdt {
+  let d = ocrDbCreate(8, 0); store(d, 0, 7);
+  let w = ocrEdtCreate(ocrEdtTemplateCreate(late, 0, 1), EDT_PARAM_DEF, [], EDT_PARAM_DEF, [], 0);
+  ocrAddDependence(d, w, 0, DB_MODE_EW);
+  print load(d, 0); ocrDbDestroy(d);
+}";
+
+// A finish EDT with a child and a grandchild.
+const FINISH: &[u8] = b"fn leaf { print 3; }
+fn child { print 2; ocrEdtCreate(ocrEdtTemplateCreate(leaf, 0, 0), EDT_PARAM_DEF, [], 0, [], 0); }
+fn top { print 1; ocrEdtCreate(ocrEdtTemplateCreate(child, 0, 0), EDT_PARAM_DEF, [], 0, [], 0); }
+fn done { print 4; }
+fn mainEdt {
+  let o = 0;
+  let f = ocrEdtCreate(ocrEdtTemplateCreate(top, 0, 1), 0, [], 1, [], EDT_PROP_FINISH, &o);
+  let d = ocrEdtCreate(ocrEdtTemplateCreate(done, 0, 1), 0, [], 1, [], 0);
+  ocrAddDependence(o, d, 0, DB_MODE_NULL); ocrAddDependence(NULL_GUID, f, 0, DB_MODE_NULL);
+}";
+
+// What comes of programs whose streams fail nowhere.
+static ROWS: [Row; 7] = [
+    Row {
+        words: &["run"],
+        text: FIRST,
+        status: 0,
+        out: b"42\n",
+        err: b"",
+    },
+    Row {
+        words: &["run", "--journal"],
+        text: FIRST,
+        status: 0,
+        out: b"42\njournal 4\n0 acquire 2 1\n1 start 2\n2 call 2 print 42\n3 stop shutdown 2\n",
+        err: b"",
+    },
+    Row {
+        words: &["run", "--journal"],
+        text: b"fn mainEdt { }",
+        status: 0,
+        out: b"journal 4\n0 acquire 2 1\n1 start 2\n2 free 2 1\n3 end 2 0\n",
+        err: b"",
+    },
+    Row {
+        words: &["run", "10"],
+        text: FIBONACCI,
+        status: 0,
+        out: b"55\n",
+        err: b"",
+    },
+    Row {
+        words: &["run", "--stale"],
+        text: DESTROYED,
+        status: 0,
+        out: b"7\n0\nstale 1\nacquire 5 3\n",
+        err: b"",
+    },
+    Row {
+        words: &["run", "--summary"],
+        text: FINISH,
+        status: 0,
+        out: b"1\n2\n3\n4\nedts 5 started 5 left 0 stale 0\n",
+        err: b"",
+    },
+    Row {
+        words: &["check"],
+        text: b"fn mainEdt{print (1+2)*3;if 0{}else{}}",
+        status: 0,
+        out: b"fn mainEdt {\n  print (1 + 2) * 3;\n  if 0 {\n  }\n}\n",
+        err: b"",
+    },
+];
+
+// A program that is not read.
+static LOADS: [Row; 1] = [Row {
+    words: &["load", "2"],
+    text: b"",
+    status: 0,
+    out: b"624\nedts 18 started 18 left 0 stale 0\n",
+    err: b"",
+}];
 
 // A stream of so many bytes a call, one call of which fails.
 fn failing(most: usize, call: usize) -> Stream {
@@ -94,7 +178,7 @@ fn reads_that_fail_leave_nothing(rt: HostRuntime) -> Result<(), Fail> {
 #[test]
 fn a_read_of_each_byte_may_fail(rt: HostRuntime) -> Result<(), Fail> {
     assert_eq!(rt; first_wrong_read(&rt, rt.alloc(), ROWS[0], 1)?, None);
-    assert_eq!(rt; first_wrong_read(&rt, rt.alloc(), ROWS[5], 1)?, None);
+    assert_eq!(rt; first_wrong_read(&rt, rt.alloc(), ROWS[6], 1)?, None);
     Ok(())
 }
 
@@ -112,7 +196,7 @@ fn a_call_after_the_end_is_none(rt: HostRuntime) -> Result<(), Fail> {
 
 #[test]
 fn writes_of_a_byte_that_fail_leave_a_front(rt: HostRuntime) -> Result<(), Fail> {
-    for row in &ROWS {
+    for row in ROWS.iter().chain(&LOADS) {
         assert_eq!(rt; first_wrong_write(&rt, rt.alloc(), *row, 1)?, None);
     }
     Ok(())
@@ -120,7 +204,7 @@ fn writes_of_a_byte_that_fail_leave_a_front(rt: HostRuntime) -> Result<(), Fail>
 
 #[test]
 fn writes_that_fail_leave_a_front(rt: HostRuntime) -> Result<(), Fail> {
-    for row in &ROWS {
+    for row in ROWS.iter().chain(&LOADS) {
         assert_eq!(rt; first_wrong_write(&rt, rt.alloc(), *row, 4)?, None);
     }
     Ok(())
@@ -129,7 +213,7 @@ fn writes_that_fail_leave_a_front(rt: HostRuntime) -> Result<(), Fail> {
 #[test]
 fn sinks_may_take_a_byte_at_a_time(rt: HostRuntime) -> Result<(), Fail> {
     let byte = Stream { most: 1, ..CALM };
-    for row in ROWS.iter().chain(&LINES) {
+    for row in ROWS.iter().chain(&LOADS).chain(&LINES) {
         let streams = Streams {
             input: byte,
             out: byte,
@@ -139,8 +223,6 @@ fn sinks_may_take_a_byte_at_a_time(rt: HostRuntime) -> Result<(), Fail> {
     }
     Ok(())
 }
-
-const FIRST: &[u8] = b"fn mainEdt { print 42; ocrShutdown(); }";
 
 // A row of each status that has a line, but for those of failed streams and want of memory.
 static LINES: [Row; 8] = [
@@ -215,17 +297,18 @@ fn a_line_that_fails_changes_nothing_else(rt: HostRuntime) -> Result<(), Fail> {
 
 #[test]
 fn both_sinks_may_fail(rt: HostRuntime) -> Result<(), Fail> {
-    let row = ROWS[0];
-    for call in [0, 1, 2, row.out.len() - 1] {
-        let wanted = Row {
-            status: 8,
-            out: front(row.out, call),
-            err: b"write fault\n",
-            ..row
-        };
-        let out = failing(1, call);
-        let streams = Streams { out, ..WHOLE };
-        assert_eq!(rt; first_wrong_line(&rt, rt.alloc(), wanted, streams)?, None);
+    for row in [ROWS[1], LOADS[0]] {
+        for call in [0, 1, 2, row.out.len() - 1] {
+            let wanted = Row {
+                status: 8,
+                out: front(row.out, call),
+                err: b"write fault\n",
+                ..row
+            };
+            let out = failing(1, call);
+            let streams = Streams { out, ..WHOLE };
+            assert_eq!(rt; first_wrong_line(&rt, rt.alloc(), wanted, streams)?, None);
+        }
     }
     Ok(())
 }

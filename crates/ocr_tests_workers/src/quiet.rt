@@ -1,9 +1,10 @@
 // Small programs that end quiet, run again and again.
 use crate::edits::add;
+use crate::gates::THREE;
 use crate::runs::{Recording, verdict};
 use ocr_machine_history::Entry;
 use ocr_tests_journals::program_of;
-use ocr_tests_run::{NO_FAULTS, outcome_at};
+use ocr_tests_run::{WHOLE, outcome_at};
 use ocr_turns::Clerk;
 use ocr_worker_clerk::{Gate, Ocr};
 use std::alloc::Global;
@@ -11,13 +12,6 @@ use std::sync::Wait;
 use std::sync::atomic::{AtomicU64, Ordering};
 use std::test::Fail;
 use std::thread::Threads;
-
-// Three EDTs without slots.
-const THREE: &[u8] = b"fn one { print 1; }
-fn mainEdt {
-  let t = ocrEdtTemplateCreate(one, 0, 0); let i = 0;
-  while i < 3 { ocrEdtCreate(t, EDT_PARAM_DEF, [], EDT_PARAM_DEF, [], 0); i = i + 1; }
-}";
 
 // Each EDT but the last makes the next one as the last thing it does.
 const CHAIN: &[u8] = b"fn link {
@@ -101,7 +95,7 @@ fn run_counted<R: Threads + Wait + Sync>(
 ) -> Result<(u8, Vec<Entry>), Fail> {
     let words = ["run", "--workers", workers, "--objects", "256"];
     let input = text.to_vec(alloc)?;
-    let done = outcome_at(rt, alloc, &words, input, 1000, NO_FAULTS, gate)?;
+    let done = outcome_at(rt, alloc, &words, input, 1000, WHOLE, gate)?;
     let status = done.ended.status;
     let journal = done.ended.journal.ok_or("a journal")?;
     let entries = copied(alloc, journal.journal().entries())?;
