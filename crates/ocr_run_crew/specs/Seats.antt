@@ -10,8 +10,9 @@ use Rattle.ocr_steal.specs.declared.pool.Pool.{Pool}
 use Rattle.ocr_steal.specs.Deque.{newcomer}
 use Rattle.ocr_steal.specs.Hand.{own}
 use Rattle.ocr_steal.specs.Pool.{IsOfPool}
-use Rattle.ocr_worker.specs.Leave.{HasDelivered, IsBetween, IsWorker}
-use Rattle.ocr_worker.specs.declared.leave.Worked.{Worked}
+use Rattle.ocr_worker.specs.Leave.{HasDelivered}
+pub use Rattle.ocr_worker.specs.Leave.{IsBetween, IsWorker}
+pub use Rattle.ocr_worker.specs.declared.leave.Worked.{Worked}
 use Rattle.ocr_run_crew.specs.declared.seats.Seat.{Seat}
 use Rattle.ocr_run_crew.specs.Logs.{HasLogs, IsLog, KnowsEnd}
 

@@ -11,5 +11,6 @@ mod threads;
 pub use crew::run;
 pub use limits::Limits;
 pub use ocr_journal_merge::Merged;
+pub use ocr_worker::{Worked, work};
 pub use ocr_worker_clerk::{Gate, NoGate};
 pub use seats::Seat;

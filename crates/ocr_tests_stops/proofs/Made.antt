@@ -2,7 +2,7 @@
 use Rattle.std.proofs.Common.{◌≡◌, ℕ, zero, suc, ◌+◌, ◌-◌, ◌≤◌, List, [], ◌∷◌, All, refl, ap, sym, subst, ◌∙◌, arith, inl}
 use Rattle.ocr_turns_rule.specs.Live.{MayLower, lowering, raising}
 use Rattle.ocr_turns_rule.specs.Steps.{fresh, fresh_spare, gathered, parted, parted_spare}
-use Rattle.ocr_worker.specs.Leave.{IsBetween}
+use Rattle.ocr_run_crew.specs.Seats.{IsBetween}
 use Rattle.ocr_machine_history.specs.declared.entry.Entry.TheVariants as an
 use Rattle.ocr_machine_history.specs.declared.entry.Stop.TheVariants as by
 use Rattle.ocr_turns_rule.specs.Contract.{MayClose}

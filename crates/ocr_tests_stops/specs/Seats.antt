@@ -6,7 +6,7 @@ use Rattle.ocr_program_tree.specs.Runnable.{IsRunnable}
 use Rattle.ocr_steal.specs.declared.pool.Pool.{Pool}
 use Rattle.ocr_steal.specs.Pool.{IsOfPool}
 use Rattle.ocr_turns_rule.specs.Contract.{IsOfTable}
-use Rattle.ocr_worker.specs.Leave.{IsBetween, IsWorker}
+use Rattle.ocr_run_crew.specs.Seats.{IsBetween, IsWorker}
 use Rattle.ocr_worker_clerk.specs.Entry.{OcrKnown}
 use Rattle.ocr_worker_clerk.specs.Work.{OcrTable}
 use Rattle.ocr_tests_stops.specs.Clerks.{program_of}

@@ -5,9 +5,9 @@ ghost use Rattle.ocr_tests_stops.specs.Seats.{IsSeated};
 
 use crate::shared::{parts_move, programs_are_shared};
 use ocr_body_code::Checked;
+use ocr_run_crew::{Worked, work};
 use ocr_steal::{Hand, Pool};
 use ocr_turns::{Clerk, Turns};
-use ocr_worker::{Worked, work};
 use ocr_worker_clerk::{Gate, Job, Ocr};
 use std::alloc::{AllocError, Global};
 use std::sync::Wait;

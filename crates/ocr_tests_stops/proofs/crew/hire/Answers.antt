@@ -2,7 +2,7 @@ use Rattle.std.proofs.Common.{◌≡◌, ◌+◌, ◌∷◌, [], suc, vec_len, A
 use Rattle.std.proofs.lemmas.List.Elements.{All-append}
 use Rattle.std.specs.Vec.Iter.{into_iter_items, into_iter_len}
 use Rattle.ocr_steal.specs.Pool.{IsOfPool}
-use Rattle.ocr_worker.specs.Leave.{IsBetween}
+use Rattle.ocr_run_crew.specs.Seats.{IsBetween}
 use Rattle.ocr_worker_clerk.specs.Entry.{OcrKnown}
 use Rattle.ocr_tests_stops.specs.Clerks.{program_of}
 use Rattle.ocr_tests_stops.specs.Seats.{IsRoot, IsSeated}

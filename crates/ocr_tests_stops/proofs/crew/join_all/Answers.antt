@@ -1,6 +1,6 @@
 use Rattle.std.proofs.Common.{◌+◌, suc, All, ap, subst, length, arith}
 use Rattle.std.specs.Vec.Iter.{into_iter_len}
-use Rattle.ocr_worker.specs.declared.leave.Worked.{Worked}
+use Rattle.ocr_run_crew.specs.Seats.{Worked}
 use Rattle.ocr_tests_stops.specs.Clerks.{IsOut}
 use Rattle.ocr_tests_stops.proofs.Made.{gathers}
 use Rattle.ocr_tests_stops.proofs.crew.join_all.Goals as goal
