@@ -38,7 +38,7 @@ ROWS = [
     ("unit", UNIT, 10_000, 110_000, 8, 16),
     ("unit, mixed", MIXED, 5_000, 35_000, 24, 21),
     ("turn that prints", PRINT, 1_000, 11_000, 1, 700),
-    ("EDT made and run", EDT, 500, 3_500, 1, 2_900),
+    ("EDT made and run", EDT, 500, 3_500, 1, 2_758),
 ]
 
 
