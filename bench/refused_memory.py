@@ -2,7 +2,8 @@
 """Refuses memory to the built program, one number at a time: of a run's calls of `malloc` and `realloc`, the one of the number
 answers that there is none. Each run ends with status 9, its line and nothing on standard output, or as if nothing had been
 refused; it fails where one ends otherwise, by a signal, or not at all. It tries every number that a run has, with 1, 2 and 4
-workers, and tells how many there were and how they ended.
+workers, and tells how many there were and how they ended. Several workers ask for memory more or less often from run to run, so
+it goes on until some numbers in a row came too late.
 
 A shim in C stands before the C library's calls (LD_PRELOAD), so the program is the built one, and a run takes some
 milliseconds. (`rt try --fail-alloc N` builds the program anew for each N.)
@@ -22,39 +23,40 @@ TOP = pathlib.Path(__file__).resolve().parent.parent
 SECONDS = 60
 LINE = b"want of memory\n"
 WORKERS = (1, 2, 4)
+# So many numbers in a row that no run reached are the end.
+MOST_LATE = 20
 
 SHIM = r"""
+#include <fcntl.h>
 #include <stdatomic.h>
-#include <stdio.h>
 #include <stdlib.h>
+#include <unistd.h>
 
 void *__libc_malloc(size_t size);
 void *__libc_realloc(void *at, size_t size);
 
-static atomic_long calls;
+/* Leaves an empty file of the name that is given: that the number was reached. */
+static void tell(void) {
+    const char *name = getenv("REACHED");
+    int file = name ? open(name, O_CREAT | O_WRONLY, 0600) : -1;
+    if (file >= 0) close(file);
+}
 
 static int is_refused(void) {
+    static atomic_long calls;
     static _Atomic long wanted = -1;
     if (wanted < 0) {
         const char *number = getenv("REFUSED");
         wanted = number ? atol(number) : 0;
     }
-    return ++calls == wanted;
+    if (++calls != wanted) return 0;
+    tell();
+    return 1;
 }
 
 void *malloc(size_t size) { return is_refused() ? 0 : __libc_malloc(size); }
 
 void *realloc(void *at, size_t size) { return is_refused() ? 0 : __libc_realloc(at, size); }
-
-__attribute__((destructor)) static void tell(void) {
-    const char *name = getenv("CALLS");
-    long made = calls;
-    FILE *file = name ? fopen(name, "w") : 0;
-    if (file) {
-        fprintf(file, "%ld", made);
-        fclose(file);
-    }
-}
 """
 
 FIRST = "fn mainEdt { print 42; ocrShutdown(); }"
@@ -133,20 +135,20 @@ class Program:
 
     def __init__(self, program, folder):
         self.program, self.folder = program, pathlib.Path(folder)
-        source, self.shim, self.calls = (self.folder / name for name in ("shim.c", "shim.so", "calls"))
+        source, self.shim, self.reached = (self.folder / name for name in ("shim.c", "shim.so", "reached"))
         source.write_text(SHIM)
         subprocess.run(["cc", "-O2", "-shared", "-fPIC", "-o", self.shim, source], check=True)
 
     def run(self, words, text, refused):
-        """The status, the output and the line of a run, and how often it asked for memory."""
-        names = {"LD_PRELOAD": str(self.shim), "CALLS": str(self.calls), "REFUSED": str(refused)}
-        self.calls.unlink(missing_ok=True)
+        """The status, the output and the line of a run, and whether it asked for memory so often."""
+        names = {"LD_PRELOAD": str(self.shim), "REACHED": str(self.reached), "REFUSED": str(refused)}
+        self.reached.unlink(missing_ok=True)
         try:
             done = subprocess.run([self.program, *words], input=text.encode(), capture_output=True, timeout=SECONDS,
                                   env={**os.environ, **names})
         except subprocess.TimeoutExpired:
-            return None, b"", b"no end", 0
-        return done.returncode, done.stdout, done.stderr, int(self.calls.read_text()) if self.calls.exists() else None
+            return None, b"", b"no end", True
+        return done.returncode, done.stdout, done.stderr, self.reached.exists()
 
 
 def lines(text):
@@ -155,24 +157,24 @@ def lines(text):
 
 def try_all(program, name, words, text, whole, first, last):
     """Refuses each number; how many were wrong."""
-    status, out, err, calls = program.run(words, text, 0)
+    status, out, err, _ = program.run(words, text, 0)
     if status != 0 or lines(out) != lines(whole):
         print(f"{name}: status {status}, {out!r}, {err!r} where nothing is refused")
         return 1
-    endings, wrong, number = collections.Counter(), 0, first
-    while last is None or number <= last:
-        status, out, err, calls = program.run(words, text, number)
-        if calls is not None and calls < number:
-            break
+    endings, wrong, number, late = collections.Counter(), 0, first, 0
+    while late < MOST_LATE and (last is None or number <= last):
+        status, out, err, is_reached = program.run(words, text, number)
+        late = 0 if is_reached else late + 1
         is_refused = (status, out, err) == (9, b"", LINE)
         is_whole = status == 0 and lines(out) == lines(whole) and err == b""
         if not is_refused and not is_whole:
             print(f"{name}: number {number} refused: status {status}, {out!r}, {err!r}")
             wrong += 1
-        endings[status] += 1
+        if is_reached:
+            endings[status] += 1
         number += 1
     told = ", ".join(f"status {status}: {count}" for status, count in sorted(endings.items(), key=str))
-    print(f"{name}: {number - first} numbers; {told}", flush=True)
+    print(f"{name}: {endings.total()} numbers; {told}", flush=True)
     return wrong
 
 

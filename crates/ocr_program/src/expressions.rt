@@ -11,7 +11,7 @@ ghost use Rattle.ocr_program_parser.specs.View.{args_of, slots_after, stack_of, 
 use ocr_program_grammar::{Lexeme, Word, level};
 use ocr_program_parser::{
     Arg, CallSite, Indexed, Position, Stack, State, Wanted, after_argument, after_flags,
-    after_member, at_expression_end, fold, with_member, with_value,
+    after_member, at_expression_end, fold, with_member, with_sign, with_value,
 };
 use ocr_program_tree::{BinaryOp, CallName, Expr, UnaryOp};
 use std::alloc::{AllocError, Global};
@@ -101,8 +101,8 @@ fn prefix(
     ensures { IfOk result (λ s. state_if_any s
         ≡ Some (machine.Operand (position_of position) (machine.Prefix op (stack_of stack)))) }
 {
-    let below = Box::new(alloc, stack)?;
-    Ok(Some(State::InFunction(position, Wanted::Operand(Stack::Prefix(op, below)))))
+    let stack = with_sign(alloc, stack, op)?;
+    Ok(Some(State::InFunction(position, Wanted::Operand(stack))))
 }
 
 fn open_round(alloc: Global, position: Position, stack: Stack) -> Result<Option<State>, AllocError>
@@ -158,7 +158,8 @@ fn at_operand_end(
             drop(below);
             Ok(None)
         }
-        Stack::Prefix(_, below) => {
+        Stack::Prefix(signs, below) => {
+            drop(signs);
             drop(below);
             Ok(None)
         }

@@ -4,3 +4,4 @@ pub mod Heights
 pub mod Joined
 pub mod Lists
 pub mod Marks
+pub mod SignLemmas

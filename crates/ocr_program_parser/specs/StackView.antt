@@ -2,7 +2,9 @@
 use Rattle.std.specs.Prelude.{List, [], ◌∷◌, drop, length}
 use Rattle.ocr_program_tree.specs.declared.tree.CallName.{CallName}
 use Rattle.ocr_program_tree.specs.declared.tree.Expr.{Expr}
-use Rattle.ocr_program_tree.specs.Tree.{Arguments, empty, value, list, named}
+use Rattle.ocr_program_tree.specs.declared.tree.UnaryOp.{UnaryOp}
+use Rattle.ocr_program_tree.specs.Tree as tree
+use Rattle.ocr_program_tree.specs.Tree.{Arguments, Expression, empty, value, list, named}
 use Rattle.ocr_program_tree.specs.View.{expression_of, members_of}
 use Rattle.ocr_program_grammar.specs.declared.argument_kind.ArgumentKind.{ArgumentKind}
 use Rattle.ocr_program_grammar.specs.Shape.{shape}
@@ -51,11 +53,22 @@ but_first (s ∷ ss) = ss
 abbrev pub slots_after : CallName → List Arg → List ArgumentKind
 slots_after c args = but_first (slots_left c args)
 
+-- these signs before an operand, the first outermost
+abbrev pub under : List UnaryOp → Expression → Expression
+under [] e = e
+under (op ∷ ops) e = tree.Unary op (under ops e)
+
+-- these signs waiting, the last nearest, above what else waits
+abbrev pub signs_onto : List UnaryOp → m.Stack → m.Stack
+signs_onto [] k = k
+signs_onto (op ∷ ops) k = signs_onto ops (m.Prefix op k)
+
 abbrev mutual
   pub stack_of : Stack → m.Stack
   stack_of (stack.Bottom p) = m.Bottom (purpose_of p)
   stack_of (stack.Left' a op p k) = m.Left (expression_of a.value) op (stack_of k)
-  stack_of (stack.Prefix' op p k) = m.Prefix op (stack_of k)
+  stack_of (stack.Prefix' signs p k) =
+      m.Prefix signs.last (signs_onto signs.before.items (stack_of k))
   stack_of (stack.Round' p k) = m.Round (stack_of k)
   stack_of (stack.Index' i p k) = m.Index (indexed_of i) (stack_of k)
   stack_of (stack.Argument c args k) =

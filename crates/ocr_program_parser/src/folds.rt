@@ -5,9 +5,10 @@ ghost use Rattle.ocr_program_tree.specs.View.{expression_of};
 ghost use Rattle.ocr_program_parser.specs.Stack as pending;
 ghost use Rattle.ocr_program_parser.specs.StackView.{held_of, stack_of};
 
+use crate::signs::signed;
 use crate::stack::Stack;
 use ocr_program_grammar::level;
-use ocr_program_tree::{BinaryOp, Expr, UnaryOp};
+use ocr_program_tree::{BinaryOp, Expr};
 use std::alloc::{AllocError, Global};
 
 fn binary(
@@ -22,14 +23,8 @@ fn binary(
     Ok(Box::new(alloc, Expr::Binary(op, left, right))?)
 }
 
-fn unary(alloc: Global, op: UnaryOp, operand: Box<Expr>) -> Result<Box<Expr>, AllocError>
-    ensures { IfOk result
-        (λ e. expression_of e.value ≡ tree.Unary op (expression_of operand.value)) }
-{
-    Ok(Box::new(alloc, Expr::Unary(op, operand))?)
-}
-
 /// Puts together what binds as close as this level.
+#[tactic(auto, using(crate::proofs::SignLemmas::fold_signs, crate::proofs::SignLemmas::signs_height))]
 pub fn fold(
     alloc: Global,
     low: u8,
@@ -50,8 +45,8 @@ pub fn fold(
                 operand = binary(alloc, op, left, operand)?;
                 stack = Box::into_inner(below);
             }
-            Stack::Prefix(op, below) => {
-                operand = unary(alloc, op, operand)?;
+            Stack::Prefix(signs, below) => {
+                operand = signed(alloc, signs, operand)?;
                 stack = Box::into_inner(below);
             }
             Stack::Bottom(purpose) => return Ok((Stack::Bottom(purpose), operand)),

@@ -6,6 +6,7 @@ mod blocks;
 mod calls;
 mod folds;
 mod invocation;
+mod signs;
 mod stack;
 mod statements;
 mod states;
@@ -15,6 +16,7 @@ pub use calls::{
     after_argument, after_flags, after_member, at_call_end, with_list, with_member, with_value,
 };
 pub use folds::fold;
+pub use signs::with_sign;
 pub use stack::{Arg, CallSite, Indexed, Stack};
 pub use statements::{after_call, at_brace, at_expression_end, at_statement, may_else};
 pub use states::{BlockKind, Position, State, Wanted};

@@ -26,6 +26,13 @@ pub enum Indexed {
     Dependences,
 }
 
+/// Signs in a row: the last, which is the nearest to the operand, and those before it.
+#[derive(Drop)]
+pub struct Signs {
+    pub last: UnaryOp,
+    pub before: Vec<UnaryOp>,
+}
+
 /// An argument of a call.
 #[derive(Drop)]
 pub enum Arg {
@@ -45,8 +52,8 @@ pub enum Stack {
     Bottom(Purpose),
     /// An operator, with the operand to its left.
     Left(Box<Expr>, BinaryOp, Box<Stack>),
-    /// A sign before the operand.
-    Prefix(UnaryOp, Box<Stack>),
+    /// Signs before the operand. They stand together, as a row of them is long and the rest is not.
+    Prefix(Signs, Box<Stack>),
     /// A round bracket that is open.
     Round(Box<Stack>),
     /// The index of an element is read.
