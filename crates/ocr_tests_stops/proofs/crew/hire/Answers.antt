@@ -26,7 +26,7 @@ loop-hand-preserved c =
       hand = subst (IsOfPool pool) (sym same.1) hand;
     } in
     record {
-      root = subst (λ n. IsRoot table (1 + n) c.split.new.root) (sym len) (hires table (1 + vec_len at.seats) at.root c.split.new.root old.root split.root.0.0 split.root.1);
+      root = subst (λ n. IsRoot table n c.split.new.root) (let l = len in omega arith) (hires table (1 + vec_len at.seats) at.root c.split.new.root old.root split.root.0.0 split.root.1);
       unit = keeps_unit 1 at.root c.split.new.root old.unit split.root.1;
       quota = (let q = old.quota in omega arith);
       left = (let a = steps.1 in let b = ap length steps.0 in let d = old.left in omega arith);
