@@ -370,18 +370,22 @@ const TENTH: Case = Case {
     out: b"55\n",
 };
 
+// Whether a long run by so many workers comes to its end.
+fn ends_long<R: Threads + Wait + Sync>(rt: &R, alloc: Global, workers: u32) -> Result<bool, Fail> {
+    let program = program_of(alloc, TENTH.text)?;
+    let bounds = Bounds {
+        workers,
+        objects: 4096,
+        ..AMPLE
+    };
+    let came = come_within(rt, alloc, &program, &TENTH, bounds)?;
+    Ok(is_sound(bounds, &came) && came.status == 0)
+}
+
 #[test]
 fn long_runs_with_many_events_are_replayed(rt: HostRuntime) -> Result<(), Fail> {
-    let alloc = rt.alloc();
-    let program = program_of(alloc, TENTH.text)?;
     for workers in CREWS {
-        let bounds = Bounds {
-            workers,
-            objects: 4096,
-            ..AMPLE
-        };
-        let came = come_within(&rt, alloc, &program, &TENTH, bounds)?;
-        assert!(rt; is_sound(bounds, &came) && came.status == 0);
+        assert!(rt; ends_long(&rt, rt.alloc(), workers)?);
     }
     Ok(())
 }
