@@ -29,7 +29,7 @@ mutual
   node_words w n names (node.Binary' op p a q b) is = both _ _ (node_words w n names a (first_of _ _ is)) (node_words w n names b (second_of _ _ is))
   node_words w n names (node.WithNumber op i v) is = second_of _ _ is
   node_words w n names (node.WithVariable op i j) is = refl
-  node_words w n names (node.Invoke c) is = code_words w n names c is
+  node_words w n names (node.Invoke' p c) is = code_words w n names c is
 
   code_words : (w : List ℕ → ℕ) (n names : List (List ℕ)) (c : CallCode) → is_call_placed w n c ≡ true → are_of_words (call_arguments names c) ≡ true
   code_words w n names (call.Load' p d q v) is = both _ _ (node_words w n names d (first_of _ _ is)) (both _ _ (node_words w n names v (second_of _ _ is)) refl)

@@ -104,7 +104,7 @@ mutual
       ap (λ (x : List ℕ). tree.Binary op (tree.Var x) (tree.Number v)) (name_kept xs ys i grew (ltb-true i (length xs) (first_of _ _ is)))
   node_same w xs ys (node.WithVariable op i j) grew is =
       λ k. tree.Binary op (tree.Var (name_kept xs ys i grew (ltb-true i (length xs) (first_of _ _ is)) k)) (tree.Var (name_kept xs ys j grew (ltb-true j (length xs) (second_of _ _ is)) k))
-  node_same w xs ys (node.Invoke c) grew is = ap (tree.Invoked (call_name c)) (code_same w xs ys c grew is)
+  node_same w xs ys (node.Invoke' p c) grew is = ap (tree.Invoked (call_name c)) (code_same w xs ys c grew is)
 
   code_same : (w : List ℕ → ℕ) (xs ys : List (List ℕ)) (c : CallCode) → Grew xs ys → is_call_placed w xs c ≡ true → call_arguments ys c ≡ call_arguments xs c
   code_same w xs ys (call.Load' p d q v) grew is =
@@ -137,7 +137,7 @@ mutual
   node_placed w xs ys (node.Binary' op p a q b) grew is = both _ _ (node_placed w xs ys a grew (first_of _ _ is)) (node_placed w xs ys b grew (second_of _ _ is))
   node_placed w xs ys (node.WithNumber op i v) grew is = both _ _ (place_less xs ys i grew (first_of _ _ is)) (second_of _ _ is)
   node_placed w xs ys (node.WithVariable op i j) grew is = both _ _ (place_less xs ys i grew (first_of _ _ is)) (place_less xs ys j grew (second_of _ _ is))
-  node_placed w xs ys (node.Invoke c) grew is = code_placed w xs ys c grew is
+  node_placed w xs ys (node.Invoke' p c) grew is = code_placed w xs ys c grew is
 
   code_placed : (w : List ℕ → ℕ) (xs ys : List (List ℕ)) (c : CallCode) → Grew xs ys → is_call_placed w xs c ≡ true → is_call_placed w ys c ≡ true
   code_placed w xs ys (call.Load' p d q v) grew is = both _ _ (node_placed w xs ys d grew (first_of _ _ is)) (node_placed w xs ys v grew (second_of _ _ is))

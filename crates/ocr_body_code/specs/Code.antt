@@ -43,7 +43,7 @@ abbrev mutual
       tree.Binary op (tree.Var (name_at names i)) (tree.Number v)
   expression_at names (node.WithVariable op i j) =
       tree.Binary op (tree.Var (name_at names i)) (tree.Var (name_at names j))
-  expression_at names (node.Invoke c) = tree.Invoked (call_name c) (call_arguments names c)
+  expression_at names (node.Invoke' p c) = tree.Invoked (call_name c) (call_arguments names c)
 
   pub call_arguments : List (List ℕ) → CallCode → tree.Arguments
   call_arguments names (call.Load' p d q w) =
@@ -102,7 +102,7 @@ abbrev mutual
       nat_lt i (length names) && nat_lt v (2 ^ 64)
   is_placed numbers names (node.WithVariable op i j) =
       nat_lt i (length names) && nat_lt j (length names)
-  is_placed numbers names (node.Invoke c) = is_call_placed numbers names c
+  is_placed numbers names (node.Invoke' p c) = is_call_placed numbers names c
   is_placed numbers names other = true
 
   pub is_call_placed : (List ℕ → ℕ) → List (List ℕ) → CallCode → Bool

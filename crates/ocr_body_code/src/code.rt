@@ -34,7 +34,7 @@ pub enum ExprCode {
     /// An operator between two variables.
     WithVariable(BinaryOp, usize, usize),
     /// A call.
-    Invoke(CallCode),
+    Invoke(Box<CallCode>),
 }
 
 /// A call of the code.

@@ -30,6 +30,16 @@ fn boxed(alloc: Global, node: ExprCode) -> Result<Box<ExprCode>, NoMemory>
     }
 }
 
+// A call with memory of its own.
+fn boxed_call(alloc: Global, call: CallCode) -> Result<Box<CallCode>, NoMemory>
+    ensures { IfOk result (λ b. b.value ≡ call) }
+{
+    match Box::new(alloc, call) {
+        Ok(call) => Ok(call),
+        Err(_) => Err(NoMemory),
+    }
+}
+
 // The same code in fewer nodes, where an operator stands behind a variable and before a number or a
 // variable.
 fn joined(node: ExprCode) -> ExprCode
@@ -128,7 +138,10 @@ fn expression<'a>(
             let right = boxed(alloc, right)?;
             Ok(joined(ExprCode::Binary(*op, left, right)))
         }
-        Expr::Invoke(made) => Ok(ExprCode::Invoke(invocation(alloc, numbers, made, names)?)),
+        Expr::Invoke(made) => {
+            let call = invocation(alloc, numbers, made, names)?;
+            Ok(ExprCode::Invoke(boxed_call(alloc, call)?))
+        }
     }
 }
 

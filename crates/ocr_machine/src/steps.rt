@@ -92,6 +92,7 @@ pub fn step_all(
 }
 
 /// What the entry does to the parts at hand; gives what it sends, and who is resumed.
+#[inline(always)]
 fn enter(alloc: Global, parts: &mut TakenParts, entry: &Entry) -> Result<Entered, NoMemory>
     requires legal { IsLegalOn parts.old.limit (state parts.old) entry.now }
     requires covers { Covers parts.old.limit entry.now parts.old.items }

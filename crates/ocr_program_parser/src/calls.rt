@@ -29,7 +29,7 @@ fn invoked(alloc: Global, call: CallName, args: Vec<Arg>) -> Result<Box<Expr>, A
         (λ e. expression_of e.value ≡ tree.Invoked call (args_of args.items)) }
 {
     let invoke = invoke(alloc, call, args)?;
-    Ok(Box::new(alloc, Expr::Invoke(Box::into_inner(invoke)))?)
+    Ok(Box::new(alloc, Expr::Invoke(invoke))?)
 }
 
 /// The state after a whole call.

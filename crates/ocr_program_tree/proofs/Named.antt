@@ -48,7 +48,7 @@ mutual
   expression_named (expr.Depv' p e) = expression_named e
   expression_named (expr.Unary' op p e) = expression_named e
   expression_named (expr.Binary' op p a q b) = both (expression_named a) (expression_named b)
-  expression_named (expr.Invoke c) = both (call_named c) (arguments_named c)
+  expression_named (expr.Invoke' p c) = both (call_named c) (arguments_named c)
 
   arguments_named : (c : Invoke) → is_each_call_of_all has_function (arguments_of c) ≡ true
   arguments_named (call.DbCreate' p a q b) = both (expression_named a) (both (expression_named b) refl)

@@ -48,7 +48,7 @@ abbrev mutual
   expression_of (expr.Depv' p e) = tree.Depv (expression_of e)
   expression_of (expr.Unary' op p e) = tree.Unary op (expression_of e)
   expression_of (expr.Binary' op p a q b) = tree.Binary op (expression_of a) (expression_of b)
-  expression_of (expr.Invoke call) = tree.Invoked (name_of call) (arguments_of call)
+  expression_of (expr.Invoke' p call) = tree.Invoked (name_of call) (arguments_of call)
 
   pub arguments_of : Invoke → tree.Arguments
   arguments_of (call.DbCreate' p a q b) =

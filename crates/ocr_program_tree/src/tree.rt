@@ -163,7 +163,7 @@ pub enum Expr {
     Depv(Box<Expr>),
     Unary(UnaryOp, Box<Expr>),
     Binary(BinaryOp, Box<Expr>, Box<Expr>),
-    Invoke(Invoke),
+    Invoke(Box<Invoke>),
 }
 
 /// A call as it is written.
