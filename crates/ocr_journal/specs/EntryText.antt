@@ -1,12 +1,12 @@
 -- The text of an entry.
-use Rattle.std.specs.Prelude.{ℕ, ◌-◌, ◌==◌, if◌then◌else◌, List, [], ◌∷◌, ◌++◌, Option, None, Some, codes, slice_get}
+use Rattle.std.specs.Prelude.{ℕ, ◌-◌, ◌==◌, if◌then◌else◌, List, [], ◌∷◌, ◌++◌, codes, slice_get, option_map, unwrap_or}
 use Rattle.std.specs.List.{flat_map}
 use Rattle.std.specs.Fmt.{decimal}
 use Rattle.ocr_guid.specs.Code.{number_of}
 use Rattle.ocr_guid.specs.declared.Code.{Code}
 use Rattle.ocr_program_tree.specs.Tree.{FunctionTree}
 use Rattle.ocr_body_meaning.specs.declared.call.Call.{Call}
-use Rattle.ocr_body_meaning.specs.declared.call.Call.TheVariants as call
+use Rattle.ocr_body_meaning.specs.declared.call.Call.TheVariants.{DbCreate, DbRelease, DbDestroy, EventCreate, EventCreateParams, EventDestroy, Satisfy, AddDependence, TemplateCreate, TemplateDestroy, EdtCreate, Shutdown, Abort, Load, Store, Print}
 use Rattle.ocr_body_meaning.specs.declared.call.Answer.{Answer}
 use Rattle.ocr_machine_history.specs.declared.entry.Entry.{Entry}
 use Rattle.ocr_machine_history.specs.declared.entry.Entry.TheVariants as an
@@ -16,65 +16,50 @@ use Rattle.ocr_machine_history.specs.declared.entry.Stop.{Stop}
 use Rattle.ocr_machine_history.specs.declared.entry.Stop.TheVariants as by
 use Rattle.ocr_machine_history.specs.declared.entry.What.{What}
 use Rattle.ocr_machine_history.specs.declared.entry.What.TheVariants as what
-use Rattle.ocr_journal.specs.Phrase.{Text, phrase, named_phrase, listed}
-
-abbrev pub name_in : Option FunctionTree → Text
-name_in None = []
-name_in (Some f) = f.name
+use Rattle.ocr_journal.specs.Phrase.{Text, phrase, listed}
 
 -- the name of function number n, from 1; a number without a function has no letters
 abbrev pub name_at : List FunctionTree → ℕ → Text
-name_at program n = if n == 0 then [] else name_in (slice_get program (n - 1))
-
--- the creation of an EDT with its two lists
-abbrev pub edt_create_text : ℕ → ℕ → List ℕ → ℕ → List ℕ → ℕ → Text
-edt_create_text t paramc params depc deps flags =
-    phrase (codes "ocrEdtCreate") (t ∷ paramc ∷ []) ++ (listed params
-    ++ (phrase [] (depc ∷ []) ++ (listed deps ++ phrase [] (flags ∷ []))))
+name_at program n =
+    if n == 0 then [] else unwrap_or (option_map (λ f. f.name) (slice_get program (n - 1))) []
 
 -- the name of a call, and its arguments
 abbrev pub call_text : List FunctionTree → Call → Text
-call_text program (call.DbCreate length flags) =
-    phrase (codes "ocrDbCreate") (length ∷ flags ∷ [])
-call_text program (call.DbRelease d) = phrase (codes "ocrDbRelease") (d ∷ [])
-call_text program (call.DbDestroy d) = phrase (codes "ocrDbDestroy") (d ∷ [])
-call_text program (call.EventCreate kind flags) =
-    phrase (codes "ocrEventCreate") (kind ∷ flags ∷ [])
-call_text program (call.EventCreateParams kind flags most sat deps) =
+call_text _ (DbCreate length flags) = phrase (codes "ocrDbCreate") (length ∷ flags ∷ [])
+call_text _ (DbRelease d) = phrase (codes "ocrDbRelease") (d ∷ [])
+call_text _ (DbDestroy d) = phrase (codes "ocrDbDestroy") (d ∷ [])
+call_text _ (EventCreate kind flags) = phrase (codes "ocrEventCreate") (kind ∷ flags ∷ [])
+call_text _ (EventCreateParams kind flags most sat deps) =
     phrase (codes "ocrEventCreateParams") (kind ∷ flags ∷ most ∷ sat ∷ deps ∷ [])
-call_text program (call.EventDestroy e) = phrase (codes "ocrEventDestroy") (e ∷ [])
-call_text program (call.Satisfy e payload slot) =
-    phrase (codes "ocrEventSatisfySlot") (e ∷ payload ∷ slot ∷ [])
-call_text program (call.AddDependence s x slot mode) =
-    phrase (codes "ocrAddDependence") (s ∷ x ∷ slot ∷ mode ∷ [])
-call_text program (call.TemplateCreate f paramc depc) =
-    named_phrase (codes "ocrEdtTemplateCreate") (name_at program f) (paramc ∷ depc ∷ [])
-call_text program (call.TemplateDestroy t) = phrase (codes "ocrEdtTemplateDestroy") (t ∷ [])
-call_text program (call.EdtCreate t paramc params depc deps flags output) =
-    edt_create_text t paramc params depc deps flags
-call_text program call.Shutdown = codes "ocrShutdown"
-call_text program (call.Abort code) = phrase (codes "ocrAbort") (code ∷ [])
-call_text program (call.Load d w) = phrase (codes "load") (d ∷ w ∷ [])
-call_text program (call.Store d w v) = phrase (codes "store") (d ∷ w ∷ v ∷ [])
-call_text program (call.Print v) = phrase (codes "print") (v ∷ [])
+call_text _ (EventDestroy e) = phrase (codes "ocrEventDestroy") (e ∷ [])
+call_text _ (Satisfy e g slot) = phrase (codes "ocrEventSatisfySlot") (e ∷ g ∷ slot ∷ [])
+call_text _ (AddDependence s t slot mode) =
+    phrase (codes "ocrAddDependence") (s ∷ t ∷ slot ∷ mode ∷ [])
+call_text program (TemplateCreate f paramc depc) =
+    codes "ocrEdtTemplateCreate " ++ phrase (name_at program f) (paramc ∷ depc ∷ [])
+call_text _ (TemplateDestroy t) = phrase (codes "ocrEdtTemplateDestroy") (t ∷ [])
+call_text _ (EdtCreate t paramc params depc deps flags output) =
+    phrase (codes "ocrEdtCreate") (t ∷ paramc ∷ []) ++ (listed params
+    ++ (phrase [] (depc ∷ []) ++ (listed deps ++ phrase [] (flags ∷ []))))
+call_text _ Shutdown = codes "ocrShutdown"
+call_text _ (Abort code) = phrase (codes "ocrAbort") (code ∷ [])
+call_text _ (Load d w) = phrase (codes "load") (d ∷ w ∷ [])
+call_text _ (Store d w v) = phrase (codes "store") (d ∷ w ∷ v ∷ [])
+call_text _ (Print v) = phrase (codes "print") (v ∷ [])
 
 -- what it answered
 abbrev pub answer_text : Call → Answer → Text
-answer_text (call.EdtCreate t paramc params depc deps flags output) a =
+answer_text (EdtCreate t paramc params depc deps flags output) a =
     phrase (codes " ->") (number_of a.code ∷ a.value ∷ a.scope ∷ a.output ∷ [])
-answer_text (call.Load d w) a = phrase (codes " ->") (a.value ∷ [])
-answer_text (call.Store d w v) a = []
-answer_text (call.Print v) a = []
+answer_text (Load d w) a = phrase (codes " ->") (a.value ∷ [])
+answer_text (Store d w v) a = []
+answer_text (Print v) a = []
 answer_text other a = phrase (codes " ->") (number_of a.code ∷ a.value ∷ [])
 
--- ` W=V`
-abbrev pub write_text : ℕ × ℕ → Text
-write_text p = 32 ∷ (decimal p.0 ++ 61 ∷ decimal p.1)
-
--- the private writes, where there are any
+-- the private writes, each ` W=V`, where there are any
 abbrev pub writes_text : List (ℕ × ℕ) → Text
 writes_text [] = []
-writes_text (w ∷ ws) = codes " writes" ++ flat_map write_text (w ∷ ws)
+writes_text ws = codes " writes" ++ flat_map (λ p. 32 ∷ (decimal p.0 ++ 61 ∷ decimal p.1)) ws
 
 abbrev pub delivery_text : What → Code → Text
 delivery_text (what.Set t slot g) code = phrase (codes " set") (t ∷ slot ∷ g ∷ [])

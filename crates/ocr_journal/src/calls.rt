@@ -1,5 +1,6 @@
 // The text of a call and of its answer.
-ghost use Rattle.std.specs.Prelude.{◌≡◌, ◌++◌, OnOk};
+ghost use Rattle.std.specs.Prelude.{◌≡◌, ◌++◌, [], false, OnOk};
+ghost use Rattle.ocr_body_meaning.specs.declared.call.Call.TheVariants as called;
 ghost use Rattle.ocr_program_tree.specs.View.{tree_of};
 ghost use Rattle.ocr_journal.specs.EntryText as spec;
 
@@ -21,6 +22,7 @@ fn name_at(program: &Program, function: u32) -> &[u8]
     }
 }
 
+// The creation of an EDT with its two lists.
 fn edt_create(
     text: &mut Vec<u8>,
     template: u64,
@@ -31,7 +33,8 @@ fn edt_create(
     flags: u64,
 ) -> Result<(), NoMemory>
     ensures { OnOk result (text.new.items ≡ text.old.items
-        ++ spec.edt_create_text template paramc params.now depc deps.now flags) }
+        ++ spec.call_text []
+        (called.EdtCreate template paramc params.now depc deps.now flags false)) }
 {
     phrase(text, b"ocrEdtCreate", &[template, paramc])?;
     list(text, params)?;

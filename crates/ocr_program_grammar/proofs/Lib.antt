@@ -4,3 +4,4 @@ pub mod Spelling
 pub mod Sizes
 pub mod Rulesets
 pub mod Lexed
+pub mod Nested

@@ -2,7 +2,7 @@
 use Rattle.std.specs.Prelude.{◌≡◌, ◌≤◌, ◌+◌, ℕ, List, ◌++◌, Some, length}
 use Rattle.ocr_text.specs.Tokens.{AreTokens}
 use Rattle.ocr_text.specs.declared.token.Token.{Token}
-use Rattle.ocr_program_tree.specs.Tree.{Expression, Arguments, FunctionTree}
+use Rattle.ocr_program_tree.specs.Tree.{Expression, Arguments, Statements, FunctionTree}
 use Rattle.ocr_program_tree.specs.declared.tree.BinaryOp.{BinaryOp}
 use Rattle.ocr_program_tree.specs.declared.tree.CallName.{CallName}
 use Rattle.ocr_program_tree.specs.declared.tree.Constant as of_constant
@@ -10,7 +10,8 @@ use Rattle.ocr_program_grammar.specs.declared.lexeme.Lexeme.{Lexeme}
 use Rattle.ocr_program_grammar.specs.declared.lexeme.Lexeme.TheVariants as lexeme
 use Rattle.ocr_program_grammar.specs.declared.lexeme.Word.{Word}
 use Rattle.ocr_program_grammar.specs.declared.argument_kind.ArgumentKind.{ArgumentKind}
-use Rattle.ocr_program_grammar.specs.Grammar.{IsExpression, AreArguments}
+use Rattle.ocr_program_grammar.specs.Grammar.{IsExpression, AreArguments, AreStatements}
+use Rattle.ocr_program_grammar.specs.Nesting.{nesting, resting, deepest}
 use Rattle.ocr_program_grammar.specs.Lexemes.{AreLexemes, IsTreeOf}
 use Rattle.ocr_program_grammar.specs.Counts.{tally}
 use Rattle.ocr_program_grammar.specs.Lexing.{lexeme_of_name, symbol}
@@ -30,6 +31,19 @@ pub record CountLaw : Type 0 where
       → IsCounted ts rest
   pub arguments : (ss : List ArgumentKind) (ts rest : List Lexeme) (args : Arguments)
       → AreArguments ss ts rest args → IsCounted ts rest
+
+-- From the one list to the other stand tokens before and after which no expression is read and d
+-- blocks are open, and n more at most between them.
+pub record IsNested (d n : ℕ) (ts rest : List Lexeme) : Type 0 where
+  pub front : List Lexeme
+  pub split : ts ≡ front ++ rest
+  pub back : tally (resting d) front ≡ resting d
+  pub deep : deepest (resting d) front ≡ d + n
+
+-- The open blocks are the bodies that stand in one another, and each expression is counted from 0.
+abbrev pub NestingLaw : Type 0
+NestingLaw = (d : ℕ) (ts rest : List Lexeme) (ss : Statements) → AreStatements ts rest ss
+    → IsNested d (nesting ss) ts rest
 
 -- What is written for a reserved name or an operator is read as that.
 pub record SpellingLaw : Type 0 where

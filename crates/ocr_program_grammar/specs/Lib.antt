@@ -1,6 +1,7 @@
 pub mod Shape
 pub mod Grammar
 pub mod Limits
+pub mod Nesting
 pub mod Counts
 pub mod Parser
 pub mod Texts
