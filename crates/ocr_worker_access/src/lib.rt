@@ -3,18 +3,18 @@
 
 mod access;
 mod beginning;
+mod conclusion;
 mod end_step;
 mod ending;
 mod loads;
-mod settlement;
 mod shared;
 mod stop;
 mod stores;
 
 pub use access::{Refusal, core_at};
 pub use beginning::start;
+pub use conclusion::conclude;
 pub use ending::end;
 pub use loads::load;
-pub use settlement::settle;
 pub use stop::stop_run;
 pub use stores::store;

@@ -22,7 +22,7 @@ use ocr_machine_history::{Entry, Writes};
 use ocr_machine_parts::{Part, listed_writes};
 use ocr_steal::Hand;
 use ocr_turns::Clerk;
-use ocr_worker_access::{core_at, end, settle};
+use ocr_worker_access::{conclude, core_at, end};
 use ocr_worker_clerk::{Gate, Job, Ocr, Over, close_memory, enter_kept, take_part};
 use std::alloc::Global;
 use std::sync::Wait;
@@ -97,7 +97,7 @@ fn free<R: Wait, G: Gate>(
     let places = [place, block.0];
     let entry = Entry::Free { edt, block, writes };
     let resumed = enter_kept(alloc, job, worker, clerk, entry, &places)?;
-    settle(
+    conclude(
         alloc,
         job,
         worker,

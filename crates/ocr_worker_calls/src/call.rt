@@ -28,7 +28,7 @@ use ocr_machine_history::Writes;
 use ocr_machine_parts::Part;
 use ocr_steal::Hand;
 use ocr_turns::Clerk;
-use ocr_worker_access::settle;
+use ocr_worker_access::conclude;
 use ocr_worker_clerk::{Gate, Job, Ocr, Over, close_memory};
 use std::alloc::Global;
 use std::sync::Wait;
@@ -65,7 +65,7 @@ pub(crate) fn make_from<R: Wait, G: Gate>(
     Ok(given)
 }
 
-// Enters the call with its answer, and settles what the entry leaves.
+// Enters the call with its answer, and concludes the entry.
 fn enter_asked<R: Wait, G: Gate>(
     alloc: Global,
     job: &Job<R, G>,
@@ -115,7 +115,7 @@ fn enter_asked<R: Wait, G: Gate>(
     let resumed = enter_call(
         alloc, job, worker, clerk, edt, home, call, *given, writes, parts,
     )?;
-    settle(
+    conclude(
         alloc,
         job,
         worker,

@@ -21,7 +21,7 @@ use std::alloc::Global;
 use std::sync::Wait;
 
 /// Makes the call that the body of the EDT makes next: takes the parts that it names, enters it
-/// with its answer, and settles what the entry leaves. Then the clerk keeps the core alone, as
+/// with its answer, and concludes the entry. Then the clerk keeps the core alone, as
 /// before. `Err` where the run has ended, or is ended here: for want of memory, which 2^32 messages
 /// of one entry want too, for want of a number, or since the entry would pass the clerk's share.
 pub fn make_call<R: Wait, G: Gate>(

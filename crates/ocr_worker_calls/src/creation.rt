@@ -27,7 +27,7 @@ use ocr_slots::Slots;
 use ocr_steal::Hand;
 use ocr_template::{Template, counts};
 use ocr_turns::Clerk;
-use ocr_worker_access::{core_at, settle};
+use ocr_worker_access::{conclude, core_at};
 use ocr_worker_clerk::{
     Gate, Job, Ocr, Over, close_memory, draw_number, enter_at_hand, give_faces, take_part,
 };
@@ -303,7 +303,7 @@ fn new_core(alloc: Global, new: u64, bare: &Bare<'_>, function: u32) -> Result<C
     })
 }
 
-// Puts the parts of the new EDT at their places, enters the creation, and settles what it leaves.
+// Puts the parts of the new EDT at their places, enters the creation, and concludes it.
 fn enter_new<R: Wait, G: Gate>(
     alloc: Global,
     job: &Job<R, G>,
@@ -349,7 +349,7 @@ fn enter_new<R: Wait, G: Gate>(
     enter_at_hand(alloc, job, worker, clerk, entry, Vec::new(alloc))?;
     let places = [bare.template, new, limit + new];
     let one = Some((Guid(new), slots));
-    settle(alloc, job, worker, clerk, hand, edt, one, &[], &places)
+    conclude(alloc, job, worker, clerk, hand, edt, one, &[], &places)
 }
 
 // The entry of the creation.

@@ -20,7 +20,7 @@ use std::alloc::Global;
 use std::sync::Wait;
 
 /// Enters a print of the body of the EDT, as `make_call` enters a call. It names the caller's
-/// core alone and leaves it as it stands, so that nothing is lifted for it, and nothing is settled
+/// core alone and leaves it as it stands, so that nothing is lifted for it, and nothing is concluded
 /// after it. It is never refused.
 pub(crate) fn print<R: Wait, G: Gate>(
     alloc: Global,

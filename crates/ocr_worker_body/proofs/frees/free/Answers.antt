@@ -55,8 +55,8 @@ enter_kept-requires g c κs within =
       ),
     )
 
-pub settle-requires : goal.settle-requires
-settle-requires g c κs within =
+pub conclude-requires : goal.conclude-requires
+conclude-requires g c κs within =
     let a = c.args in let r = c.requires.1.1 in let t = c.in_ok-take_part.ensures in let e = c.in_ok-resumed.ensures in
     let steps = subst (λ (n : ℕ). StepsCore n (core_after after_list_writes a.block) a.clerk.now c.list_writes.new.clerk) (λ i. c.limit.ensures i + c.edt.view_is i) c.list_writes.ensures.core in
     let took = subst (λ (n : ℕ). Took c.list_writes.new.clerk c.take_part.new.clerk (n ∷ [])) c.block.view_is t.took in
@@ -82,25 +82,25 @@ settle-requires g c κs within =
 pub returns-clause-returned : goal.returns-clause-returned
 returns-clause-returned g c =
     let a = c.args in let r = c.requires.1.1 in let t = c.in_ok-take_part.ensures in let e = c.in_ok-resumed.ensures in
-    let T = a.job.now.turns.now in let new = c.settle.new.clerk in let mid = c.enter_kept.new.clerk in
+    let T = a.job.now.turns.now in let new = c.conclude.new.clerk in let mid = c.enter_kept.new.clerk in
     let steps = subst (λ (n : ℕ). StepsCore n (core_after after_list_writes a.block) a.clerk.now c.list_writes.new.clerk) (λ i. c.limit.ensures i + c.edt.view_is i) c.list_writes.ensures.core in
     let took = subst (λ (n : ℕ). Took c.list_writes.new.clerk c.take_part.new.clerk (n ∷ [])) c.block.view_is t.took in
-    ok_three c.settle.result (Runs T.1 a.edt g.b new) (new.view.log ≡ mid.view.log) (first_in new.parts ≡ first_in mid.parts) ((n : ℕ) → HasReturned T.1 a.edt g.b n a.clerk.now → HasReturned T.1 a.edt g.b n new) c.settle.ensures.runs c.settle.ensures.log c.settle.ensures.core
+    ok_three c.conclude.result (Runs T.1 a.edt g.b new) (new.view.log ≡ mid.view.log) (first_in new.parts ≡ first_in mid.parts) ((n : ℕ) → HasReturned T.1 a.edt g.b n a.clerk.now → HasReturned T.1 a.edt g.b n new) c.conclude.ensures.runs c.conclude.ensures.log c.conclude.ensures.core
     (λ runs log core. returned_then a.job.now.turns.now a.job.now.program.now a.edt a.block g.b a.clerk.now c.list_writes.new.clerk r.0 r.1.0.0 r.1.0.1 r.1.1 steps c.take_part.new.clerk t.work took c.in-Ok.writes mid e.entered new runs log core)
 
 pub returns-clause-held : goal.returns-clause-held
 returns-clause-held g c =
     let a = c.args in let r = c.requires.1.1 in let t = c.in_ok-take_part.ensures in let e = c.in_ok-resumed.ensures in
-    let T = a.job.now.turns.now in let new = c.settle.new.clerk in let mid = c.enter_kept.new.clerk in
+    let T = a.job.now.turns.now in let new = c.conclude.new.clerk in let mid = c.enter_kept.new.clerk in
     let steps = subst (λ (n : ℕ). StepsCore n (core_after after_list_writes a.block) a.clerk.now c.list_writes.new.clerk) (λ i. c.limit.ensures i + c.edt.view_is i) c.list_writes.ensures.core in
     let took = subst (λ (n : ℕ). Took c.list_writes.new.clerk c.take_part.new.clerk (n ∷ [])) c.block.view_is t.took in
-    ok_three c.settle.result (Runs T.1 a.edt g.b new) (new.view.log ≡ mid.view.log) (first_in new.parts ≡ first_in mid.parts) (held_at new ≡ without a.block (held_at a.clerk.now)) c.settle.ensures.runs c.settle.ensures.log c.settle.ensures.core
+    ok_three c.conclude.result (Runs T.1 a.edt g.b new) (new.view.log ≡ mid.view.log) (first_in new.parts ≡ first_in mid.parts) (held_at new ≡ without a.block (held_at a.clerk.now)) c.conclude.ensures.runs c.conclude.ensures.log c.conclude.ensures.core
     (λ runs log core. held_then a.job.now.turns.now a.job.now.program.now a.edt a.block g.b a.clerk.now c.list_writes.new.clerk r.0 r.1.0.0 r.1.0.1 r.1.1 steps c.take_part.new.clerk t.work took c.in-Ok.writes mid e.entered new runs log core)
 
 pub returns-clause-pushed : goal.returns-clause-pushed
 returns-clause-pushed g c =
     let a = c.args in let r = c.requires.1.1 in let t = c.in_ok-take_part.ensures in let e = c.in_ok-resumed.ensures in
-    let new = c.settle.new.clerk in let mid = c.enter_kept.new.clerk in
+    let new = c.conclude.new.clerk in let mid = c.enter_kept.new.clerk in
     let steps = subst (λ (n : ℕ). StepsCore n (core_after after_list_writes a.block) a.clerk.now c.list_writes.new.clerk) (λ i. c.limit.ensures i + c.edt.view_is i) c.list_writes.ensures.core in
     let took = subst (λ (n : ℕ). Took c.list_writes.new.clerk c.take_part.new.clerk (n ∷ [])) c.block.view_is t.took in
-    pushes_ok c.settle.result a.clerk.now mid new a.hand.now c.settle.new.hand (readied_then a.job.now.turns.now a.job.now.program.now a.edt a.block g.b a.clerk.now c.list_writes.new.clerk r.0 r.1.0.0 r.1.0.1 r.1.1 steps c.take_part.new.clerk t.work took c.in-Ok.writes mid e.entered) c.settle.ensures.pushed
+    pushes_ok c.conclude.result a.clerk.now mid new a.hand.now c.conclude.new.hand (readied_then a.job.now.turns.now a.job.now.program.now a.edt a.block g.b a.clerk.now c.list_writes.new.clerk r.0 r.1.0.0 r.1.0.1 r.1.1 steps c.take_part.new.clerk t.work took c.in-Ok.writes mid e.entered) c.conclude.ensures.pushed

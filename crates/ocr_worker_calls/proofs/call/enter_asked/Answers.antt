@@ -59,8 +59,8 @@ enter_call-requires g c = λ κs within.
       ),
     )
 
-pub settle-requires : goal.settle-requires
-settle-requires g c = λ κs within.
+pub conclude-requires : goal.conclude-requires
+conclude-requires g c = λ κs within.
     let r = c.requires.1.1 in let t = c.args.job.now.turns.now.1 in let L = t.limit in let call = c.args.asked.call in let given = c.args.given.now in
     let ps = c.args.asked.parts.items in let e = c.in_ok-resumed.ensures in let mid = c.enter_call.new.clerk in let writes = c.in-Ok.writes in
     let places = faces_of L c.args.asked.home call ++ places_made L call given in
@@ -88,10 +88,10 @@ settle-requires g c = λ κs within.
 
 pub returns-clause-pushed : goal.returns-clause-pushed
 returns-clause-pushed g c =
-    pushes_ok c.settle.result c.args.clerk.now c.enter_call.new.clerk c.settle.new.clerk c.args.hand.now c.settle.new.hand c.in_ok-resumed.ensures.readied c.settle.ensures.pushed
+    pushes_ok c.conclude.result c.args.clerk.now c.enter_call.new.clerk c.conclude.new.clerk c.args.hand.now c.conclude.new.hand c.in_ok-resumed.ensures.readied c.conclude.ensures.pushed
 
 pub returns-clause-called : goal.returns-clause-called
 returns-clause-called g c =
     let r = c.requires.1.1 in let t = c.args.job.now.turns.now.1 in let now = c.list_carried.new.parts.items in
-    called_so c.settle.result c.args.edt c.args.asked.call c.args.given.now g.s.1 (with_first g.s.1 now) c.enter_call.new.clerk c.settle.new.clerk c.settle.ensures.log c.settle.ensures.holds c.in_ok-resumed.ensures.called refl
+    called_so c.conclude.result c.args.edt c.args.asked.call c.args.given.now g.s.1 (with_first g.s.1 now) c.enter_call.new.clerk c.conclude.new.clerk c.conclude.ensures.log c.conclude.ensures.holds c.in_ok-resumed.ensures.called refl
     (holds_same t c.args.edt g.s.0 g.s.1 c.args.clerk.now _ _ c.args.asked.parts.items r.1.0 r.1.1.0 now c.list_carried.ensures.listed)

@@ -78,8 +78,8 @@ enter_at_hand-requires g c κs within =
       ),
     )
 
-pub settle-requires : goal.settle-requires
-settle-requires g c κs within =
+pub conclude-requires : goal.conclude-requires
+conclude-requires g c κs within =
     let r = c.requires.1.1 in let a = c.args in let t = a.job.now.turns.now.1 in
     let next = subst (λ (k : body.Call). IsNextWith k (private_of k (holds_at g.s.1.0)) (says g.s.0 (own_log g.s.1.0.view.log a.edt))) r.1.1.1.1.0 r.1.1.1.0 in
     let home = subst (λ (k : body.Call). home_at g.s.1.0 k ≡ 0) r.1.1.1.1.0 r.1.1.1.1.1.1.0 in
@@ -111,7 +111,7 @@ returns-clause-pushed g c =
     let a = c.args in let new = c.enter_at_hand.new.clerk in
     let none = entered_readies a.job.now.turns.now.1 c.put_new.new.clerk new c.in-Ok-new_entry.entry (record { members = []; parts = in_hand g.s.1.1.parts }) c.in_ok-enter_at_hand.ensures.entered
     ∙ ap (λ (v : OcrView). v.debts.readied) c.put_new.ensures.rest.1 in
-    pushes_ok c.settle.result a.clerk.now new c.settle.new.clerk a.hand.now c.settle.new.hand none c.settle.ensures.pushed
+    pushes_ok c.conclude.result a.clerk.now new c.conclude.new.clerk a.hand.now c.conclude.new.hand none c.conclude.ensures.pushed
 
 pub returns-clause-called : goal.returns-clause-called
 returns-clause-called g c =
@@ -124,5 +124,5 @@ returns-clause-called g c =
     let e_is : c.in-Ok-new_entry.entry ≡ made_entry a.edt (call_of a.bare.now) a.new = c.in-Ok-new_entry.ensures in
     let done = subst (λ (k : OcrKnown). EntersAs t c.put_new.new.clerk c.enter_at_hand.new.clerk (made_entry a.edt (call_of a.bare.now) a.new) (record { members = []; parts = in_hand k.parts })) r.0
     (subst (λ (e : Entry). EntersAs t c.put_new.new.clerk c.enter_at_hand.new.clerk e (record { members = []; parts = in_hand g.s.1.1.parts })) e_is c.in_ok-enter_at_hand.ensures.entered) in
-    subst (λ (k : body.Call). OnOk c.settle.result (IsCalled a.edt k (made_answer a.new) g.s.1.0 c.settle.new.clerk)) (sym r.1.1.1.1.0)
-    (called_so c.settle.result a.edt (call_of a.bare.now) (made_answer a.new) g.s.1.0 g.s.1.0 c.enter_at_hand.new.clerk c.settle.new.clerk c.settle.ensures.log c.settle.ensures.holds (called a.job.now.turns.now a.job.now.program.now a.edt g.s.0 g.s.1.0 a.clerk.now a.bare.now a.made.now a.slots a.new r.1.0 r.1.1.0 next r.1.1.1.1.1.0 home r.1.1.1.1.1.1.1.0.0 r.1.1.1.1.1.1.1.0.1 hand found r.1.1.1.1.1.1.1.1.1.1 c.put_new.new.clerk c.put_new.ensures.rest.1 put c.enter_at_hand.new.clerk done) refl refl)
+    subst (λ (k : body.Call). OnOk c.conclude.result (IsCalled a.edt k (made_answer a.new) g.s.1.0 c.conclude.new.clerk)) (sym r.1.1.1.1.0)
+    (called_so c.conclude.result a.edt (call_of a.bare.now) (made_answer a.new) g.s.1.0 g.s.1.0 c.enter_at_hand.new.clerk c.conclude.new.clerk c.conclude.ensures.log c.conclude.ensures.holds (called a.job.now.turns.now a.job.now.program.now a.edt g.s.0 g.s.1.0 a.clerk.now a.bare.now a.made.now a.slots a.new r.1.0 r.1.1.0 next r.1.1.1.1.1.0 home r.1.1.1.1.1.1.1.0.0 r.1.1.1.1.1.1.1.0.1 hand found r.1.1.1.1.1.1.1.1.1.1 c.put_new.new.clerk c.put_new.ensures.rest.1 put c.enter_at_hand.new.clerk done) refl refl)

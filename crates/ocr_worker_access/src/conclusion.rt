@@ -107,10 +107,10 @@ fn count_any<R: Wait, G: Gate>(
     }
 }
 
-/// Settles what an entry of a running EDT left: what it made is counted, those that it resumed are
-/// made ready, and all parts but the core are given back.
+/// Concludes an entry of a running EDT: what it made is counted, those that it resumed are made
+/// ready, and all parts but the core are given back.
 #[inline(always)]
-pub fn settle<R: Wait, G: Gate>(
+pub fn conclude<R: Wait, G: Gate>(
     alloc: Global,
     job: &Job<R, G>,
     worker: u32,

@@ -2,7 +2,7 @@ use Rattle.std.proofs.Common.{ℕ, Option, refl, subst}
 use Rattle.ocr_turns_rule.specs.Debts.{listed}
 use Rattle.ocr_worker_clerk.proofs.Push.{pushes_none}
 use Rattle.ocr_worker_access.specs.Access.{HasEntered}
-use Rattle.ocr_worker_access.proofs.settlement.count_any.Goals as goal
+use Rattle.ocr_worker_access.proofs.conclusion.count_any.Goals as goal
 
 pub count_new-requires : goal.count_new-requires
 count_new-requires g c κs within =

@@ -8,7 +8,7 @@ use Rattle.ocr_worker_access.specs.Access.{HasEntered}
 use Rattle.ocr_worker_access.proofs.Entered.{ok_then}
 use Rattle.ocr_worker_access.proofs.Readied.{counted_none, counted_ready}
 use Rattle.ocr_worker_access.proofs.Settled.{counted, made_stays, made_work}
-use Rattle.ocr_worker_access.proofs.settlement.count_new.Goals as goal
+use Rattle.ocr_worker_access.proofs.conclusion.count_new.Goals as goal
 
 pub returns-in-More-clause-stays : goal.returns-in-More-clause-stays
 returns-in-More-clause-stays g c = made_stays c.args.clerk.now c.count_made.new.clerk c.args.new _ c.in-More.ensures.hand c.in-More.ensures.view

@@ -8,7 +8,7 @@ use Rattle.ocr_worker_machine.specs.Clerks.{OcrView}
 use Rattle.ocr_worker_clerk.proofs.Push.{pushes_then, then_none}
 use Rattle.ocr_worker_access.proofs.Back.{has_taken, holds_again, keeps_faces, runs_again}
 use Rattle.ocr_worker_access.proofs.Settled.{pushed_both}
-use Rattle.ocr_worker_access.proofs.settlement.settle.Goals as goal
+use Rattle.ocr_worker_access.proofs.conclusion.conclude.Goals as goal
 
 pub count_any-requires : goal.count_any-requires
 count_any-requires g c = λ κs lives.

@@ -8,7 +8,7 @@ use Rattle.ocr_worker_clerk.specs.Entry.{OcrKnown}
 use Rattle.ocr_worker_clerk.proofs.Push.{pushes_then}
 use Rattle.ocr_worker_access.proofs.Readied.{resumed_ready}
 use Rattle.ocr_worker_access.proofs.Settled.{pushed_both, resumed_one, stays_debts, work_debts}
-use Rattle.ocr_worker_access.proofs.settlement.resume_all.Goals as goal
+use Rattle.ocr_worker_access.proofs.conclusion.resume_all.Goals as goal
 
 pub loop-woken-preserved : goal.loop-woken-preserved
 loop-woken-preserved g c =

@@ -1,4 +1,4 @@
-use Rattle.ocr_worker_access.proofs.settlement.settle.Given as goal
+use Rattle.ocr_worker_access.proofs.conclusion.conclude.Given as goal
 
 abbrev pub ghost-count_any : goal.ghost-count_any
 ghost-count_any g a = g.s

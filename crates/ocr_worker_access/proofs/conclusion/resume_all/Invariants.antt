@@ -2,7 +2,7 @@ use Rattle.std.proofs.Common.{◌≡◌, [], drop}
 use Rattle.ocr_worker_clerk.specs.Work.{AtWork, Stays}
 use Rattle.ocr_worker_clerk.specs.Push.{IsPushed, PushesReady}
 use Rattle.ocr_worker_access.specs.Access.{HasEntered}
-use Rattle.ocr_worker_access.proofs.settlement.resume_all.Given as goal
+use Rattle.ocr_worker_access.proofs.conclusion.resume_all.Given as goal
 
 abbrev pub invariant-loop-woken : goal.invariant-loop-woken
 invariant-loop-woken g l = record {
