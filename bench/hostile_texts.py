@@ -1,7 +1,10 @@
 #!/usr/bin/env python3
-"""What a hostile text costs: texts of 1 MiB that are made to be slow, each once with the program, by the seconds of the
-processor and the most memory that it takes, for a byte of the text, against a plain text of as many bytes. Fails where one
-takes more than three times as much of either as the plain text, or ends with another status than it should.
+"""What a hostile text costs: texts of 1 MiB that are made to be slow, by the seconds of the processor and the most memory
+that the program takes, for a byte of the text, against a plain text of as many bytes. Fails where one takes more than three
+times as long as the plain text, where it is not linear, or where it ends with another status than it should. Linear: a byte
+takes at most twice the time and three times the memory of one of a text of the same kind and a quarter of the size; a square
+would have four times each. (A table that grows has up to half of its room free, and what a run takes that reads nothing
+hides some of a small text.)
 
 The texts are those of bench/texts.py and the ones below. What is large is not run: reading, parsing, checking and the code
 of the program are measured, and the run ends at once. Of each text the least of three runs is taken.
@@ -22,6 +25,8 @@ import texts
 
 TOP = pathlib.Path(__file__).resolve().parent.parent
 MOST = 3.0
+# How many times as much a byte may cost as in a text of a quarter of the size.
+SLOWER, LARGER = 2.0, 3.0
 RUNS = 3
 PLAIN = "plain"
 # What the clock tells of a run that reads nothing: below this, in seconds and in kilobytes, a text costs as good as nothing.
@@ -110,6 +115,28 @@ def measured(program, path, runs):
     return least[0][0], min(seconds for _, seconds, _ in least), min(memory for _, _, memory in least)
 
 
+def costs(program, path, maker, size, runs, nothing):
+    """The bytes of the maker's text of this size, the status that it ends with, and the seconds and the bytes of memory
+    that a byte of it takes."""
+    texts.MOST = size
+    text = maker().encode()
+    assert len(text) <= size, maker.__name__
+    path.write_bytes(text)
+    status, seconds, memory = measured(program, path, runs)
+    cost = max(seconds - nothing[0], LEAST_SECONDS) / len(text)
+    return len(text), status, cost, max(memory - nothing[1], LEAST_KILOBYTES) * 1024 / len(text)
+
+
+def faults(name, status, slow, grown):
+    """What is wrong with a text that took so many times as long as a plain one, and grew so."""
+    if status != REFUSED.get(name, 0):
+        yield f"not status {REFUSED.get(name, 0)}"
+    if slow > MOST:
+        yield f"more than {MOST} times as long as a plain text"
+    if grown and (grown[0] > SLOWER or grown[1] > LARGER):
+        yield f"not linear: {grown[0]:.2f} times the time for a byte, and {grown[1]:.2f} times the memory"
+
+
 def main():
     arguments = argparse.ArgumentParser()
     arguments.add_argument("--bytes", type=int, default=1 << 20)
@@ -117,32 +144,27 @@ def main():
     arguments.add_argument("program", nargs="?", default=TOP / "crates/ocr/out/ocr")
     arguments.add_argument("word", nargs="?", default="")
     given = arguments.parse_args()
-    texts.MOST = given.bytes
     makers = {PLAIN: plain, **texts.MAKERS, **{maker.__name__: maker for maker in OWN}}
     wrong = 0
     with tempfile.TemporaryDirectory() as folder:
         path = pathlib.Path(folder) / "text"
         path.write_bytes(texts.MAIN.encode())
-        _, no_seconds, no_memory = measured(given.program, path, RUNS)
+        nothing = measured(given.program, path, RUNS)[1:]
         print(f"{'text':32} {'bytes':>8} {'status':>6} {'ns a byte':>10} {'times':>6} {'B a byte':>9} {'times':>6}")
         for name, maker in makers.items():
             if name != PLAIN and given.word not in name:
                 continue
-            text = maker().encode()
-            assert len(text) <= texts.MOST, name
-            path.write_bytes(text)
-            status, seconds, memory = measured(given.program, path, 1 if given.check else RUNS)
-            cost = max(seconds - no_seconds, LEAST_SECONDS) / len(text)
-            room = max(memory - no_memory, LEAST_KILOBYTES) * 1024 / len(text)
+            runs = 1 if given.check else RUNS
+            size, status, cost, room = costs(given.program, path, maker, given.bytes, runs, nothing)
             if name == PLAIN:
                 plain_cost, plain_room = cost, room
-            slow, large = cost / plain_cost, room / plain_room
-            print(f"{name:32} {len(text):8} {status:6} {cost * 1e9:10.1f} {slow:6.2f} {room:9.1f} {large:6.2f}", flush=True)
-            if status != REFUSED.get(name, 0):
-                print(f"  not status {REFUSED.get(name, 0)}")
-                wrong += 1
-            if not given.check and max(slow, large) > MOST:
-                print(f"  more than {MOST} times a plain text")
+            slow, grown = cost / plain_cost, None
+            print(f"{name:32} {size:8} {status:6} {cost * 1e9:10.1f} {slow:6.2f} {room:9.1f} {room / plain_room:6.2f}", flush=True)
+            if not given.check and not REFUSED.get(name, 0):
+                _, _, less_cost, less_room = costs(given.program, path, maker, given.bytes // 4, runs, nothing)
+                grown = cost / less_cost, room / less_room
+            for fault in faults(name, status, 0 if given.check else slow, grown):
+                print(f"  {fault}")
                 wrong += 1
     sys.exit(1 if wrong else 0)
 

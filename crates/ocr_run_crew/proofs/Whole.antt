@@ -16,6 +16,8 @@ use Rattle.ocr_machine_history.specs.History.{History, is_stopped}
 use Rattle.ocr_machine_history.specs.History as history
 use Rattle.ocr_machine_history.specs.Weight.{weight}
 use Rattle.ocr_machine_parts.specs.Legal.{IsCreating, IsRun, IsStop, is_stop}
+use Rattle.ocr_machine_rules.specs.Laws.{MOST_MEMBERS}
+use Rattle.ocr_machine_rules.proofs.Whole.{quiet_is, creating_is, weighed_is}
 use Rattle.ocr_worker_machine.proofs.Quiet.{still_law}
 use Rattle.ocr_turns_rule.specs.Contract.{Finished}
 use Rattle.ocr_turns_rule.specs.Meaning.{Ended, Open}
@@ -55,11 +57,11 @@ match_any : {A : Type 0} (o : Option A) (P : A → Type 0) → is_some o ≡ tru
 match_any None P is m = absurd (cc is)
 match_any (Some x) P is m = (x, m)
 
-finished : (t : OcrTerms) (v : OcrView) (logs : List (List (ℕ × Entry))) (f : Finished meaning t v logs) → 2 ≤ t.limit → KnowsEnd v → IsFinished (of_terms t) (reverse f.history)
-finished t v logs f few (inl closed) = inl (stopped f.history (match_some v.closed (λ _. Unit {0}) (Ended is_stop f.history) closed f.closed))
-finished t v logs f few (inr quiet) =
+finished : (t : OcrTerms) (v : OcrView) (logs : List (List (ℕ × Entry))) (f : Finished meaning t v logs) → 2 ≤ t.limit → t.limit ≤ MOST_MEMBERS → KnowsEnd v → IsFinished (of_terms t) (reverse f.history)
+finished t v logs f few most (inl closed) = inl (stopped f.history (match_some v.closed (λ _. Unit {0}) (Ended is_stop f.history) closed f.closed))
+finished t v logs f few most (inr quiet) =
     let still = match_any v.quiet (λ n. (length f.history ≡ n) × IsStill meaning t f.history) quiet f.quiet in
-    inr (still_law t f.history few f.run still.1.1)
+    inr ((quiet_is (of_terms t) (reverse f.history) most (run_is t.setting.value t.limit f.history f.run)).0 (still_law t f.history few f.run still.1.1))
 
 -- THE STOP of a run stands in one of its logs
 stop_first : (why : run.Stop) (e : Entry) (rest : Option run.Stop) → ((w : run.Stop) → e ≡ an.Stop w → w ≡ why) → rest ≡ Some why → option_or (stop_of e) rest ≡ Some why
@@ -112,6 +114,7 @@ all_at P (x ∷ xs) (suc j) y all at = all_at P xs j y (λ k d lt. all (suc k) d
 -- what is known of the history before the Stop
 record Before (t : OcrTerms) (v : OcrView) (workers : ℕ) (before : List Entry) (why : run.Stop) : Type 0 where
   run : IsRun (of_terms t) (reverse before)
+  going : is_stopped (reverse before) ≡ false
   cause : IsStop (of_terms t) (reverse before) why
   weighs : weight (reverse before) ≡ loads_of (v.log ∷ v.joined)
   numbers : is_some v.reached ≡ true → (f : ℕ → ℕ) → sum_of f v.drawn + (up_to f 2 + made_sum makes f (reverse (reverse before))) ≡ up_to f t.limit
@@ -129,19 +132,26 @@ could_come t before edt c st =
     let same : an.Stop by.Objects ∷ st.before ≡ an.Stop by.Objects ∷ reverse before = sym st.stopped ∙ reverse_snoc before (an.Stop by.Objects) in
     subst (λ (past : History). IsCreating (of_terms t) past edt c.value) (cc same) st.creating
 
-caused : (t : OcrTerms) (v : OcrView) (workers : ℕ) (before : List Entry) (why : run.Stop) → 1 ≤ workers → Before t v workers before why → IsLimitCause (of_terms t) workers t.share (reverse before) why
-caused t v workers before by.Objects most b =
+caused : (t : OcrTerms) (v : OcrView) (workers : ℕ) (before : List Entry) (why : run.Stop) → 1 ≤ workers → t.limit ≤ MOST_MEMBERS → Before t v workers before why → IsLimitCause (of_terms t) workers t.share (reverse before) why
+caused t v workers before by.Objects some most b =
     let lacks = b.has.short (b.stops.j, b.stops.log, b.stops.here, b.stops.ends) in
     let free = free_few (of_terms t) (reverse before) v.drawn b.run (b.numbers lacks.reached) in
     let held = lacks.few in
-    (lacks.edt, lacks.call.value, record { creating = could_come t before lacks.edt lacks.call (b.facts lacks.known.0 (Short lacks.edt lacks.call) lacks.known.1); short = omega arith })
-caused t v workers before (by.Events worker k) most b =
+    (lacks.edt, lacks.call.value, record {
+        creating = (creating_is (of_terms t) (reverse before) lacks.edt lacks.call.value b.run).0 (could_come t before lacks.edt lacks.call (b.facts lacks.known.0 (Short lacks.edt lacks.call) lacks.known.1));
+        short = omega arith;
+      })
+caused t v workers before (by.Events worker k) some most b =
     let weighed = b.cause in
     let own = ends_by workers t.share b.stops.log (by.Events worker k) (all_at (IsLog workers t.share) (v.log ∷ v.joined) b.stops.j b.stops.log b.has.each b.stops.here) b.stops.ends in
     let load = load_within (v.log ∷ v.joined) b.stops.j b.stops.log b.stops.here in
     let past = own.2 in let all = b.weighs in
-    (weighed.0, record { number = (own.0, own.1); weighed = weighed.1; past_share = omega arith })
-caused t v workers before other most b = tt
+    (weighed.0, record {
+        number = (own.0, own.1);
+        weighed = (weighed_is (of_terms t) (reverse before) weighed.0 k most b.run b.going).0 weighed.1;
+        past_share = omega arith;
+      })
+caused t v workers before other some most b = tt
 
 limited_open : (s : history.Setting) (workers share : ℕ) (past : History) → is_stopped past ≡ false → IsLimitedBy s workers share past
 limited_open s workers share [] goes = tt
@@ -152,7 +162,7 @@ limited_last : (s : history.Setting) (workers share : ℕ) (past : History) (e :
 limited_last s workers share past (an.Stop why) is cause = cause why refl
 limited_last s workers share past other is cause = absurd (cc is)
 
-module _ (t : OcrTerms) (v : OcrView) (workers : ℕ) (logs : List (List (ℕ × Entry))) (f : Finished meaning t v logs) (most : 1 ≤ workers) (has : HasLogs workers t.share workers v) where
+module _ (t : OcrTerms) (v : OcrView) (workers : ℕ) (logs : List (List (ℕ × Entry))) (f : Finished meaning t v logs) (some : 1 ≤ workers) (most : t.limit ≤ MOST_MEMBERS) (has : HasLogs workers t.share workers v) where
   known : (before : List Entry) (why : run.Stop) → f.history ≡ before ++ an.Stop why ∷ [] → Open is_stop before → Before t v workers before why
   known before why whole is_open =
       let s = of_terms t in
@@ -162,6 +172,7 @@ module _ (t : OcrTerms) (v : OcrView) (workers : ℕ) (logs : List (List (ℕ ×
       let runs : IsRun s (an.Stop why ∷ reverse before) = subst (IsRun s) (ap reverse whole ∙ reverse_snoc before (an.Stop why)) (run_is t.setting.value t.limit f.history f.run) in
       record {
         run = runs.0;
+        going = goes_on before is_open;
         cause = runs.1.stopping;
         weighs = let a = ap weight (reverse_snoc before (an.Stop why)) in let b = run_weight J (v.log ∷ v.joined) here.of here.once in omega arith;
         numbers = λ reached g.
@@ -181,7 +192,7 @@ module _ (t : OcrTerms) (v : OcrView) (workers : ℕ) (logs : List (List (ℕ ×
       let same : f.history ≡ ended.past ++ ended.last ∷ [] = ended.whole in
       subst (IsLimitedBy (of_terms t) workers t.share) (sym (ap reverse same ∙ reverse_snoc ended.past ended.last))
       (limited_last (of_terms t) workers t.share (reverse ended.past) ended.last ended.stop
-      (λ why is. caused t v workers ended.past why most (known ended.past why (same ∙ ap (λ (e : Entry). ended.past ++ e ∷ []) is) ended.open_before))))
+      (λ why is. caused t v workers ended.past why some most (known ended.past why (same ∙ ap (λ (e : Entry). ended.past ++ e ∷ []) is) ended.open_before))))
       f.ends
 
   within : weight (reverse f.history) ≤ (workers + 1) * t.share
@@ -193,9 +204,9 @@ module _ (t : OcrTerms) (v : OcrView) (workers : ℕ) (logs : List (List (ℕ ×
       let bound = ap (λ n. n * t.share) many in
       omega (arith, all, light, bound)
 
-pub whole : (t : OcrTerms) (v : OcrView) (workers : ℕ) (logs : List (List (ℕ × Entry))) (f : Finished meaning t v logs) → 1 ≤ workers → 2 ≤ t.limit → HasLogs workers t.share workers v → KnowsEnd v → IsWholeRun (of_terms t) workers t.share f.history
-whole t v workers logs f most few has knows = record {
+pub whole : (t : OcrTerms) (v : OcrView) (workers : ℕ) (logs : List (List (ℕ × Entry))) (f : Finished meaning t v logs) → 1 ≤ workers → 2 ≤ t.limit → t.limit ≤ MOST_MEMBERS → HasLogs workers t.share workers v → KnowsEnd v → IsWholeRun (of_terms t) workers t.share f.history
+whole t v workers logs f some few most has knows = record {
   run = run_is t.setting.value t.limit f.history f.run;
-  finished = finished t v logs f few knows;
-  limited = record { within = within t v workers logs f most has; cause = limited t v workers logs f most has };
+  finished = finished t v logs f few most knows;
+  limited = record { within = within t v workers logs f some most has; cause = limited t v workers logs f some most has };
 }

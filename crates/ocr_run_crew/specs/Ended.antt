@@ -5,7 +5,7 @@ use Rattle.ocr_worker_machine.specs.declared.setting.Setting as facts
 use Rattle.ocr_machine_history.specs.declared.entry.Entry.{Entry}
 use Rattle.ocr_machine_history.specs.History.{History, Setting, history_of, is_stopped}
 use Rattle.ocr_machine_parts.specs.Legal.{IsRun}
-use Rattle.ocr_machine_parts.specs.Runs.{IsQuiet}
+use Rattle.ocr_machine_rules.specs.Rules.{IsQuiet}
 use Rattle.ocr_run_crew.specs.declared.limits.Limits.{Limits}
 use Rattle.ocr_run_crew.specs.Limits.{IsLimited}
 

@@ -9,7 +9,7 @@ use Rattle.ocr_machine_history.specs.declared.entry.Stop as run
 use Rattle.ocr_machine_history.specs.declared.entry.Stop.TheVariants as by
 use Rattle.ocr_machine_history.specs.History.{History, Setting}
 use Rattle.ocr_machine_history.specs.Made.{made}
-use Rattle.ocr_machine_parts.specs.Legal.{IsCreating, IsWeighed}
+use Rattle.ocr_machine_rules.specs.Rules.{IsCreating, IsWeighed}
 use Rattle.ocr_machine_history.specs.Weight.{weight}
 use Rattle.ocr_worker_clerk.specs.Number.{object_count}
 

@@ -100,6 +100,7 @@ fn close(
 ) -> Result<Merged, NoMemory>
     requires root { IsGathering turns workers 0 workers root }
     requires workers { 1 ≤ workers }
+    requires most { turns.1.limit ≤ 65536 }
     ensures { IfOk result (λ m. IsWholeRun (of_terms turns.1) workers turns.1.share m) }
 {
     let closing = turns.finish(alloc, root)?;

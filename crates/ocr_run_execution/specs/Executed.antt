@@ -5,8 +5,8 @@ use Rattle.ocr_machine_history.specs.declared.entry.Entry.{Entry}
 use Rattle.ocr_machine_history.specs.History.{history_of, setting_of}
 use Rattle.ocr_machine_history.specs.Edts.{StartsOnce}
 use Rattle.ocr_machine_history.specs.Output.{ending_of}
-use Rattle.ocr_machine_parts.specs.Legal.{IsRun}
-use Rattle.ocr_machine_parts.specs.Runs.{StartsSet, LeavesOpen, IsQuiet}
+use Rattle.ocr_machine_parts.specs.Runs.{StartsSet, LeavesOpen}
+use Rattle.ocr_machine_rules.specs.Rules.{IsRun, IsQuiet}
 use Rattle.ocr_run_command.specs.declared.wanted.Options.{Options}
 use Rattle.ocr_run_crew.specs.Ended.{IsFinished}
 use Rattle.ocr_run_crew.specs.Limits.{IsLimited}

@@ -16,7 +16,7 @@ pub returns : goal.returns
 returns c =
     let told = c.in_ok-closing.ensures in
     let t = c.args.turns.1 in let root = c.args.root.view in let workers = c.args.workers in
-    let known = whole t root workers c.in_ok-closing.closing.0 told.0 c.requires.workers c.requires.root.limit c.requires.root.logs (c.requires.root.knows c.requires.workers) in
+    let known = whole t root workers c.in_ok-closing.closing.0 told.0 c.requires.workers c.requires.root.limit c.requires.most c.requires.root.logs (c.requires.root.knows c.requires.workers) in
     IfOk-weaker c.merge.result (λ m. (history : List Entry) → IsHistoryOf c.in_ok-closing.closing history → m ≡ history) (λ m. IsWholeRun (of_terms t) workers t.share m)
     (λ m is. subst (IsWholeRun (of_terms t) workers t.share) (sym (is told.0.history (record { terms = t; root = root; finished = told.0; whole = refl; count = told.1 }))) known)
     c.merge.ensures
