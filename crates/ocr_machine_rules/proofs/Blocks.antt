@@ -50,6 +50,7 @@ use Rattle.ocr_machine_laws.proofs.Said.{tied}
 use Rattle.ocr_machine_rules.specs.Blocks as blocks
 use Rattle.ocr_machine_rules.specs.Codes.{is_block}
 use Rattle.ocr_machine_rules.specs.Laws.{ContentsLaw, LineLaw}
+use Rattle.ocr_machine_rules.proofs.Edts as edts
 
 -- A BLOCK is made by DbCreate alone
 abbrev makes_block : body.Call → Bool
@@ -481,48 +482,45 @@ line_if : (b : Bool) (c : ℕ) (x y : List block.BlockCall) (p q : block.Line) �
 line_if true c x y p q one other = one refl
 line_if false c x y p q one other = other
 
--- an EDT that acquires or waits does so in the same mode by the rules and by the parts
-abbrev pub ModeLaw : Type 0
-ModeLaw = (s : Setting) (past : History) (t d : ℕ) → IsRun s past → IsLegal s past (Acquire t d) ⊎ IsLegal s past (Wait t d) → blocks.next_mode s past t ≡ next_mode s past t
-
-pub stands_so : ModeLaw → (s : Setting) (past : History) (d : ℕ) → IsRun s past → is_block (made s past d) ≡ true → block.line_of (creator_in (made s past d)) (block_calls s past d) ≡ blocks.line_of s past d
-stands_so modes s [] d run is = opened_line s (d == ARGUMENTS) (if d == MAIN_EDT then Some (MadeEdt (number_of_main s.program) [] 1) else None) (opened_other s (d == MAIN_EDT))
-stands_so modes s (Call t home (call.DbCreate n fl) a w ∷ past) d run is =
+-- IN EACH RUN
+pub stands_so : (s : Setting) (past : History) (d : ℕ) → IsRun s past → is_block (made s past d) ≡ true → block.line_of (creator_in (made s past d)) (block_calls s past d) ≡ blocks.line_of s past d
+stands_so s [] d run is = opened_line s (d == ARGUMENTS) (if d == MAIN_EDT then Some (MadeEdt (number_of_main s.program) [] 1) else None) (opened_other s (d == MAIN_EDT))
+stands_so s (Call t home (call.DbCreate n fl) a w ∷ past) d run is =
     created_line (is_done a.code) (a.value == d) (fl == 0) (n / 8) t (made s past d) (block_calls s past d) (blocks.line_of s past d) (runs_some s past t run.0 run.1.on_parts.running)
-    (λ off. stands_so modes s past d run.0 (was_block s past t home (call.DbCreate n fl) a w d off is))
-stands_so modes s (Call t home other a w ∷ past) d run is =
+    (λ off. stands_so s past d run.0 (was_block s past t home (call.DbCreate n fl) a w d off is))
+stands_so s (Call t home other a w ∷ past) d run is =
     let off : is_new other a d ≡ false = old_block s past t home other a w d refl is in
     let was : is_block (made s past d) ≡ true = was_block s past t home other a w d off is in
     let creator : creator_in (made s (Call t home other a w ∷ past) d) ≡ creator_in (made s past d) = ap creator_in (made_old s past t home other a w d off) in
     (λ i. block.line_of (creator i) (old_calls s past t home other a w d off i))
     ∙ step_line t other a w d (creator_in (made s past d)) (block_calls s past d) refl
-    ∙ (λ i. if is_done a.code then blocks.line_after t other a (was_doomed s past d run.0 was i) d (stands_so modes s past d run.0 was i) else stands_so modes s past d run.0 was i)
-stands_so modes s (Acquire t b ∷ past) d run is =
+    ∙ (λ i. if is_done a.code then blocks.line_after t other a (was_doomed s past d run.0 was i) d (stands_so s past d run.0 was i) else stands_so s past d run.0 was i)
+stands_so s (Acquire t b ∷ past) d run is =
     let creator : ℕ = creator_in (made s past d) in
-    let before = stands_so modes s past d run.0 is in
+    let before = stands_so s past d run.0 is in
     line_if (b == d) creator (grant_calls t (next_mode s past t) creator (block_calls s past d)) (block_calls s past d) (blocks.line_with t (blocks.next_mode s past t) (blocks.line_of s past d)) (blocks.line_of s past d)
     (λ here. taken_line (made s past d) (link_calls past d) (block_calls s past d) (event_calls s past d) (scope_calls past d) t (next_mode s past t)
     (subst (λ (n : ℕ). IsBlock ((parts_of s past).face n) (IsTaken t (next_mode s past t))) (eqb-true b d here) (subst (λ (k : Mode). IsBlock ((parts_of s past).face b) (IsTaken t k)) (sym (mode_is s past t _ run.1.on_parts.next)) run.1.on_parts.taken))
-    ∙ (λ i. blocks.line_with t (sym (modes s past t b run.0 (inl run.1)) i) (before i)))
+    ∙ (λ i. blocks.line_with t (sym (edts.mode_is s past t b run.0 run.1) i) (before i)))
     before
-stands_so modes s (Wait t b ∷ past) d run is =
+stands_so s (Wait t b ∷ past) d run is =
     let creator : ℕ = creator_in (made s past d) in
-    let before = stands_so modes s past d run.0 is in
+    let before = stands_so s past d run.0 is in
     line_if (b == d) creator (block.Ask t (next_mode s past t) ∷ block_calls s past d) (block_calls s past d)
     (record { holders = (blocks.line_of s past d).holders; queue = (blocks.line_of s past d).queue ++ (t, blocks.next_mode s past t) ∷ [] }) (blocks.line_of s past d)
     (λ here. refused_line (made s past d) (link_calls past d) (block_calls s past d) (event_calls s past d) (scope_calls past d) t (next_mode s past t)
     (subst (λ (n : ℕ). IsBlock ((parts_of s past).face n) (IsRefused t (next_mode s past t))) (eqb-true b d here) (subst (λ (k : Mode). IsBlock ((parts_of s past).face b) (IsRefused t k)) (sym (mode_is s past t _ run.1.on_parts.next)) run.1.on_parts.refused))
-    ∙ (λ i. record { holders = (before i).holders; queue = (before i).queue ++ (t, sym (modes s past t b run.0 (inr run.1)) i) ∷ [] }))
+    ∙ (λ i. record { holders = (before i).holders; queue = (before i).queue ++ (t, sym (edts.wait_mode_is s past t b run.0 run.1) i) ∷ [] }))
     before
-stands_so modes s (Free t b w ∷ past) d run is =
+stands_so s (Free t b w ∷ past) d run is =
     ended_line true (b == d) (creator_in (made s past d)) t w (block_calls s past d)
-    ∙ (λ i. if b == d then blocks.line_after_end (was_doomed s past d run.0 is i) t (stands_so modes s past d run.0 is i) else stands_so modes s past d run.0 is i)
-stands_so modes s (other ∷ past) d run is = stands_so modes s past d run.0 is
+    ∙ (λ i. if b == d then blocks.line_after_end (was_doomed s past d run.0 is i) t (stands_so s past d run.0 is i) else stands_so s past d run.0 is i)
+stands_so s (other ∷ past) d run is = stands_so s past d run.0 is
 
 told_line : (m : Option Made) (links : List slot.SlotCall) (calls : List block.BlockCall) (events : List EventCall) (scopes : List ScopeCall) (line : block.Line) → (is_block m ≡ true → block.line_of (creator_in m) calls ≡ line)
     → IsBlock (face m links calls events scopes) (λ st. block.line st ≡ line) ⊎ (is_block m ≡ false)
 told_line (Some (MadeBlock n c)) links calls events scopes line stands = inl (stands refl)
 told_line other links calls events scopes line stands = inr refl
 
-pub lines_agree : ModeLaw → LineLaw
-lines_agree modes s past d run = told_line (made s past d) (link_calls past d) (block_calls s past d) (event_calls s past d) (scope_calls past d) (blocks.line_of s past d) (stands_so modes s past d run)
+pub line_is : LineLaw
+line_is s past d run = told_line (made s past d) (link_calls past d) (block_calls s past d) (event_calls s past d) (scope_calls past d) (blocks.line_of s past d) (stands_so s past d run)

@@ -1,20 +1,12 @@
 -- The laws, put together.
-use Rattle.std.proofs.Common.{inl, inr}
-use Rattle.ocr_machine_rules.specs.Laws.{CodeLaw, LegalLaw, LineLaw, QuietLaw, RunLaw, SaysLaw, CreatingLaw, WeighedLaw}
-use Rattle.ocr_machine_rules.proofs.Blocks.{ModeLaw, contents_is, lines_agree}
+use Rattle.ocr_machine_rules.specs.Laws.{CodeLaw, LegalLaw, QuietLaw, RunLaw, SaysLaw, CreatingLaw, WeighedLaw}
+use Rattle.ocr_machine_rules.proofs.Blocks.{contents_is, line_is}
 use Rattle.ocr_machine_rules.proofs.Bodies.{says_by}
 use Rattle.ocr_machine_rules.proofs.Codes.{codes_agree}
-use Rattle.ocr_machine_rules.proofs.Edts.{next_is, held_is, lost_is, mode_is, wait_mode_is}
+use Rattle.ocr_machine_rules.proofs.Edts.{next_is, held_is, lost_is}
 use Rattle.ocr_machine_rules.proofs.Events.{destroyed_is, refusal_is}
 use Rattle.ocr_machine_rules.proofs.Messages.{pending_is}
 use Rattle.ocr_machine_rules.proofs.Rules.{legal_law, run_law, quiet_law, creating_law, weighed_law}
-
-modes_agree : ModeLaw
-modes_agree s past t d run (inl may) = mode_is s past t d run may
-modes_agree s past t d run (inr may) = wait_mode_is s past t d run may
-
-pub line_is : LineLaw
-line_is = lines_agree modes_agree
 
 pub code_is : CodeLaw
 code_is = codes_agree held_is

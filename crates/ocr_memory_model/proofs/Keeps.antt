@@ -6,6 +6,8 @@ use Rattle.std.proofs.lemmas.List.{append-nil, reverse-append}
 use Rattle.std.proofs.lemmas.List.Folds.{list_any-append}
 use Rattle.std.proofs.lemmas.Bool.{eqb-true}
 use Rattle.ocr_acquire.specs.declared.Mode.{Mode}
+use Rattle.ocr_event_any.specs.AnyEvent.{state_of, state_by, plain_kind, takes_arg}
+use Rattle.ocr_event_any.specs.declared.TheConstants.{LATCH, CHANNEL}
 use Rattle.ocr_body_meaning.specs.Holds.{is_done}
 use Rattle.ocr_body_meaning.specs.declared.call.Call as body
 use Rattle.ocr_body_meaning.specs.declared.call.Call.TheVariants as call
@@ -16,27 +18,27 @@ use Rattle.ocr_machine_history.specs.declared.entry.Message.{Message}
 use Rattle.ocr_machine_history.specs.declared.entry.What.{What}
 use Rattle.ocr_machine_history.specs.declared.entry.What.TheVariants as what
 use Rattle.ocr_machine_history.specs.History.{History, Setting}
-use Rattle.ocr_machine_history.specs.Made.{names_new}
+use Rattle.ocr_machine_history.specs.Made.{Made, MadeBlock, MadeTemplate, MadeEdt, MadeEvent, MadeScope, made, names_new}
 use Rattle.ocr_machine_parts.specs.Progress.{edt_in}
-use Rattle.ocr_machine_parts.specs.Parts.{parts_of}
+use Rattle.ocr_machine_parts.specs.Calls.{link_calls, block_calls, event_calls, scope_calls}
+use Rattle.ocr_machine_parts.specs.Parts.{face, parts_of}
 use Rattle.ocr_machine_parts.specs.Taken.{as_face}
 use Rattle.ocr_machine_parts.specs.declared.part.Part.{Part}
 use Rattle.ocr_machine_parts.specs.declared.part.Part.TheVariants as part
-use Rattle.ocr_machine_laws.specs.Memory.{hold_of}
-use Rattle.ocr_machine_laws.proofs.Each.{Each, each_from}
 use Rattle.ocr_memory_model_rows.specs.Order.{IsNextRow}
 use Rattle.ocr_memory_model_rows.proofs.Joins.{next_same}
 use Rattle.ocr_memory_model_order.proofs.Forward.{each_reverse}
-use Rattle.ocr_memory_model_order.proofs.Fronts.{places_below, oldest_each, matched_each}
+use Rattle.ocr_memory_model_order.proofs.Fronts.{Each, each_from, places_below, oldest_each, matched_each}
 use Rattle.ocr_memory_model_order.proofs.Graphs.{graph_length}
 use Rattle.ocr_memory_model_rows.specs.Bundles.{IsNoted}
 use Rattle.ocr_memory_model_rows.specs.Places.{Graph, reaches, reaches_any}
 use Rattle.ocr_memory_model_order.specs.Places.{places}
-use Rattle.ocr_memory_model_order.specs.Makers.{oldest, matched, matches_of, set_off_with, set_off_on, source_at, makers, satisfies, leaves, is_satisfied_by, is_satisfying, is_leaving}
-use Rattle.ocr_memory_model_order.specs.Pairs.{is_of, is_made_by, is_set_for, is_given_back, ended_mode}
+use Rattle.ocr_memory_model_order.specs.Makers.{oldest, matched, matches_of, set_off_with, set_off_by, source_at, makers, satisfies, leaves, is_satisfied_by, is_satisfying, is_leaving}
+use Rattle.ocr_memory_model_order.specs.Pairs.{held, is_of, is_made_by, is_set_for, is_given_back, ended_mode}
 use Rattle.ocr_memory_model_order.specs.Causes.{newest, last_of, starting, ends, isolated_ends, is_isolated_in, graph_of}
 use Rattle.ocr_memory_model.specs.Keys.{satisfied_by, satisfied_with, satisfied_in, left_with, left_in, made_by, set_with, starting_in, given_by, given_in, key_if, ended_key, isolated_key, is_key, some_place}
 use Rattle.ocr_memory_model.specs.Past.{IsEndedIn}
+use Rattle.ocr_memory_model.specs.SetOff.{set_off_on}
 
 -- A FAMILY of lists of places, told by the object of each entry
 pub family_noted : (p : ℕ → History → Entry → Bool) (past : History) (e : Entry) (key : Option ℕ) → ((x : ℕ) → p x past e ≡ is_key key x) → IsNoted key (length past) (λ x. places (p x) past) (λ x. places (p x) (e ∷ past))
@@ -75,8 +77,8 @@ given_call (call.DbRelease b) d = refl
 given_call (call.DbDestroy b) d = refl
 given_call other d = refl
 
-given_mode : (s : Setting) (d : ℕ) (past : History) (e : Entry) → ended_mode s d past e ≡ (if is_key (given_in e) d then hold_of s past (edt_in e) d else None)
-given_mode s d past (Call t home c a w) = ap (λ b. if b then hold_of s past t d else None) (done_key (is_done a.code) (given_by c) d (is_given_back c d) (given_call c d))
+given_mode : (s : Setting) (d : ℕ) (past : History) (e : Entry) → ended_mode s d past e ≡ (if is_key (given_in e) d then held s past (edt_in e) d else None)
+given_mode s d past (Call t home c a w) = ap (λ b. if b then held s past t d else None) (done_key (is_done a.code) (given_by c) d (is_given_back c d) (given_call c d))
 given_mode s d past (Free t b w) = refl
 given_mode s d past other = refl
 
@@ -93,18 +95,18 @@ other_key true n d apart = apart
 other_key false n d apart = refl
 
 -- a test on the mode of the hold
-mode_key : (s : Setting) (past : History) (t d : ℕ) (o : Option ℕ) (m : Option Mode) (q : Option Mode → Bool) → q None ≡ false → ((b : ℕ) → o ≡ Some b → hold_of s past t b ≡ m) → q (if is_key o d then hold_of s past t d else None) ≡ is_key (key_if (q m) o) d
-mode_key s past t d None m q off held = off ∙ none_key (q m) d
-mode_key s past t d (Some b) m q off held = elim (b == d) as (λ x. (b == d) ≡ x → q (if x then hold_of s past t d else None) ≡ is_key (if q m then Some b else None) d) [
-  | true ↦ λ here. ap q (subst (λ n. hold_of s past t n ≡ m) (eqb-true b d here) (held b refl)) ∙ some_key (q m) b d here
+mode_key : (s : Setting) (past : History) (t d : ℕ) (o : Option ℕ) (m : Option Mode) (q : Option Mode → Bool) → q None ≡ false → ((b : ℕ) → o ≡ Some b → held s past t b ≡ m) → q (if is_key o d then held s past t d else None) ≡ is_key (key_if (q m) o) d
+mode_key s past t d None m q off told = off ∙ none_key (q m) d
+mode_key s past t d (Some b) m q off told = elim (b == d) as (λ x. (b == d) ≡ x → q (if x then held s past t d else None) ≡ is_key (if q m then Some b else None) d) [
+  | true ↦ λ here. ap q (subst (λ n. held s past t n ≡ m) (eqb-true b d here) (told b refl)) ∙ some_key (q m) b d here
   | false ↦ λ apart. off ∙ sym (other_key (q m) b d apart)
 ] refl
 
 pub ended_tells : (s : Setting) (d : ℕ) (past : History) (e : Entry) (m : Option Mode) → IsEndedIn s past e m → ends s d past e ≡ is_key (ended_key e m) d
-ended_tells s d past e m held = ap (λ (o : Option Mode). is_some o) (given_mode s d past e) ∙ mode_key s past (edt_in e) d (given_in e) m (λ o. is_some o) refl held
+ended_tells s d past e m told = ap (λ (o : Option Mode). is_some o) (given_mode s d past e) ∙ mode_key s past (edt_in e) d (given_in e) m (λ o. is_some o) refl told
 
 pub isolated_tells : (s : Setting) (d : ℕ) (past : History) (e : Entry) (m : Option Mode) → IsEndedIn s past e m → isolated_ends s d past e ≡ is_key (isolated_key e m) d
-isolated_tells s d past e m held = ap is_isolated_in (given_mode s d past e) ∙ mode_key s past (edt_in e) d (given_in e) m is_isolated_in refl held
+isolated_tells s d past e m told = ap is_isolated_in (given_mode s d past e) ∙ mode_key s past (edt_in e) d (given_in e) m is_isolated_in refl told
 
 -- what starts an EDT
 made_call : (c : body.Call) (a : Answer) (t : ℕ) → is_made_by c a t ≡ is_key (made_by c a) t
@@ -225,14 +227,33 @@ matched_low past m x n found xs links is list le = each_all (λ c. c < n) found 
     (each_reverse (λ c. c < n) (places (satisfies x) past) (each_from (λ c. c < length past) (λ c. c < n) (λ c h. omega (arith, h, le)) (places (satisfies x) past) (places_below (satisfies x) past))))))
 
 -- the face of a source
-pub face_told : (past : History) (x : ℕ) (matches : List ℕ) (y : Part) → set_off_with past x matches (as_face y) ≡ set_off_with past x matches y
+pub face_told : (past : History) (x : ℕ) (matches : List ℕ) (y : Part) → set_off_on past x matches (as_face y) ≡ set_off_on past x matches y
 face_told past x matches (part.Core c) = refl
 face_told past x matches other = refl
 
+event_made : (s : Setting) (past : History) (x : ℕ) (matches : List ℕ) (k fl most : ℕ) → set_off_on past x matches (part.Event (state_of k fl most (event_calls s past x))) ≡ set_off_with past x matches (Some (MadeEvent k fl most))
+event_made s past x matches k fl most =
+    elim (k == LATCH) as (λ l. set_off_on past x matches (part.Event (state_by l (k == CHANNEL) (plain_kind k) (takes_arg fl) most (event_calls s past x))) ≡ (if l then places (satisfies x) past else if k == CHANNEL then matches else oldest (places (satisfies x) past))) [
+      | true ↦ refl
+      | false ↦ elim (k == CHANNEL) as (λ c. set_off_on past x matches (part.Event (state_by false c (plain_kind k) (takes_arg fl) most (event_calls s past x))) ≡ (if c then matches else oldest (places (satisfies x) past))) [
+        | true ↦ refl
+        | false ↦ refl
+      ]
+    ]
+
+made_told : (s : Setting) (past : History) (x : ℕ) (matches : List ℕ) (o : Option Made) → set_off_on past x matches (face o (link_calls past x) (block_calls s past x) (event_calls s past x) (scope_calls past x)) ≡ set_off_with past x matches o
+made_told s past x matches (Some (MadeEvent k fl most)) = event_made s past x matches k fl most
+made_told s past x matches (Some (MadeBlock n c)) = refl
+made_told s past x matches (Some (MadeTemplate f pc dc)) = refl
+made_told s past x matches (Some (MadeEdt f ps n)) = refl
+made_told s past x matches (Some (MadeScope outer event)) = refl
+made_told s past x matches None = refl
+
 -- THE MAKERS of a message
-pub made_by_all : (s : Setting) (past : History) (m : Message) (source : ℕ) (found : List ℕ) (y : Part) → source ≡ source_at past m → found ≡ matches_of past m source → y ≡ (parts_of s past).face source → m.place ∷ (set_off_with past source found y ++ []) ≡ makers s past m
-made_by_all s past m source found y at matches face =
-    ap (λ l. m.place ∷ l) (append-nil (set_off_with past source found y))
-    ∙ ap (λ l. m.place ∷ set_off_with past source l y) matches
-    ∙ ap (λ z. m.place ∷ set_off_on past m source z) face
-    ∙ ap (λ x. m.place ∷ set_off_on past m x ((parts_of s past).face x)) at
+pub made_by_all : (s : Setting) (past : History) (m : Message) (source : ℕ) (found : List ℕ) (y : Part) → source ≡ source_at past m → found ≡ matches_of past m source → y ≡ (parts_of s past).face source → m.place ∷ (set_off_on past source found y ++ []) ≡ makers s past m
+made_by_all s past m source found y at matches told =
+    ap (λ l. m.place ∷ l) (append-nil (set_off_on past source found y))
+    ∙ ap (λ z. m.place ∷ set_off_on past source found z) told
+    ∙ ap (λ l. m.place ∷ l) (made_told s past source found (made s past source))
+    ∙ ap (λ l. m.place ∷ set_off_with past source l (made s past source)) matches
+    ∙ ap (λ x. m.place ∷ set_off_by s past m x) at

@@ -6,5 +6,6 @@ pub mod Modes
 pub mod Orders
 pub mod Past
 pub mod RaceList
+pub mod SetOff
 pub mod Touches
 pub mod Walk

@@ -6,13 +6,13 @@ use Rattle.ocr_machine_history.specs.History.{History, Setting}
 use Rattle.ocr_machine_parts.specs.Progress.{edt_in}
 use Rattle.ocr_machine_state.specs.State.{IsBefore}
 use Rattle.ocr_machine_state.specs.declared.state.State.{State}
-use Rattle.ocr_machine_laws.specs.Memory.{hold_of}
 use Rattle.ocr_memory_model_rows.specs.Order.{IsOrder, AreBundles}
 use Rattle.ocr_memory_model_order.specs.Causes.{ends, isolated_ends, graph_of}
 use Rattle.ocr_memory_model.specs.Keys.{given_in}
 use Rattle.ocr_memory_model.specs.Kept.{AreLast, AreStarting, AreSatisfactions}
 use Rattle.ocr_memory_model.specs.Links.{AreLinks}
 use Rattle.ocr_memory_model_order.specs.Makers.{satisfies, leaves}
+use Rattle.ocr_memory_model_order.specs.Pairs.{held}
 use Rattle.ocr_memory_model_order.specs.Places.{places}
 use Rattle.ocr_memory_model.specs.declared.past.Past.{Past}
 
@@ -29,7 +29,7 @@ pub record IsPast (s : Setting) (past : History) (kept : Past) : Type 0 where
 
 -- the mode of the hold that an entry ends
 abbrev pub IsEndedIn : Setting → History → Entry → Option Mode → Type 0
-IsEndedIn s past e m = (b : ℕ) → given_in e ≡ Some b → hold_of s past (edt_in e) b ≡ m
+IsEndedIn s past e m = (b : ℕ) → given_in e ≡ Some b → held s past (edt_in e) b ≡ m
 
 -- THE NEXT ENTRY of a run, with the table of those so far and what is kept of them
 pub record IsNext (s : Setting) (past : History) (e : Entry) (table : State)

@@ -40,8 +40,8 @@ fn mode_of(table: &State, edt: Guid, block: u64) -> Option<Mode>
 
 /// The mode of the hold that an entry ends.
 pub(crate) fn ended_mode(table: &State, entry: &Entry) -> Option<Mode>
-    ensures { (s : Setting) (past : History) → IsStateOf s past table.now → IsLegal s past entry.now
-        → IsEndedIn s past entry.now result }
+    ensures { (s : Setting) (past : History) → IsStateOf s past table.now → IsRun s past
+        → IsLegal s past entry.now → IsEndedIn s past entry.now result }
 {
     match given_in(entry) {
         Some(block) => mode_of(table, Guid(edt_of(entry)), block),

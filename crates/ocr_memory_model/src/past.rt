@@ -6,7 +6,8 @@ ghost use Rattle.ocr_memory_model_order.specs.Causes.{last_of, causes, starting,
 ghost use Rattle.ocr_acquire.specs.Mode.{is_isolated};
 ghost use Rattle.ocr_memory_model.specs.Kept.{AreLast, AreStarting, AreSatisfactions};
 ghost use Rattle.std.specs.List.{All};
-ghost use Rattle.ocr_memory_model_order.specs.Makers.{satisfies, oldest, set_off_with, makers};
+ghost use Rattle.ocr_memory_model_order.specs.Makers.{satisfies, oldest, makers};
+ghost use Rattle.ocr_memory_model.specs.SetOff.{set_off_on};
 ghost use Rattle.ocr_memory_model_order.specs.Places.{places};
 
 use crate::keys::{edt_of, ended_key, isolated_key, left_in, satisfied_in, starting_in};
@@ -198,7 +199,7 @@ impl Past {
         ensures { OnOk result ((s : Setting) (past : History) (causes : List ℕ)
             → IsPast s past self.now → IsNextRow (graph_of s past) causes row.old
             → IsNextRow (graph_of s past)
-            (set_off_with past source matches.now (face_on table.now source) ++ causes) row.new) }
+            (set_off_on past source matches.now (face_on table.now source) ++ causes) row.new) }
     {
         match table.face(source) {
             Some(face) => {
@@ -222,7 +223,7 @@ impl Past {
         ensures { OnOk result ((s : Setting) (past : History) (causes : List ℕ)
             → IsPast s past self.now → IsNextRow (graph_of s past) causes row.old
             → IsNextRow (graph_of s past)
-            (set_off_with past source matches.now face.now ++ causes) row.new) }
+            (set_off_on past source matches.now face.now ++ causes) row.new) }
     {
         match face {
             Part::Event(event) => match event.get() {

@@ -4,9 +4,7 @@ use Rattle.std.proofs.lemmas.List.{reverse-append}
 use Rattle.std.proofs.Math.Bool.{or-true}
 use Rattle.std.proofs.lemmas.Bool.{or_cases, eqb-true}
 use Rattle.ocr_base.specs.Mail.{drop_one, without, named, same_name}
-use Rattle.ocr_event_any.specs.declared.AnyEvent.TheVariants as any
-use Rattle.ocr_machine_parts.specs.declared.part.Part.{Part}
-use Rattle.ocr_machine_parts.specs.declared.part.Part.TheVariants as part
+use Rattle.ocr_event_any.specs.declared.TheConstants.{LATCH, CHANNEL}
 use Rattle.ocr_guid.specs.declared.Code.{Code}
 use Rattle.ocr_body_meaning.specs.declared.call.Call as body
 use Rattle.ocr_body_meaning.specs.declared.call.Call.TheVariants as call
@@ -18,7 +16,7 @@ use Rattle.ocr_machine_history.specs.declared.entry.What.{What}
 use Rattle.ocr_machine_history.specs.declared.entry.What.TheVariants as what
 use Rattle.ocr_machine_history.specs.History.{History, Setting}
 use Rattle.ocr_machine_history.specs.Edts.{is_started}
-use Rattle.ocr_machine_history.specs.Made.{Made, made, is_new, is_beside, is_edt_made}
+use Rattle.ocr_machine_history.specs.Made.{Made, MadeEvent, MadeScope, made, is_new, is_beside, is_edt_made}
 use Rattle.ocr_machine_history.specs.Numbers.{is_in}
 use Rattle.ocr_slots.specs.Slots as slot
 use Rattle.ocr_machine_parts.specs.Calls.{set_calls}
@@ -32,7 +30,7 @@ use Rattle.ocr_machine_laws.proofs.Once.{set_once_law}
 use Rattle.ocr_machine_laws.proofs.Own.{still_started, started_set}
 use Rattle.ocr_machine_laws.proofs.Plain.{begin_law}
 use Rattle.ocr_memory_model_order.specs.Places.{entry_at, before, is_at, places}
-use Rattle.ocr_memory_model_order.specs.Makers.{satisfies, leaves, links_at, source_at, set_off_on, makers}
+use Rattle.ocr_memory_model_order.specs.Makers.{satisfies, leaves, oldest, links_at, matches_of, source_at, set_off_with, makers}
 use Rattle.ocr_memory_model_order.specs.Pairs.{is_made_by, creates, starts, is_set_for, sets, in_order, made as made_pair, sent as sent_pair, set as set_pair, ended as ended_pair, ForwardLaw}
 use Rattle.ocr_memory_model_order.proofs.Fronts.{some_same, at_below, places_below, in_each, oldest_each, matched_each}
 
@@ -151,16 +149,20 @@ pub each_reverse : (P : ℕ → Type 0) (xs : List ℕ) → Each P xs → Each P
 each_reverse P [] are = tt
 each_reverse P (x ∷ xs) are = subst (Each P) (sym (reverse-append (x ∷ []) xs)) (each_joined P (reverse xs) (x ∷ []) (each_reverse P xs are.1) (are.0, tt))
 
-set_off_below : (past : History) (m : Message) (x : ℕ) (y : Part) → Each (λ n. n < length past) (set_off_on past m x y)
-set_off_below past m x (part.Event (any.Plain st)) = oldest_each (λ n. n < length past) (places (satisfies x) past) (places_below (satisfies x) past)
-set_off_below past m x (part.Event (any.Latch st)) = places_below (satisfies x) past
-set_off_below past m x (part.Event (any.Channel st)) = matched_each (λ n. n < length past) m (reverse (places (satisfies x) past)) (links_at past x)
-    (each_reverse (λ n. n < length past) (places (satisfies x) past) (places_below (satisfies x) past))
-set_off_below past m x (part.Scope st) = places_below (leaves x) past
+set_off_below : (past : History) (m : Message) (x : ℕ) (o : Option Made) → Each (λ n. n < length past) (set_off_with past x (matches_of past m x) o)
+set_off_below past m x (Some (MadeEvent k fl most)) = elim (k == LATCH) as (λ b. Each (λ n. n < length past) (if b then places (satisfies x) past else if k == CHANNEL then matches_of past m x else oldest (places (satisfies x) past))) [
+  | true ↦ places_below (satisfies x) past
+  | false ↦ elim (k == CHANNEL) as (λ b. Each (λ n. n < length past) (if b then matches_of past m x else oldest (places (satisfies x) past))) [
+    | true ↦ matched_each (λ n. n < length past) m (reverse (places (satisfies x) past)) (links_at past x)
+        (each_reverse (λ n. n < length past) (places (satisfies x) past) (places_below (satisfies x) past))
+    | false ↦ oldest_each (λ n. n < length past) (places (satisfies x) past) (places_below (satisfies x) past)
+  ]
+]
+set_off_below past m x (Some (MadeScope outer event)) = places_below (leaves x) past
 set_off_below past m x other = tt
 
 pub makers_below : (s : Setting) (past : History) (m : Message) → m.place < length past → Each (λ n. n < length past) (makers s past m)
-makers_below s past m h = (h, set_off_below past m (source_at past m) ((parts_of s past).face (source_at past m)))
+makers_below s past m h = (h, set_off_below past m (source_at past m) (made s past (source_at past m)))
 
 sent_forward : (s : Setting) (J : History) (a b : ℕ) (m : Message) (c : Code) → IsRun s J → entry_at J b ≡ Some (Deliver m c) → is_in a (makers s (before J b) m) ≡ true → a < b
 sent_forward s [] a b m c run is there = cc is

@@ -7,7 +7,7 @@ use Rattle.ocr_machine_history.specs.declared.entry.Entry.{Entry}
 use Rattle.ocr_machine_history.specs.declared.entry.Message.{Message}
 use Rattle.ocr_machine_history.specs.History.{History}
 use Rattle.ocr_machine_history.specs.Numbers.{is_in}
-use Rattle.ocr_machine_laws.proofs.Each.{Each, each_from}
+pub use Rattle.ocr_machine_laws.proofs.Each.{Each, each_from}
 use Rattle.ocr_memory_model_rows.specs.Places.{Graph, reaches, reaches_any}
 use Rattle.ocr_memory_model_rows.proofs.Reach.{or_left, or_right}
 use Rattle.ocr_memory_model_order.specs.Places.{entry_at, before, is_at, told_at, places}

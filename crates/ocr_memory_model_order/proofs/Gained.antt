@@ -32,6 +32,7 @@ use Rattle.ocr_machine_laws.proofs.Ended.{both_hold, core_came, call_came, dropp
 use Rattle.ocr_memory_model_order.specs.Places.{is_at, told_at}
 use Rattle.ocr_memory_model_order.specs.Pairs.{is_of, acquired_mode}
 use Rattle.ocr_memory_model_order.proofs.Fronts.{new_at, old_at, new_told, old_told, at_below, told_below}
+use Rattle.ocr_memory_model_order.proofs.Modes.{acquired_held}
 
 -- the EDT acquires the block
 abbrev pub acquires : (u d : ℕ) → Entry → Bool
@@ -130,15 +131,15 @@ more_length : (later past : History) → length past ≤ length (later ++ past)
 more_length [] past = omega arith
 more_length (e ∷ later) past = let r = more_length later past in omega (arith, r)
 
-gained_here : (s : Setting) (past : History) (e : Entry) (u d : ℕ) (k : Mode) → acquires u d e ≡ true → (u == 0) ≡ false → hold_of s (e ∷ past) u d ≡ Some k → (is_of u past e ≡ true) × (acquired_mode s d past e ≡ Some k)
-gained_here s past (Acquire t b) u d k is some held =
+gained_here : (s : Setting) (past : History) (e : Entry) (u d : ℕ) (k : Mode) → IsRun s (e ∷ past) → acquires u d e ≡ true → (u == 0) ≡ false → hold_of s (e ∷ past) u d ≡ Some k → (is_of u past e ≡ true) × (acquired_mode s d past e ≡ Some k)
+gained_here s past (Acquire t b) u d k run is some held =
     let here : (t == u) ≡ true = (and_both (t == u) (b == d) is).0 in
     let there : (b == d) ≡ true = (and_both (t == u) (b == d) is).1 in
     let at : u ≡ t = sym (eqb-true t u here) in (
       subst (λ n. (not (n == 0) && (n == u)) ≡ true) at (ap (λ x. not x && (u == u)) some ∙ same u),
-      ap (λ x. if x then hold_of s (Acquire t b ∷ past) t d else None) there ∙ subst (λ n. hold_of s (Acquire t b ∷ past) n d ≡ Some k) at held,
+      acquired_held s past t b d k run there (subst (λ n. hold_of s (Acquire t b ∷ past) n d ≡ Some k) at held),
     )
-gained_here s past other u d k is some held = cc is
+gained_here s past other u d k run is some held = cc is
 
 pub gained_since : (s : Setting) (later past : History) (u d : ℕ) (m : Made) (k : Mode) → IsRun s (later ++ past) → made s past d ≡ Some m → (u == 0) ≡ false → hold_of s past u d ≡ None → hold_of s (later ++ past) u d ≡ Some k → (n : ℕ) × (j : Mode) × IsGained s past (later ++ past) u d n j
 gained_since s [] past u d m k run there some none is = cc (none, is)
@@ -147,7 +148,7 @@ gained_since s (e ∷ later) past u d m k run there some none is =
     elim (hold_of s J u d) as (λ o. hold_of s J u d ≡ o → (n : ℕ) × (j : Mode) × IsGained s past (e ∷ J) u d n j) [
       | None ↦ λ off. elim (acquires u d e) as (λ x. acquires u d e ≡ x → (n : ℕ) × (j : Mode) × IsGained s past (e ∷ J) u d n j) [
         | true ↦ λ on.
-            let here = gained_here s J e u d k on some is in (
+            let here = gained_here s J e u d k run on some is in (
               length J,
               k,
               record {

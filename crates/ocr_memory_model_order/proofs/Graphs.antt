@@ -15,7 +15,7 @@ use Rattle.ocr_machine_history.specs.Made.{names_new}
 use Rattle.ocr_machine_history.specs.Numbers.{is_in}
 use Rattle.ocr_machine_parts.specs.Legal.{IsRun}
 use Rattle.ocr_machine_parts.specs.Progress.{edt_in}
-use Rattle.ocr_machine_laws.specs.Memory.{hold_of}
+use Rattle.ocr_machine_rules.specs.Blocks.{next_mode}
 use Rattle.ocr_machine_laws.proofs.Each.{Each, each_from, each_joined}
 use Rattle.ocr_memory_model_rows.specs.Places.{Graph, reaches, reaches_any, HasPairs, IsReached}
 use Rattle.ocr_memory_model_rows.proofs.Reach.{or_left, or_right, any_from, reach_new, reach_kept, drawn, closed}
@@ -219,7 +219,7 @@ ended_has s past d a m (Some j) k is one which = elim (is_isolated j) as (λ t. 
 ] refl
 
 acquire_has : (s : Setting) (past : History) (e : Entry) (d a : ℕ) (m k : Mode) → acquired_mode s d past e ≡ Some k → told_at (ended_mode s d) past a ≡ Some m → (is_isolated m || is_isolated k) ≡ true → reaches_any (graph_of s past) a (causes s past e) ≡ true
-acquire_has s past (Acquire u b) d a m k is one which = elim (b == d) as (λ t. (b == d) ≡ t → (if t then hold_of s (Acquire u b ∷ past) u d else None) ≡ Some k → reaches_any (graph_of s past) a (causes s past (Acquire u b)) ≡ true) [
+acquire_has s past (Acquire u b) d a m k is one which = elim (b == d) as (λ t. (b == d) ≡ t → (if t then Some (next_mode s past u) else None) ≡ Some k → reaches_any (graph_of s past) a (causes s past (Acquire u b)) ≡ true) [
   | true ↦ λ here held.
       let at : d ≡ b = sym (eqb-true b d here) in
       any_right (graph_of s past) a (last_of past u) (ended_for s past b (acquired_mode s b past (Acquire u b)))

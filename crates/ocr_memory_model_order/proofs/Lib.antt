@@ -4,5 +4,6 @@ pub mod Fronts
 pub mod Gained
 pub mod Graphs
 pub mod Loaded
+pub mod Modes
 pub mod Steady
 pub mod Writes

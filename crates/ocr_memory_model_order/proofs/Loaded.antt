@@ -34,6 +34,8 @@ use Rattle.ocr_machine_laws.specs.Memory.{hold_of}
 use Rattle.ocr_machine_laws.proofs.Written.{borrower_holds}
 use Rattle.ocr_machine_parts.specs.LegalOn.{IsLoaded}
 use Rattle.ocr_memory_model_order.specs.Places.{is_at, entry_at}
+use Rattle.ocr_machine_rules.specs.Blocks as blocks
+use Rattle.ocr_machine_rules.proofs.Edts.{held_is}
 use Rattle.ocr_memory_model_order.specs.Pairs.{ended_mode}
 use Rattle.ocr_memory_model_order.specs.Loads.{is_store, names_word, writes_in, is_exclusive_in, is_back, writes, through, word_after, first_word, LastWrite, NoWrite, IsRaceFree, LoadedLaw}
 use Rattle.ocr_memory_model_order.proofs.Graphs.{graph_law}
@@ -75,12 +77,12 @@ is_block_of (part.Block st) P is = refl
 is_block_of other P is = absurd is
 
 -- a loan that comes back
-back_same : (s : Setting) (past : History) (by d w n : ℕ) (private : List (ℕ × ℕ)) → IsRun s past → is_running ((parts_of s past).core by) ≡ true → is_block ((parts_of s past).face d) ≡ true → (is_exclusive_in (hold_of s past by d) && names_word w private) ≡ false
+back_same : (s : Setting) (past : History) (by d w n : ℕ) (private : List (ℕ × ℕ)) → IsRun s past → is_running ((parts_of s past).core by) ≡ true → is_block ((parts_of s past).face d) ≡ true → (is_exclusive_in (blocks.held s past by d) && names_word w private) ≡ false
     → slice_index (block.contents n (return_calls by private (block_calls s past d))) w ≡ slice_index (block.contents n (block_calls s past d)) w
 back_same s past by d w n private run running there off = elim (is_number by (block.borrower_of (block_calls s past d))) as (λ b. is_number by (block.borrower_of (block_calls s past d)) ≡ b → slice_index (block.contents n (if b then block.TakeBack by private ∷ block_calls s past d else block_calls s past d)) w ≡ slice_index (block.contents n (block_calls s past d)) w) [
   | true ↦ λ lent.
       let held : hold_of s past by d ≡ Some mode.Ew = borrower_holds s past by d run running there lent in
-      written_other private (block.contents n (block_calls s past d)) w (sym (ap (λ o. is_exclusive_in o && names_word w private) held) ∙ off)
+      written_other private (block.contents n (block_calls s past d)) w (sym (ap (λ o. is_exclusive_in o && names_word w private) (held_is s past by d run ∙ held)) ∙ off)
   | false ↦ λ _. refl
 ] refl
 
@@ -92,7 +94,7 @@ call_same s past by home d w n (call.DbRelease b) a private run legal off = elim
       let both = and_both (is_done a.code) (b == d) on in
       let there : is_block ((parts_of s past).face d) ≡ true = subst (λ m. is_block ((parts_of s past).face m) ≡ true) (eqb-true b d both.1) (is_block_of ((parts_of s past).face b) _ (legal.on_parts.value.0 both.0)) in
       ap (λ x. slice_index (block.contents n (if x then end_calls by private (block_calls s past d) else block_calls s past d)) w) on
-      ∙ back_same s past by d w n private run legal.on_parts.running there (back_off (is_done a.code && false) (hold_of s past by d) (names_word w private) (is_done a.code && (b == d)) on off)
+      ∙ back_same s past by d w n private run legal.on_parts.running there (back_off (is_done a.code && false) (blocks.held s past by d) (names_word w private) (is_done a.code && (b == d)) on off)
   | inr none ↦ ap (λ x. slice_index (block.contents n (if x then end_calls by private (block_calls s past d) else block_calls s past d)) w) none
 ]
 call_same s past by home d w n (call.DbDestroy b) a private run legal off = elim (cases_Bool (is_done a.code && (b == d))) [
@@ -100,7 +102,7 @@ call_same s past by home d w n (call.DbDestroy b) a private run legal off = elim
       let both = and_both (is_done a.code) (b == d) on in
       let there : is_block ((parts_of s past).face d) ≡ true = subst (λ m. is_block ((parts_of s past).face m) ≡ true) (eqb-true b d both.1) (is_block_of ((parts_of s past).face b) _ (legal.on_parts.value.0 both.0)) in
       ap (λ x. slice_index (block.contents n (if x then doom_calls by private (block_calls s past d) else block_calls s past d)) w) on
-      ∙ back_same s past by d w n private run legal.on_parts.running there (back_off (is_done a.code && false) (hold_of s past by d) (names_word w private) (is_done a.code && (b == d)) on off)
+      ∙ back_same s past by d w n private run legal.on_parts.running there (back_off (is_done a.code && false) (blocks.held s past by d) (names_word w private) (is_done a.code && (b == d)) on off)
   | inr none ↦ ap (λ x. slice_index (block.contents n (if x then doom_calls by private (block_calls s past d) else block_calls s past d)) w) none
 ]
 call_same s past by home d w n (call.Store b k v) a private run legal off = elim (cases_Bool (is_done a.code && (b == d))) [
@@ -126,7 +128,7 @@ word_same s past (Free u b private) d w run legal there off = elim (cases_Bool (
   | inl on ↦
       let block_there : is_block ((parts_of s past).face d) ≡ true = subst (λ m. is_block ((parts_of s past).face m) ≡ true) (eqb-true b d on) (is_block_of ((parts_of s past).face b) _ legal.on_parts.held) in
       ap (λ x. slice_index (block.contents (size_in (made s past d)) (if x then end_calls u private (block_calls s past d) else block_calls s past d)) w) on
-      ∙ back_same s past u d w (size_in (made s past d)) private run legal.on_parts.running block_there (ap (λ x. is_exclusive_in (if x then hold_of s past u d else None) && names_word w private) (sym on) ∙ off)
+      ∙ back_same s past u d w (size_in (made s past d)) private run legal.on_parts.running block_there (ap (λ x. is_exclusive_in (if x then blocks.held s past u d else None) && names_word w private) (sym on) ∙ off)
   | inr none ↦ ap (λ x. slice_index (block.contents (size_in (made s past d)) (if x then end_calls u private (block_calls s past d) else block_calls s past d)) w) none
 ]
 word_same s past other d w run legal there off = refl
@@ -149,7 +151,7 @@ write_made s past e d w run legal is none = elim (or_cases (is_store d w e) (is_
   | inl store ↦ store_made s past e d w legal store none
   | inr back ↦
       let ended : ended_mode s d past e ≡ Some mode.Ew = exclusive_is (ended_mode s d past e) (and_both (is_exclusive_in (ended_mode s d past e)) (names_word w (writes_in e)) back).0 in
-      let by = ended_by s past e d mode.Ew legal ended in
+      let by = ended_by s past e d mode.Ew run legal ended in
       held_made s past by.0 d mode.Ew run by.1.held none
 ]
 

@@ -2,7 +2,6 @@
 use Rattle.std.proofs.Common.{◌≡◌, ℕ, List, Option, Some, None, refl, sym, ◌∙◌, ap}
 use Rattle.ocr_acquire.specs.declared.Mode.{Mode}
 use Rattle.ocr_body_meaning.specs.Behaviour.{IsNext}
-use Rattle.ocr_body_meaning.specs.Body.{says}
 use Rattle.ocr_body_meaning.specs.Holds.{Hold, Entered, load_of}
 use Rattle.ocr_body_meaning.specs.declared.call.Answer.{Answer}
 use Rattle.ocr_body_meaning.specs.declared.call.Call.TheVariants as call

@@ -33,6 +33,8 @@ use Rattle.ocr_memory_model_rows.specs.Places as order
 use Rattle.ocr_memory_model_rows.proofs.Reach.{or_left, or_right}
 use Rattle.ocr_memory_model_order.specs.Places.{entry_at, is_at, told_at}
 use Rattle.ocr_memory_model_order.specs.Causes.{graph_of}
+use Rattle.ocr_machine_rules.specs.Blocks as blocks
+use Rattle.ocr_machine_rules.proofs.Edts.{held_is}
 use Rattle.ocr_memory_model_order.specs.Pairs.{is_of, is_given_back, ended_mode, IsPair, in_order, ended as ended_pair, HappensBefore}
 use Rattle.ocr_memory_model_order.specs.Races.{is_store_in, stores, loads, accesses, AreUnordered}
 use Rattle.ocr_memory_model_order.specs.Loads.{IsRaceFree, is_store, names_word, writes_in, is_exclusive_in, is_back, WritesBeforeLaw}
@@ -192,17 +194,17 @@ if_some : (b : Bool) (o : Option Mode) (m : Mode) → (if b then o else None) �
 if_some true o m is = is
 if_some false o m is = cc is
 
-pub ended_by : (s : Setting) (past : History) (e : Entry) (d : ℕ) (m : Mode) → IsLegal s past e → ended_mode s d past e ≡ Some m → (u : ℕ) × IsEndedBy s past e d u m
-ended_by s past (Call t home c a w) d m legal is = (t, record { own = refl; running = legal.on_parts.running; held = if_some (is_done a.code && is_given_back c d) (hold_of s past t d) m is; no_acquire = λ v. refl })
-ended_by s past (Free t b w) d m legal is = (t, record { own = refl; running = legal.on_parts.running; held = if_some (b == d) (hold_of s past t d) m is; no_acquire = λ v. refl })
-ended_by s past other d m legal is = cc is
+pub ended_by : (s : Setting) (past : History) (e : Entry) (d : ℕ) (m : Mode) → IsRun s past → IsLegal s past e → ended_mode s d past e ≡ Some m → (u : ℕ) × IsEndedBy s past e d u m
+ended_by s past (Call t home c a w) d m run legal is = (t, record { own = refl; running = legal.on_parts.running; held = sym (held_is s past t d run) ∙ if_some (is_done a.code && is_given_back c d) (blocks.held s past t d) m is; no_acquire = λ v. refl })
+ended_by s past (Free t b w) d m run legal is = (t, record { own = refl; running = legal.on_parts.running; held = sym (held_is s past t d run) ∙ if_some (b == d) (blocks.held s past t d) m is; no_acquire = λ v. refl })
+ended_by s past other d m run legal is = cc is
 
 back_before : (s : Setting) (later : History) (e : Entry) (past : History) (x : Entry) (t d : ℕ) (j : Mode) → IsRun s (later ++ e ∷ past) → (t == 0) ≡ false → edt_in x ≡ t → hold_of s (later ++ e ∷ past) t d ≡ Some j → ended_mode s d past e ≡ Some mode.Ew
     → HappensBefore s (x ∷ (later ++ e ∷ past)) (length past) (length (later ++ e ∷ past))
 back_before s later e past x t d j run some own held is =
     let H : History = later ++ e ∷ past in
     let before : IsRun s (e ∷ past) = run_before s later (e ∷ past) run in
-    let by = ended_by s past e d mode.Ew before.1 is in
+    let by = ended_by s past e d mode.Ew before.0 before.1 is in
     let low : length past < length H = (let l = front_length later (e ∷ past) in omega (arith, l)) in
     let last : is_at (is_of t) (x ∷ H) (length H) ≡ true = new_at (is_of t) H x ∙ is_of_it H x t own some in
     elim (cases_Bool (t == by.0)) [

@@ -2,7 +2,7 @@
 -- set that off.
 use Rattle.std.specs.Prelude.{ℕ, ◌+◌, List, [], ◌∷◌, ◌++◌, length, reverse, Bool, false, ◌&&◌, not, ◌==◌, if◌then◌else◌, Option, Some, slice_index}
 use Rattle.std.specs.List.{zip}
-use Rattle.ocr_event_any.specs.declared.AnyEvent.TheVariants as any
+use Rattle.ocr_event_any.specs.declared.TheConstants.{LATCH, CHANNEL}
 use Rattle.ocr_body_meaning.specs.Holds.{is_done}
 use Rattle.ocr_body_meaning.specs.declared.call.Call as body
 use Rattle.ocr_body_meaning.specs.declared.call.Call.TheVariants as call
@@ -12,10 +12,8 @@ use Rattle.ocr_machine_history.specs.declared.entry.Message.{Message}
 use Rattle.ocr_machine_history.specs.declared.entry.What.{What}
 use Rattle.ocr_machine_history.specs.declared.entry.What.TheVariants as what
 use Rattle.ocr_machine_history.specs.History.{History, Setting}
-use Rattle.ocr_machine_parts.specs.declared.part.Part.{Part}
-use Rattle.ocr_machine_parts.specs.declared.part.Part.TheVariants as part
+use Rattle.ocr_machine_history.specs.Made.{Made, MadeEvent, MadeScope, made}
 use Rattle.ocr_machine_parts.specs.Calls.{is_object}
-use Rattle.ocr_machine_parts.specs.Parts.{parts_of}
 use Rattle.ocr_memory_model_order.specs.Places.{entry_at, places}
 
 -- SATISFACTIONS of an event: accepted calls, and messages that were not refused
@@ -101,21 +99,20 @@ matches_of past m x =
 
 -- of a latch every satisfaction, of a channel the matched one, of another event the first; of a
 -- scope every Leave
-abbrev pub set_off_with : History → ℕ → List ℕ → Part → List ℕ
-set_off_with past x matches (part.Event (any.Plain st)) = oldest (places (satisfies x) past)
-set_off_with past x matches (part.Event (any.Latch st)) = places (satisfies x) past
-set_off_with past x matches (part.Event (any.Channel st)) = matches
-set_off_with past x matches (part.Scope st) = places (leaves x) past
+abbrev pub set_off_with : History → ℕ → List ℕ → Option Made → List ℕ
+set_off_with past x matches (Some (MadeEvent k fl most)) =
+    if k == LATCH then places (satisfies x) past
+    else if k == CHANNEL then matches
+    else oldest (places (satisfies x) past)
+set_off_with past x matches (Some (MadeScope outer event)) = places (leaves x) past
 set_off_with past x matches other = []
 
-abbrev pub set_off_on : History → Message → ℕ → Part → List ℕ
-set_off_on past m x y = set_off_with past x (matches_of past m x) y
+abbrev pub set_off_by : Setting → History → Message → ℕ → List ℕ
+set_off_by s past m x = set_off_with past x (matches_of past m x) (made s past x)
 
 abbrev pub source_at : History → Message → ℕ
 source_at past m = source_of (entry_at past m.place) m.what
 
 -- where the message is delivered after this history
 abbrev pub makers : Setting → History → Message → List ℕ
-makers s past m =
-    m.place
-    ∷ set_off_on past m (source_at past m) ((parts_of s past).face (source_at past m))
+makers s past m = m.place ∷ set_off_by s past m (source_at past m)

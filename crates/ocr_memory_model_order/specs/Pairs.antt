@@ -1,6 +1,6 @@
 -- HAPPENS BEFORE. The pairs of entries of which one comes right before the other, and the smallest
 -- transitive relation with these pairs.
-use Rattle.std.specs.Prelude.{◌≡◌, ◌<◌, ℕ, ◌∷◌, Bool, true, false, ◌||◌, ◌&&◌, ◌==◌, if◌then◌else◌, Option, Some, None}
+use Rattle.std.specs.Prelude.{◌≡◌, ◌<◌, ℕ, Bool, true, false, ◌||◌, ◌&&◌, ◌==◌, if◌then◌else◌, Option, Some, None}
 use Rattle.ocr_acquire.specs.declared.Mode.{Mode}
 use Rattle.ocr_guid.specs.declared.Code.{Code}
 use Rattle.ocr_body_meaning.specs.Holds.{is_done}
@@ -18,7 +18,8 @@ use Rattle.ocr_machine_history.specs.Made.{makes, names_new}
 use Rattle.ocr_machine_history.specs.Numbers.{is_in}
 use Rattle.ocr_machine_parts.specs.Progress.{edt_in}
 use Rattle.ocr_machine_parts.specs.Legal.{IsRun}
-use Rattle.ocr_machine_laws.specs.Memory.{hold_of}
+pub use Rattle.ocr_machine_rules.specs.Blocks.{held}
+use Rattle.ocr_machine_rules.specs.Blocks.{next_mode}
 use Rattle.ocr_memory_model_rows.specs.Places.{Closure}
 use Rattle.ocr_memory_model_order.specs.Makers.{makers}
 use Rattle.ocr_memory_model_order.specs.Places.{entry_at, before, is_at, told_at}
@@ -58,14 +59,13 @@ is_given_back other d = false
 
 abbrev pub ended_mode : Setting → ℕ → History → Entry → Option Mode
 ended_mode s d past (Call t home c a w) =
-    if is_done a.code && is_given_back c d then hold_of s past t d else None
-ended_mode s d past (Free t b w) = if b == d then hold_of s past t d else None
+    if is_done a.code && is_given_back c d then held s past t d else None
+ended_mode s d past (Free t b w) = if b == d then held s past t d else None
 ended_mode s d past other = None
 
 -- it acquires the block in this mode
 abbrev pub acquired_mode : Setting → ℕ → History → Entry → Option Mode
-acquired_mode s d past (Acquire t b) =
-    if b == d then hold_of s (Acquire t b ∷ past) t d else None
+acquired_mode s d past (Acquire t b) = if b == d then Some (next_mode s past t) else None
 acquired_mode s d past other = None
 
 -- THE PAIRS

@@ -22,6 +22,7 @@ pub use blocks::blocks_text;
 pub use edts::left as left_edts;
 pub use laws::races_text_laws;
 pub use left::left_text;
+pub use ocr_memory_model::order_laws;
 pub use races::{push_races, races_text};
 pub use refused::refused_text;
 pub use stale::stale_text;

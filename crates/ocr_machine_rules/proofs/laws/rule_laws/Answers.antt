@@ -1,7 +1,7 @@
-use Rattle.ocr_machine_rules.proofs.Blocks.{contents_is}
+use Rattle.ocr_machine_rules.proofs.Blocks.{contents_is, line_is}
 use Rattle.ocr_machine_rules.proofs.Edts.{plan_is, next_is, held_is}
 use Rattle.ocr_machine_rules.proofs.Events.{destroyed_is}
-use Rattle.ocr_machine_rules.proofs.Whole.{line_is, code_is, says_is, legal_is, run_is, quiet_is, creating_is, weighed_is}
+use Rattle.ocr_machine_rules.proofs.Whole.{code_is, says_is, legal_is, run_is, quiet_is, creating_is, weighed_is}
 use Rattle.ocr_machine_rules.proofs.Messages.{pending_is}
 use Rattle.ocr_machine_rules.proofs.laws.rule_laws.Goals as goal
 

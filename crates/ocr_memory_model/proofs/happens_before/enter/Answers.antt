@@ -21,4 +21,4 @@ returns-clause-table c = λ s next. c.in_ok-enter.ensures.table s (history_of c.
 pub returns-clause-past : goal.returns-clause-past
 returns-clause-past c = λ s next.
     c.in_ok-note.ensures s (history_of c.args.entries.now) next.told (c.in_ok-row.ensures s next)
-    (c.ended_mode-mode.ensures s (history_of c.args.entries.now) next.before.of next.before.legal)
+    (c.ended_mode-mode.ensures s (history_of c.args.entries.now) next.before.of next.before.run next.before.legal)

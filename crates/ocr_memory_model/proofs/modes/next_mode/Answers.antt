@@ -2,7 +2,8 @@ use Rattle.std.proofs.Common.{sym, ◌∙◌}
 use Rattle.ocr_machine_parts.specs.Calls.{plan_of}
 use Rattle.ocr_machine_parts.specs.Parts.{parts_of}
 use Rattle.ocr_machine_parts.specs.Progress.{next_on, next_mode_on, ready_at}
-use Rattle.ocr_memory_model.proofs.Tells.{acquired_is, next_same_mode, next_none}
+use Rattle.ocr_memory_model_order.proofs.Modes.{acquired_is}
+use Rattle.ocr_memory_model.proofs.Tells.{next_same_mode, next_none}
 use Rattle.ocr_memory_model.proofs.modes.next_mode.Goals as goal
 
 pub returns-in-Some : goal.returns-in-Some
