@@ -136,21 +136,26 @@ caused : (t : OcrTerms) (v : OcrView) (workers : ℕ) (before : List Entry) (why
 caused t v workers before by.Objects some most b =
     let lacks = b.has.short (b.stops.j, b.stops.log, b.stops.here, b.stops.ends) in
     let free = free_few (of_terms t) (reverse before) v.drawn b.run (b.numbers lacks.reached) in
-    let held = lacks.few in
-    (lacks.edt, lacks.call.value, record {
+    let held = lacks.few in (
+      lacks.edt,
+      lacks.call.value,
+      record {
         creating = (creating_is (of_terms t) (reverse before) lacks.edt lacks.call.value b.run).0 (could_come t before lacks.edt lacks.call (b.facts lacks.known.0 (Short lacks.edt lacks.call) lacks.known.1));
         short = omega arith;
-      })
+      },
+    )
 caused t v workers before (by.Events worker k) some most b =
     let weighed = b.cause in
     let own = ends_by workers t.share b.stops.log (by.Events worker k) (all_at (IsLog workers t.share) (v.log ∷ v.joined) b.stops.j b.stops.log b.has.each b.stops.here) b.stops.ends in
     let load = load_within (v.log ∷ v.joined) b.stops.j b.stops.log b.stops.here in
-    let past = own.2 in let all = b.weighs in
-    (weighed.0, record {
+    let past = own.2 in let all = b.weighs in (
+      weighed.0,
+      record {
         number = (own.0, own.1);
         weighed = (weighed_is (of_terms t) (reverse before) weighed.0 k most b.run b.going).0 weighed.1;
         past_share = omega arith;
-      })
+      },
+    )
 caused t v workers before other some most b = tt
 
 limited_open : (s : history.Setting) (workers share : ℕ) (past : History) → is_stopped past ≡ false → IsLimitedBy s workers share past
