@@ -133,7 +133,7 @@ could_come t before edt c st =
     subst (λ (past : History). IsCreating (of_terms t) past edt c.value) (cc same) st.creating
 
 caused : (t : OcrTerms) (v : OcrView) (workers : ℕ) (before : List Entry) (why : run.Stop) → 1 ≤ workers → t.limit ≤ MOST_MEMBERS → Before t v workers before why → IsLimitCause (of_terms t) workers t.share (reverse before) why
-caused t v workers before by.Objects some most b =
+caused t v workers before by.Objects hired most b =
     let lacks = b.has.short (b.stops.j, b.stops.log, b.stops.here, b.stops.ends) in
     let free = free_few (of_terms t) (reverse before) v.drawn b.run (b.numbers lacks.reached) in
     let held = lacks.few in (
@@ -144,7 +144,7 @@ caused t v workers before by.Objects some most b =
         short = omega arith;
       },
     )
-caused t v workers before (by.Events worker k) some most b =
+caused t v workers before (by.Events worker k) hired most b =
     let weighed = b.cause in
     let own = ends_by workers t.share b.stops.log (by.Events worker k) (all_at (IsLog workers t.share) (v.log ∷ v.joined) b.stops.j b.stops.log b.has.each b.stops.here) b.stops.ends in
     let load = load_within (v.log ∷ v.joined) b.stops.j b.stops.log b.stops.here in
@@ -156,7 +156,7 @@ caused t v workers before (by.Events worker k) some most b =
         past_share = omega arith;
       },
     )
-caused t v workers before other some most b = tt
+caused t v workers before other hired most b = tt
 
 limited_open : (s : history.Setting) (workers share : ℕ) (past : History) → is_stopped past ≡ false → IsLimitedBy s workers share past
 limited_open s workers share [] goes = tt
@@ -167,7 +167,7 @@ limited_last : (s : history.Setting) (workers share : ℕ) (past : History) (e :
 limited_last s workers share past (an.Stop why) is cause = cause why refl
 limited_last s workers share past other is cause = absurd (cc is)
 
-module _ (t : OcrTerms) (v : OcrView) (workers : ℕ) (logs : List (List (ℕ × Entry))) (f : Finished meaning t v logs) (some : 1 ≤ workers) (most : t.limit ≤ MOST_MEMBERS) (has : HasLogs workers t.share workers v) where
+module _ (t : OcrTerms) (v : OcrView) (workers : ℕ) (logs : List (List (ℕ × Entry))) (f : Finished meaning t v logs) (hired : 1 ≤ workers) (most : t.limit ≤ MOST_MEMBERS) (has : HasLogs workers t.share workers v) where
   known : (before : List Entry) (why : run.Stop) → f.history ≡ before ++ an.Stop why ∷ [] → Open is_stop before → Before t v workers before why
   known before why whole is_open =
       let s = of_terms t in
@@ -197,7 +197,7 @@ module _ (t : OcrTerms) (v : OcrView) (workers : ℕ) (logs : List (List (ℕ ×
       let same : f.history ≡ ended.past ++ ended.last ∷ [] = ended.whole in
       subst (IsLimitedBy (of_terms t) workers t.share) (sym (ap reverse same ∙ reverse_snoc ended.past ended.last))
       (limited_last (of_terms t) workers t.share (reverse ended.past) ended.last ended.stop
-      (λ why is. caused t v workers ended.past why some most (known ended.past why (same ∙ ap (λ (e : Entry). ended.past ++ e ∷ []) is) ended.open_before))))
+      (λ why is. caused t v workers ended.past why hired most (known ended.past why (same ∙ ap (λ (e : Entry). ended.past ++ e ∷ []) is) ended.open_before))))
       f.ends
 
   within : weight (reverse f.history) ≤ (workers + 1) * t.share
@@ -210,8 +210,8 @@ module _ (t : OcrTerms) (v : OcrView) (workers : ℕ) (logs : List (List (ℕ ×
       omega (arith, all, light, bound)
 
 pub whole : (t : OcrTerms) (v : OcrView) (workers : ℕ) (logs : List (List (ℕ × Entry))) (f : Finished meaning t v logs) → 1 ≤ workers → 2 ≤ t.limit → t.limit ≤ MOST_MEMBERS → HasLogs workers t.share workers v → KnowsEnd v → IsWholeRun (of_terms t) workers t.share f.history
-whole t v workers logs f some few most has knows = record {
+whole t v workers logs f hired few most has knows = record {
   run = run_is t.setting.value t.limit f.history f.run;
   finished = finished t v logs f few most knows;
-  limited = record { within = within t v workers logs f some most has; cause = limited t v workers logs f some most has };
+  limited = record { within = within t v workers logs f hired most has; cause = limited t v workers logs f hired most has };
 }
