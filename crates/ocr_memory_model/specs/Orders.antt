@@ -1,6 +1,8 @@
--- The order of a run.
+-- The order of a run, with the state and the setting of one, handed on.
 use Rattle.ocr_machine_history.specs.History.{History, Setting}
 use Rattle.ocr_machine_parts.specs.Legal.{IsRun}
+pub use Rattle.ocr_machine_state.specs.State.{IsStateOf, face_on}
+pub use Rattle.ocr_worker_machine.specs.Ocr.{setting_in}
 use Rattle.ocr_memory_model_rows.specs.Order.{IsOrder}
 use Rattle.ocr_memory_model_order.specs.Causes.{graph_of}
 use Rattle.ocr_memory_model.specs.declared.happens_before.HappensBefore.{HappensBefore}

@@ -17,7 +17,9 @@ mod walk;
 
 pub use happens_before::{HappensBefore, MOST_ORDERED, order};
 pub use laws::race_laws;
+pub use ocr_machine_state::State;
 pub use ocr_memory_model_order::order_laws;
+pub use ocr_worker_machine::Setting;
 pub use race::{Race, races};
 pub use stop::OrderStop;
 pub use walk::{Pair, Touches};

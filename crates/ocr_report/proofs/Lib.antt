@@ -1,3 +1,4 @@
+pub mod BlocksText
 pub mod Counts
 pub mod Doomed
 pub mod Made

@@ -4,7 +4,7 @@ use Rattle.std.specs.List.{range_with_len}
 use Rattle.std.proofs.lemmas.List.Elements.{filter-append}
 use Rattle.ocr_machine_parts.specs.declared.part.Part.{Part}
 use Rattle.ocr_machine_parts.specs.Kinds.{is_block}
-use Rattle.ocr_report.specs.Blocks.{blocks_to}
+use Rattle.ocr_report.specs.Faces.{blocks_to}
 use Rattle.ocr_report.proofs.Opened.{one_more}
 
 last_if : (b : Bool) (xs : List ℕ) (n : ℕ) → xs ++ (if b then n ∷ [] else []) ≡ (if b then xs ++ n ∷ [] else xs)

@@ -8,8 +8,9 @@ use Rattle.ocr_event.specs.Event as event
 use Rattle.ocr_latch.specs.Latch as latch
 use Rattle.ocr_event_any.specs.declared.TheConstants.{ONCE, LATCH}
 use Rattle.ocr_machine_history.specs.History.{History}
+use Rattle.ocr_machine_rules.specs.Blocks.{was_destroyed}
 use Rattle.ocr_report.specs.declared.destroyed.Ends.{Ends}
-use Rattle.ocr_report.specs.Destroyed.{is_destroyed, was_destroyed}
+use Rattle.ocr_report.specs.Destroyed.{is_destroyed}
 use Rattle.ocr_report.specs.Ends.{AreEnds, is_ended}
 use Rattle.ocr_report.specs.Fired.{is_fired, kind_of, satisfactions_of, satisfied_after, satisfied_in}
 use Rattle.ocr_report.specs.Tallies.{IsCountable, is_fired_by, kind_at, tally_after, tally_in, tally_of}

@@ -1,10 +1,10 @@
 -- One entry more among the uses of destroyed objects.
-use Rattle.std.proofs.Common.{◌≡◌, ◌∙◌, ℕ, List, [], ◌∷◌, ◌++◌, Bool, ◌||◌, if◌then◌else◌, refl, ap, codes}
+use Rattle.std.proofs.Common.{◌≡◌, ◌∙◌, ℕ, List, [], ◌∷◌, ◌++◌, Bool, if◌then◌else◌, refl, ap, codes}
 use Rattle.ocr_machine_history.specs.declared.entry.Entry.{Entry}
 use Rattle.ocr_machine_history.specs.declared.entry.Entry.TheVariants as an
 use Rattle.ocr_machine_history.specs.History.{History}
 use Rattle.ocr_journal.specs.Phrase.{Text, phrase}
-use Rattle.ocr_report.specs.Destroyed.{is_destroyed, is_victim, victim_in, was_destroyed, told_lines}
+use Rattle.ocr_report.specs.Destroyed.{is_destroyed, told_lines}
 use Rattle.ocr_report.specs.Stale.{stale_line, first_stale, objects_of}
 use Rattle.ocr_machine_history.specs.Stale.{is_stale}
 
@@ -29,7 +29,3 @@ pub lines_next : (past : History) (e : Entry) (f : ℕ → Bool) (old new : Text
     → old ≡ told_lines past → new ≡ old ++ stale_line f e → new ≡ told_lines (e ∷ past)
 lines_next past e f old new same is made =
     made ∙ ap (λ (x : Text). x ++ stale_line f e) is ∙ ap (λ (x : Text). told_lines past ++ x) (line_same f (is_destroyed past) same e)
-
-pub destroyed_next : (past : History) (e : Entry) (f g : ℕ → Bool) → ((n : ℕ) → f n ≡ was_destroyed past n)
-    → ((n : ℕ) → g n ≡ (is_victim (victim_in e) n || f n)) → (n : ℕ) → g n ≡ was_destroyed (e ∷ past) n
-destroyed_next past e f g same made n = made n ∙ ap (λ b. is_victim (victim_in e) n || b) (same n)

@@ -4,8 +4,8 @@ use Rattle.std.specs.Ordering.{nat_cmp}
 use Rattle.std.specs.BTreeMap.{get}
 use Rattle.std.specs.BTreeSet.{contains}
 use Rattle.ocr_machine_history.specs.History.{History}
+use Rattle.ocr_machine_rules.specs.Blocks.{was_destroyed}
 use Rattle.ocr_report.specs.declared.destroyed.Ends.{Ends}
-use Rattle.ocr_report.specs.Destroyed.{was_destroyed}
 use Rattle.ocr_report.specs.Tallies.{AreKinds, AreTallies, is_fired_by, kind_at}
 
 -- destroyed by a call, or by firing

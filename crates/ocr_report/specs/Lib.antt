@@ -2,6 +2,7 @@ pub mod Blocks
 pub mod Destroyed
 pub mod Edts
 pub mod Ends
+pub mod Faces
 pub mod Fired
 pub mod Headed
 pub mod Left

@@ -9,8 +9,7 @@ use Rattle.ocr_machine_history.specs.declared.entry.What.{What}
 use Rattle.ocr_machine_history.specs.declared.entry.What.TheVariants as what
 use Rattle.ocr_machine_history.specs.History.{History, Setting}
 use Rattle.ocr_machine_history.specs.Stale.{is_stale, stale_uses}
-use Rattle.ocr_machine_parts.specs.Parts.{parts_of}
-use Rattle.ocr_machine_parts.specs.Kinds.{is_destroyed}
+use Rattle.ocr_machine_rules.specs.Events.{is_destroyed}
 use Rattle.ocr_journal.specs.Phrase.{Text, phrase}
 use Rattle.ocr_report.specs.Headed.{headed}
 
@@ -48,7 +47,7 @@ stale_line destroyed other = []
 abbrev pub stale_lines : Setting → History → Text
 stale_lines s [] = []
 stale_lines s (e ∷ past) =
-    stale_lines s past ++ stale_line (λ g. is_destroyed ((parts_of s past).face g)) e
+    stale_lines s past ++ stale_line (is_destroyed s past) e
 
 abbrev pub stale_text : Setting → History → Text
 stale_text s past = headed (codes "stale") (length (stale_uses past)) (stale_lines s past)

@@ -1,15 +1,14 @@
 // The parts of the machine after a run.
 ghost use Rattle.std.specs.Prelude.{◌≡◌, ◌≤◌, length, IfOk};
-ghost use Rattle.ocr_worker_machine.specs.Ocr.{setting_in};
+ghost use Rattle.ocr_memory_model.specs.Orders.{setting_in};
 ghost use Rattle.ocr_machine_history.specs.History.{history_of};
 ghost use Rattle.ocr_machine_parts.specs.Legal.{IsRun};
-ghost use Rattle.ocr_machine_state.specs.State.{IsStateOf};
+ghost use Rattle.ocr_memory_model.specs.Orders.{IsStateOf};
 
 use ocr_base::NoMemory;
 use ocr_machine_history::Entry;
 use ocr_machine_parts::event_laws;
-use ocr_machine_state::State;
-use ocr_worker_machine::Setting;
+use ocr_memory_model::{Setting, State};
 use std::alloc::Global;
 
 /// The table of a run after all its entries.

@@ -2,13 +2,13 @@
 ghost use Rattle.std.specs.Prelude.{◌≡◌, ◌++◌, ◌≤◌, length, OnOk, IfOk};
 ghost use Rattle.std.specs.List.{flat_map};
 ghost use Rattle.ocr_datablock.specs.Block.{is_gone};
-ghost use Rattle.ocr_worker_machine.specs.Ocr.{setting_in};
+ghost use Rattle.ocr_memory_model.specs.Orders.{setting_in};
 ghost use Rattle.ocr_machine_history.specs.History.{history_of};
 ghost use Rattle.ocr_machine_parts.specs.Kinds.{is_block};
-ghost use Rattle.ocr_machine_parts.specs.declared.part.Part.TheVariants as part;
 ghost use Rattle.ocr_machine_parts.specs.Legal.{IsRun};
 ghost use Rattle.ocr_report.specs.Blocks as spec;
-ghost use Rattle.ocr_machine_state.specs.State.{face_on};
+ghost use Rattle.ocr_report.specs.Faces as told;
+ghost use Rattle.ocr_memory_model.specs.Orders.{face_on};
 
 use crate::after::table_after;
 use crate::headed::{headed, line};
@@ -17,8 +17,7 @@ use ocr_datablock::Block;
 use ocr_journal::phrase;
 use ocr_machine_history::Journal;
 use ocr_machine_parts::Part;
-use ocr_machine_state::State;
-use ocr_worker_machine::Setting;
+use ocr_memory_model::{Setting, State};
 use std::alloc::Global;
 
 // Whether an object is a block.
@@ -32,7 +31,7 @@ fn is_block(table: &State, object: u64) -> bool
 #[tactic(auto, using(crate::proofs::Numbered::blocks_more))]
 fn blocks(alloc: Global, table: &State) -> Result<Vec<u64>, NoMemory>
     ensures { IfOk result (λ blocks.
-        blocks.items ≡ spec.blocks_to (face_on table.now) table.now.limit) }
+        blocks.items ≡ told.blocks_to (face_on table.now) table.now.limit) }
 {
     let mut blocks = Vec::new(alloc);
     for below in 0..table.limit {
@@ -55,8 +54,8 @@ fn state_words(block: &Block) -> &'static [u8]
 
 // Writes the line of a block.
 fn block_line(text: &mut Vec<u8>, number: u64, block: &Block) -> Result<(), NoMemory>
-    ensures { OnOk result (text.new.items
-        ≡ text.old.items ++ spec.block_line number (part.Block block.now)) }
+    ensures { OnOk result (text.new.items ≡ text.old.items
+        ++ spec.block_line number block.now.size block.now.destroyed (is_gone block.now)) }
 {
     phrase(text, b"block", &[number])?;
     phrase(text, b" words", &[u64::from(block.words())])?;
@@ -66,7 +65,7 @@ fn block_line(text: &mut Vec<u8>, number: u64, block: &Block) -> Result<(), NoMe
 // Writes the line of an object, where it is a block.
 fn line_of(text: &mut Vec<u8>, table: &State, object: u64) -> Result<(), NoMemory>
     ensures { OnOk result (text.new.items
-        ≡ text.old.items ++ spec.block_line object (face_on table.now object)) }
+        ≡ text.old.items ++ told.line_on object (face_on table.now object)) }
 {
     match table.face(object) {
         Some(Part::Block(block)) => block_line(text, object, block.get()),
@@ -76,7 +75,7 @@ fn line_of(text: &mut Vec<u8>, table: &State, object: u64) -> Result<(), NoMemor
 
 fn block_lines(alloc: Global, table: &State, blocks: &[u64]) -> Result<Vec<u8>, NoMemory>
     ensures { IfOk result (λ text.
-        text.items ≡ flat_map (λ d. spec.block_line d (face_on table.now d)) blocks.now) }
+        text.items ≡ flat_map (λ d. told.line_on d (face_on table.now d)) blocks.now) }
 {
     let mut text = Vec::new(alloc);
     for block in blocks {
@@ -88,7 +87,7 @@ fn block_lines(alloc: Global, table: &State, blocks: &[u64]) -> Result<Vec<u8>, 
 // The report on the blocks of a table.
 fn blocks_in(alloc: Global, table: &State) -> Result<Vec<u8>, NoMemory>
     ensures { IfOk result (λ text.
-        text.items ≡ spec.blocks_in (face_on table.now) table.now.limit) }
+        text.items ≡ told.blocks_in (face_on table.now) table.now.limit) }
 {
     let made = blocks(alloc, table)?;
     let blocks = made.as_slice();

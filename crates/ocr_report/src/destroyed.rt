@@ -5,6 +5,7 @@ ghost use Rattle.std.specs.BTreeMap as map;
 ghost use Rattle.std.specs.BTreeSet as set;
 ghost use Rattle.ocr_machine_history.specs.History as history;
 ghost use Rattle.ocr_machine_history.specs.History.{history_of};
+ghost use Rattle.ocr_machine_rules.specs.Blocks as rules;
 ghost use Rattle.ocr_report.specs.Destroyed as spec;
 ghost use Rattle.ocr_report.specs.Ends as end;
 ghost use Rattle.ocr_report.specs.Tallies as tally;
@@ -20,7 +21,7 @@ use std::collections::{BTreeMap, BTreeSet};
 
 // The object that a call is to destroy.
 fn victim_of(call: &Call) -> Option<u64>
-    ensures { result ≡ spec.victim_of call.now }
+    ensures { (g : ℕ) → spec.is_victim result g ≡ rules.destroys call.now g }
 {
     match call {
         Call::DbDestroy { block } => Some(*block),
@@ -32,7 +33,8 @@ fn victim_of(call: &Call) -> Option<u64>
 
 // The object that an entry destroys.
 fn victim_in(entry: &Entry) -> Option<u64>
-    ensures { result ≡ spec.victim_in entry.now }
+    ensures { (past : history.History) (g : ℕ) → (spec.is_victim result g
+        || rules.was_destroyed past g) ≡ rules.was_destroyed (entry.now ∷ past) g }
 {
     match entry {
         Entry::Call {
@@ -49,8 +51,9 @@ fn victim_in(entry: &Entry) -> Option<u64>
 
 // Adds what a call destroys.
 fn destroy(victims: &mut BTreeSet<u64>, entry: &Entry) -> Result<(), NoMemory>
-    ensures { OnOk result ((g : ℕ) → set.contains nat_cmp victims.new g
-        ≡ spec.is_victim (spec.victim_in entry.now) g || set.contains nat_cmp victims.old g) }
+    ensures { OnOk result ((past : history.History) (g : ℕ)
+        → set.contains nat_cmp victims.old g ≡ rules.was_destroyed past g
+        → set.contains nat_cmp victims.new g ≡ rules.was_destroyed (entry.now ∷ past) g) }
 {
     if let Some(victim) = victim_in(entry) {
         add(victims, victim)?;

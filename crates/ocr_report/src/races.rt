@@ -1,7 +1,7 @@
 // The races of a run.
 ghost use Rattle.std.specs.Prelude.{◌≡◌, ◌++◌, ◌≤◌, ◌<◌, ◌*◌, ◌^◌, [], ◌∷◌, length, ℕ, List, OnOk, IfOk};
 ghost use Rattle.std.specs.List.{flat_map};
-ghost use Rattle.ocr_worker_machine.specs.Ocr.{setting_in};
+ghost use Rattle.ocr_memory_model.specs.Orders.{setting_in};
 ghost use Rattle.ocr_machine_history.specs.History as history;
 ghost use Rattle.ocr_machine_history.specs.History.{History, history_of};
 ghost use Rattle.ocr_memory_model.specs.Orders.{Orders};
@@ -17,8 +17,7 @@ use crate::headed::line;
 use ocr_base::NoMemory;
 use ocr_journal::phrase;
 use ocr_machine_history::Journal;
-use ocr_memory_model::{HappensBefore, OrderStop, Pair, Race, Touches, order};
-use ocr_worker_machine::Setting;
+use ocr_memory_model::{HappensBefore, OrderStop, Pair, Race, Setting, Touches, order};
 use std::alloc::Global;
 
 // How many races there are.

@@ -1,7 +1,7 @@
 use Rattle.std.proofs.Common.{◌<◌, arith, take, refl, sym, subst}
-use Rattle.ocr_worker_machine.specs.Ocr.{setting_in}
+use Rattle.ocr_memory_model.specs.Orders.{setting_in}
 use Rattle.ocr_machine_history.specs.History.{History, history_of}
-use Rattle.ocr_machine_state.specs.State.{IsStateOf}
+use Rattle.ocr_memory_model.specs.Orders.{IsStateOf}
 use Rattle.ocr_memory_model.proofs.Entered.{may_enter, few_counted}
 use Rattle.ocr_report.proofs.after.table_after.Goals as goal
 use Rattle.ocr_machine_history.proofs.Fronts.{history_next}

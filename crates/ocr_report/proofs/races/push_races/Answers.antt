@@ -1,6 +1,6 @@
 use Rattle.std.proofs.Common.{◌++◌, List, length, Err, sym, ap, ◌∙◌}
 use Rattle.std.proofs.lemmas.List.{length-reverse}
-use Rattle.ocr_worker_machine.specs.Ocr.{setting_in}
+use Rattle.ocr_memory_model.specs.Orders.{setting_in}
 use Rattle.ocr_machine_history.specs.declared.entry.Entry.{Entry}
 use Rattle.ocr_machine_history.specs.History.{history_of}
 use Rattle.ocr_report.specs.Races.{races_told, races_unknown, told, unknown}
