@@ -17,6 +17,6 @@ pub use laws::{block_laws, event_laws, machine_laws, run_laws, settled_laws};
 pub use loans::{Kept, Loans};
 pub use messages::{sent_by_end, sent_if_done};
 pub use part::{Core, Part, Stepped};
-pub use readiness::{first, next_with, plan_with, ready_core, start_core};
+pub use readiness::{ask_one, first, next_of, next_with, plan_with, ready, ready_core, start_core};
 pub use words::copied_words;
 pub use writes::listed_writes;

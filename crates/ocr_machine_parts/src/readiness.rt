@@ -70,15 +70,24 @@ fn ready_edt(alloc: Global, edt: Edt, slots: &Slots, payloads: &[Guid]) -> Resul
     requires { length payloads.now ≡ length slots.now }
     ensures { IfOk result (λ e. e ≡ made_ready (plan_from slots.now payloads.now) edt) }
 {
+    if !is_filling(&edt) {
+        return Ok(edt);
+    }
+    Ok(ready(edt, plan_with(alloc, slots, payloads)?))
+}
+
+/// Makes an EDT ready with this plan, where it is not ready yet.
+#[inline(always)]
+pub fn ready(edt: Edt, members: Plan) -> Edt
+    requires { IsWellFormed members.items }
+    ensures { result ≡ made_ready members.items edt }
+{
     match edt {
-        Edt::Filling(filling) => {
-            let plan = plan_with(alloc, slots, payloads)?;
-            Ok(Edt::Acquiring(filling.ready(plan)))
-        }
-        Edt::Acquiring(acquiring) => Ok(Edt::Acquiring(acquiring)),
-        Edt::Waiting(waiting) => Ok(Edt::Waiting(waiting)),
-        Edt::Running(running) => Ok(Edt::Running(running)),
-        Edt::Ended(ended) => Ok(Edt::Ended(ended)),
+        Edt::Filling(filling) => Edt::Acquiring(filling.ready(members)),
+        Edt::Acquiring(acquiring) => Edt::Acquiring(acquiring),
+        Edt::Waiting(waiting) => Edt::Waiting(waiting),
+        Edt::Running(running) => Edt::Running(running),
+        Edt::Ended(ended) => Edt::Ended(ended),
     }
 }
 
@@ -104,24 +113,28 @@ fn asks(alloc: Global, slots: &Slots, payloads: &[Guid]) -> Result<Vec<(Guid, Mo
 {
     let mut asks = Vec::new(alloc);
     for k in 0..slots.depc() {
-        ask_one(&mut asks, slots, k, payloads[k as usize])?;
+        ask_one(&mut asks, slots, k, Some(payloads[k as usize]))?;
     }
     Ok(asks)
 }
 
-// What one slot asks for, set to this payload.
-fn ask_one(
+/// Adds what a slot asks for: the payload that it is set to, in its mode; nothing where it is not
+/// set or not linked.
+#[inline(always)]
+pub fn ask_one(
     asks: &mut Vec<(Guid, Mode)>,
     slots: &Slots,
     slot: u32,
-    payload: Guid,
+    payload: Option<Guid>,
 ) -> Result<(), NoMemory>
     requires { slot < length slots.now }
     ensures { IfOk result (λ _. asks.new.items
-        ≡ asks.old.items ++ asks_of (Some payload) (slot_at slots.now slot).mode) }
+        ≡ asks.old.items ++ asks_of payload (slot_at slots.now slot).mode) }
 {
     if slots.is_linked(slot) {
-        asks.push((payload, slots.mode(slot)))?;
+        if let Some(payload) = payload {
+            asks.push((payload, slots.mode(slot)))?;
+        }
     }
     Ok(())
 }
@@ -146,10 +159,20 @@ pub fn next_with(
             let plan = plan_with(alloc, slots, payloads)?;
             Ok(first(plan.as_slice()))
         }
-        Edt::Acquiring(acquiring) => Ok(acquiring.next()),
-        Edt::Waiting(waiting) => Ok(Some(waiting.next())),
-        Edt::Running(_) => Ok(None),
-        Edt::Ended(_) => Ok(None),
+        made => Ok(next_of(made)),
+    }
+}
+
+/// The block that an EDT acquires next or waits for; None where its plan is not made, and where it
+/// has acquired it.
+#[inline(always)]
+pub fn next_of(edt: &Edt) -> Option<(Guid, Mode)>
+    ensures { result ≡ next_in (progress_in edt.now) }
+{
+    match edt {
+        Edt::Acquiring(acquiring) => acquiring.next(),
+        Edt::Waiting(waiting) => Some(waiting.next()),
+        Edt::Filling(_) | Edt::Running(_) | Edt::Ended(_) => None,
     }
 }
 

@@ -22,7 +22,7 @@ use Rattle.ocr_machine_parts.specs.declared.loans.Kept.{Kept}
 use Rattle.ocr_machine_parts.specs.declared.part.Core.{Core}
 use Rattle.ocr_machine_parts.specs.declared.part.Part.{Part}
 use Rattle.ocr_machine_parts.specs.declared.part.Part.TheVariants as part
-use Rattle.ocr_machine_parts.specs.Calls.{link_calls, set_calls, set_step, depc_of, open_slots, payload_or_null, payloads_of, depv_of, depv_in, value_of_slot, edt_calls, loans_of, slots_now, plan_of, asks_in}
+use Rattle.ocr_machine_parts.specs.Calls.{link_calls, set_calls, set_step, depc_of, open_slots, payload_or_null, payloads_of, depv_of, depv_in, value_of_slot, edt_calls, loans_of, slots_now, plan_of, asks_of, asks_in}
 use Rattle.ocr_machine_parts.specs.Effects.{changed}
 use Rattle.ocr_machine_parts.specs.Progress.{readied, readied_on, edt_in, ready_at, with_core, with_phase, made_ready, next_on}
 use Rattle.ocr_machine_parts.specs.Kinds.{on_core, core_progress, next_in, is_running}
@@ -311,6 +311,12 @@ pub filled_more : (slots : List Slot) (calls : List SlotCall) (k : ℕ) → k < 
 filled_more slots calls k below =
     let next : drop k slots ≡ slot_at slots k ∷ drop (k + 1) slots = grind (arith, common_steps) in
     rw next refl
+
+pub asks_more : (xs : List (ℕ × Mode)) (slots : List Slot) (calls : List SlotCall) (k : ℕ) → k < length slots
+    → (xs ++ asks_of (payload_of calls k) (slot_at slots k).mode) ++ asks_in (filled (k + 1) (drop (k + 1) slots) calls) ≡ xs ++ asks_in (filled k (drop k slots) calls)
+asks_more xs slots calls k below =
+    append_assoc xs (asks_of (payload_of calls k) (slot_at slots k).mode) (asks_in (filled (k + 1) (drop (k + 1) slots) calls))
+    ∙ sym (ap (λ (rest : List Slot). xs ++ asks_in rest) (filled_more slots calls k below))
 
 pub set_more : (slots : List Slot) (calls : List SlotCall) (k : ℕ) → k < length slots → is_some (payload_of calls k) ≡ true
     → are_set (filled k (drop k slots) calls) ≡ are_set (filled (k + 1) (drop (k + 1) slots) calls)

@@ -22,7 +22,7 @@ use ocr_base::NoMemory;
 use ocr_edt::Edt;
 use ocr_guid::Guid;
 use ocr_machine_history::Entry;
-use ocr_machine_parts::{Core, Part, first};
+use ocr_machine_parts::{Part, ask_one, first, next_of, ready};
 use ocr_slots::Slots;
 use std::alloc::Global;
 
@@ -32,11 +32,7 @@ fn asks(alloc: Global, slots: &Slots, sets: &Sets) -> Result<Vec<(Guid, Mode)>, 
 {
     let mut asks = Vec::new(alloc);
     for k in 0..slots.depc() {
-        if slots.is_linked(k) {
-            if let Some(payload) = sets.payload(k) {
-                asks.push((payload, slots.mode(k)))?;
-            }
-        }
+        ask_one(&mut asks, slots, k, sets.payload(k))?;
     }
     Ok(asks)
 }
@@ -118,7 +114,7 @@ impl State {
         let Some(Part::Core(core)) = self.core(edt) else {
             return Ok(None);
         };
-        Ok(next_of(core.get()))
+        Ok(next_of(&core.get().edt))
     }
 
     /// Whether every slot of an EDT is set.
@@ -291,19 +287,6 @@ fn is_used(slots: &Slots, slot: u32) -> bool
     slots.is_linked(slot) && slots.mode(slot) != Mode::Null
 }
 
-/// The block that an EDT with this core acquires next, where its plan is made.
-fn next_of(core: &Core) -> Option<(Guid, Mode)>
-    ensures { result ≡ next_in (core_progress (part.Core core.now)) }
-{
-    match &core.edt {
-        Edt::Filling(_) => None,
-        Edt::Acquiring(acquiring) => acquiring.next(),
-        Edt::Waiting(waiting) => Some(waiting.next()),
-        Edt::Running(_) => None,
-        Edt::Ended(_) => None,
-    }
-}
-
 /// The core of an EDT that is ready with this plan.
 fn ready_part(part: Part, members: Plan) -> Part
     requires { IsWellFormed members.items }
@@ -316,18 +299,5 @@ fn ready_part(part: Part, members: Plan) -> Part
             Part::Core(core)
         }
         other => other,
-    }
-}
-
-fn ready(edt: Edt, members: Plan) -> Edt
-    requires { IsWellFormed members.items }
-    ensures { result ≡ made_ready members.items edt }
-{
-    match edt {
-        Edt::Filling(filling) => Edt::Acquiring(filling.ready(members)),
-        Edt::Acquiring(acquiring) => Edt::Acquiring(acquiring),
-        Edt::Waiting(waiting) => Edt::Waiting(waiting),
-        Edt::Running(running) => Edt::Running(running),
-        Edt::Ended(ended) => Edt::Ended(ended),
     }
 }
