@@ -11,6 +11,8 @@ mod grammar;
 #[cfg(test)]
 mod highlights;
 #[cfg(test)]
+mod inputs;
+#[cfg(test)]
 mod stencil;
 #[cfg(test)]
 mod stops;
