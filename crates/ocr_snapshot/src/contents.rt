@@ -173,14 +173,13 @@ fn words_opened(alloc: Global, args: &[u64], block: Guid) -> Result<Option<Vec<u
 }
 
 /// The words of a block after the first `at` entries of the journal of a run with these arguments;
-/// after all of them where there are fewer. `Ok(None)` comes exactly where these entries make no
-/// block of this number, which is then no object or another one; `NoMemory` where memory is
-/// refused.
+/// after all of them where there are fewer. `Ok(None)` comes exactly where these entries leave no
+/// block under this number, but no object or another one; `NoMemory` where memory is refused.
 ///
 /// A block that is made has zeros, and the argument block the number of the arguments and the
 /// arguments. A store in RW is seen at its entry, the private writes of a hold in EW where the hold
-/// ends (docs/MACHINE.md, "Data blocks"). A destroyed block keeps its words, and takes the writes of
-/// the holds that end later.
+/// ends (docs/MACHINE.md, "Data blocks"). A destroyed block keeps its words, and takes the writes
+/// of the holds that end later.
 pub fn contents_at(
     alloc: Global,
     args: &[u64],
