@@ -5,7 +5,6 @@ ghost use Rattle.ocr_worker_machine.specs.Ocr.{setting_in};
 ghost use Rattle.ocr_program_tree.specs.View.{tree_of};
 ghost use Rattle.ocr_machine_history.specs.History as history;
 ghost use Rattle.ocr_machine_history.specs.History.{history_of};
-ghost use Rattle.ocr_machine_history.specs.Output.{printed, line_of};
 ghost use Rattle.ocr_journal.specs.JournalText as journals;
 ghost use Rattle.ocr_machine_parts.specs.Legal.{IsRun};
 ghost use Rattle.ocr_report.specs.Blocks as made;
@@ -16,14 +15,13 @@ ghost use Rattle.ocr_report.specs.Stale as stales;
 ghost use Rattle.ocr_report.specs.Summary as summaries;
 ghost use Rattle.ocr_run_execution.specs.Output.{asked_if, IsOutput};
 
-use itoa::Buffer;
 use ocr_base::NoMemory;
-use ocr_body_meaning::Call;
 use ocr_journal::journal_text;
-use ocr_machine_history::{Entry, Journal};
+use ocr_machine_history::Journal;
 use ocr_program_tree::Program;
 use ocr_report::{blocks_text, left_text, push_races, refused_text, stale_text, summary_text};
 use ocr_run_command::Reports;
+use ocr_snapshot::lines_of;
 use ocr_worker_machine::Setting;
 use std::alloc::Global;
 
@@ -42,7 +40,7 @@ pub fn output_of(
     ensures { IfOk result (λ text. IsOutput (setting_in setting.now limit)
         (history_of journal.now) reports text.items) }
 {
-    let mut text = prints(alloc, journal.entries())?;
+    let mut text = lines_of(alloc, journal.entries())?;
     summary(alloc, &mut text, journal, reports.summary)?;
     left(alloc, &mut text, journal, reports.left)?;
     stale(alloc, &mut text, journal, reports.stale)?;
@@ -52,29 +50,6 @@ pub fn output_of(
     let program = setting.program.program();
     entries(alloc, &mut text, journal, program, reports.journal)?;
     Ok(text)
-}
-
-fn prints(alloc: Global, entries: &[Entry]) -> Result<Vec<u8>, NoMemory>
-    ensures { IfOk result (λ text. text.items ≡ printed (history_of entries.now)) }
-{
-    let mut out = Vec::new(alloc);
-    for entry in entries {
-        push_line(&mut out, entry)?;
-    }
-    Ok(out)
-}
-
-fn push_line(out: &mut Vec<u8>, entry: &Entry) -> Result<(), NoMemory>
-    ensures { OnOk result (out.new.items ≡ out.old.items ++ line_of entry.now) }
-{
-    if let Entry::Call { call, .. } = entry {
-        if let Call::Print { value } = call {
-            let mut buffer = Buffer::new();
-            out.extend_from_slice(buffer.format(*value).as_bytes())?;
-            out.push(b'\n')?;
-        }
-    }
-    Ok(())
 }
 
 fn summary(
