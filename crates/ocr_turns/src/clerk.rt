@@ -1,5 +1,5 @@
 // A clerk: a seat at the table, with what it keeps.
-ghost use Rattle.std.specs.Prelude.{◌≡◌, ◌<◌, ◌≤◌, ◌+◌, ℕ, Option, Some, None, vec_capacity, length};
+ghost use Rattle.std.specs.Prelude.{◌≡◌, ◌<◌, ◌≤◌, ◌+◌, ℕ, [], Option, Some, None, IfOk, vec_capacity, length};
 ghost use Rattle.std.specs.List.{remove};
 ghost use mathlib.Core.Option.{some};
 ghost use lib.ListN.{get_elem?};
@@ -11,7 +11,9 @@ ghost use Rattle.ocr_turns_rule.specs.Units.{units};
 use crate::log::Log;
 use crate::owed::Owed;
 use atomic_table::Seat;
+use ocr_base::NoMemory;
 use ocr_turns_rule::{Machine, View};
+use std::alloc::Global;
 use std::marker::Model;
 
 /// The parts that a clerk keeps, by place. `None` stands where a part was lifted.
@@ -28,6 +30,8 @@ pub struct Clerk<M: Machine> {
     pub(crate) log: Log<M::Entry>,
     pub(crate) joined: Vec<Log<M::Entry>>,
     pub(crate) parts: Parts<M::Part>,
+    /// The list that the last commit emptied, so that the next entry needs no memory of its own.
+    pub(crate) emptied: Vec<(u64, M::Part)>,
     pub(crate) owed: Owed<M::Message>,
     pub(crate) weight: u64,
     pub(crate) closed: Option<u64>,
@@ -127,6 +131,22 @@ impl<M: Machine> Clerk<M> {
             Some(part) => part,
             None => unreachable!(),
         }
+    }
+
+    /// An empty list with room for so many lifted parts. It is the one that the last commit emptied,
+    /// unless that was handed out since.
+    pub fn parts_list(
+        &mut self,
+        alloc: Global,
+        room: usize,
+    ) -> Result<Vec<(u64, M::Part)>, NoMemory>
+        ensures same { self.new ≡ self.old }
+        ensures list { IfOk result (λ v. (v.items ≡ []) × (room ≤ vec_capacity v)) }
+    {
+        let mut list = std::mem::replace(&mut self.emptied, Vec::new(alloc));
+        list.clear();
+        list.reserve(room)?;
+        Ok(list)
     }
 
     /// Puts a lifted part back at hand.

@@ -79,6 +79,7 @@ impl<M: Machine> Turns<M> {
             log,
             joined: mut logs,
             parts: _,
+            emptied: _,
             owed: _,
             weight: _,
             units: _,

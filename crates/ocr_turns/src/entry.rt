@@ -6,7 +6,7 @@ ghost use Rattle.ocr_turns_rule.specs.Clerks.{HasKeys};
 ghost use Rattle.ocr_turns_rule.specs.Sums.{as_some, replace_all};
 ghost use Rattle.ocr_turns_rule.specs.Contract.{CommitTells, IsOfTable, MayCommit};
 
-use crate::clerk::{Clerk, Parts, swap_part};
+use crate::clerk::{Clerk, Parts, swap_part, take_out};
 use crate::owed::Owed;
 use crate::turns::{COMMIT, ENDED, Turns};
 use atomic_table::Seat;
@@ -77,8 +77,12 @@ impl<M: Machine> Turns<M> {
             clerk.closed = Some(found);
             return Committed::Closed(found);
         }
-        let Change { parts, messages } = change;
-        put_all(&mut clerk.parts, parts);
+        let Change {
+            mut parts,
+            messages,
+        } = change;
+        put_all(&mut clerk.parts, &mut parts);
+        clerk.emptied = parts;
         owe_anew(&mut clerk.owed, delivered, found, messages);
         clerk.weight += weight;
         clerk.log.push_reserved(found, entry);
@@ -111,12 +115,13 @@ impl<M: Machine> Turns<M> {
 }
 
 // Puts each part where its place stands.
-fn put_all<P: Drop>(hand: &mut Parts<P>, parts: Vec<(u64, P)>)
-    requires { HasKeys parts.items hand.old.items }
-    ensures parts { hand.new.items ≡ replace_all (as_some parts.items) hand.old.items }
+fn put_all<P: Drop>(hand: &mut Parts<P>, parts: &mut Vec<(u64, P)>)
+    requires { HasKeys parts.old.items hand.old.items }
+    ensures parts { hand.new.items ≡ replace_all (as_some parts.old.items) hand.old.items }
     ensures room { vec_capacity hand.new ≡ vec_capacity hand.old }
 {
-    for (place, part) in parts {
+    while !parts.is_empty() {
+        let (place, part) = take_out(parts, 0);
         drop(swap_part(hand, place, Some(part)));
     }
 }

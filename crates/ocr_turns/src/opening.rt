@@ -67,6 +67,7 @@ impl<M: Machine> Turns<M> {
                     log,
                     joined: Vec::new(alloc),
                     parts: kept,
+                    emptied: Vec::new(alloc),
                     owed: Owed::new(alloc),
                     weight: 0,
                     closed: None,

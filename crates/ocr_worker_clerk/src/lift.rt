@@ -38,7 +38,7 @@ pub fn lift_parts(
     ensures left { OnOk result (clerk.new.parts ≡ lifted clerk.old.parts) }
     ensures err { OnErr result (clerk.new.parts ≡ clerk.old.parts) }
 {
-    let mut parts = Vec::with_capacity(alloc, places.len() + MADE)?;
+    let mut parts = clerk.parts_list(alloc, places.len() + MADE)?;
     for place in places {
         parts.push_reserved((*place, clerk.lift(*place)));
     }

@@ -41,7 +41,7 @@ invariant_of-root g c =
 pub invariant_of-result : goal.invariant_of-result
 invariant_of-result g c =
     let old = c.root.invariant in let is = c.split_seat-seat.ensures in let v = c.root.inside.seat.me.0 in
-    true_same {me = (fresh_spare v, [])} (sym is.4) (sym c.in_ok-log.ensures.0) (sym (ap (map (λ l. l.items)) c.new.ensures.items)) (sym c.in_ok-parts.ensures.items) (sym c.new-2.ensures) refl refl refl
+    true_same {me = (fresh_spare v, [])} (sym is.4) (sym c.in_ok-log.ensures.0) (sym (ap (map (λ l. l.items)) c.new.ensures.items)) (sym c.in_ok-parts.ensures.items) (sym c.new-3.ensures) refl refl refl
     (record {
       log_is = refl;
       joined_are = refl;
